@@ -1,0 +1,69 @@
+-- A chunk is filled place by place: what it holds, with the valid readings that are left, is all of them. Assumes nothing.
+use Prim.Native.Nat.{ℕ, _+_, _<_, _≤_}
+use mathlib.Core.Path.{_≡_, refl, sym, _∙_}
+use mathlib.Core.Bool.{Bool, true, false}
+use mathlib.Core.List.{List, [], _∷_, _++_, append-assoc, append-nil}
+use native.Mathlib.Numerals.{add-one}
+use native.Mathlib.Nat.{add-zero}
+use native.Mathlib.Omega.{arith}
+use lib.ListN.{length, take, drop, getD, set, drop-of-length-le, length-take, length-set}
+use lib.Seq.{take-suc-set, take-set-le, take-all, take-at, drop-at, length-take-le}
+use lib.Ieee.{Float, nan}
+use mir.Val.{boolByte}
+use Rattle.moment.specs.Trace.{validFrom}
+use Rattle.moment.specs.Chunks.{Filled}
+use Rattle.moment.proofs.Folds.{from-valid, from-missing, from-end}
+
+-- the valid ones of a trace from its place i on
+abbrev pub rest : {A : Type 0} → (ℕ → Bool) → List A → ℕ → List A
+rest valid xs i = validFrom valid i (drop i xs)
+
+-- a reading put at the end of the part of a chunk that is filled
+pushed : {A : Type 0} (chunk : List A) (n : ℕ) (x : A) (ys all : List A) → n < length chunk → take n chunk ++ x ∷ ys ≡ all → take (n + 1) (set chunk n x) ++ ys ≡ all
+pushed chunk n x ys all h e = rw (add-one, take-suc-set chunk n x h, append-assoc) e
+
+pub bit-le : (t : Bool) → boolByte t ≤ 1
+bit-le true = omega arith
+bit-le false = omega arith
+
+-- a chunk being filled from place i on: place j is next, the chunk holds n readings, and these with the rest are all
+abbrev pub Filling : (ℕ → Bool) → List Float → ℕ → List Float → ℕ → ℕ → Type 0
+Filling valid trace i chunk j n =
+    (n ≤ 128) × (i + n ≤ j) × (length chunk ≡ 128) × (take n chunk ++ rest valid trace j ≡ rest valid trace i)
+
+module _ (valid : ℕ → Bool) (trace : List Float) (i : ℕ) (chunk : List Float) (j n : ℕ) (inv : Filling valid trace i chunk j n) where
+  -- a place of either kind: its reading is put past those held, and is held if it is valid
+  pub filling-step : j < length trace → (n ≡ 128 → ⊥) → (t : Bool) → t ≡ valid j → Filling valid trace i (set chunk n (getD trace j nan)) (j + 1) (n + boolByte t)
+  filling-step h f true e =
+      (omega arith, omega arith, simp length-set (inv .2), pushed chunk n _ _ _ (omega arith) (rw (from-valid valid trace nan j j h (sym e)) at (inv .3)))
+  filling-step h f false e =
+      let m = rw (from-missing valid trace nan j j h (sym e)) at (inv .3) in
+      rw add-zero (inv .0, omega arith, simp length-set (inv .2), rw (take-set-le n chunk n _ (omega arith)) m)
+
+  -- the chunk is full
+  pub filled-full : n ≡ 128 → Filled valid trace i j n chunk
+  filled-full f =
+      let len : length (take n chunk) ≡ 128 = simp length-take (omega arith) in
+      record {
+        within = inv .0;
+        taken = rw (← inv .3) (sym (take-at (take n chunk) _ 128 len));
+        left = rw (← inv .3) (sym (drop-at (take n chunk) _ 128 len));
+        further = λ g. omega arith;
+      }
+
+  -- no place is left
+  pub filled-end : length trace ≤ j → Filled valid trace i j n chunk
+  filled-end g =
+      let len : length (take n chunk) ≤ 128 = simp length-take (omega arith) in
+      let none = from-end valid trace j j g in
+      let all : take n chunk ≡ rest valid trace i = sym (append-nil (take n chunk)) ∙ (rw none at (inv .3)) in
+      record {
+        within = inv .0;
+        taken = rw (← all) (sym (take-all 128 (take n chunk) len));
+        left = rw (none, ← all) (sym (drop-of-length-le (take n chunk) len));
+        further = λ k. omega arith;
+      }
+
+-- the part of a chunk that is filled, where a callee kept the chunk as long as it was
+pub part-long : {k : ℕ} (n : ℕ) (chunk : List Float) → length chunk ≡ k → k ≡ 128 → n ≤ 128 → n ≡ length (take n chunk)
+part-long n chunk e l h = let m : n ≤ length chunk = omega arith in sym (length-take-le n chunk m)

@@ -1,0 +1,15 @@
+-- By the condition. Assumes nothing.
+use Rattle.moment.specs.Refusals.{refusal}
+use Rattle.moment.proofs.trace.refuse.Statement.{statement}
+use Rattle.moment.proofs.trace.refuse.Tie as tie
+
+returns : tie.Need-returns
+unfolding refusal
+returns c = rw (c .if1 .taken)
+
+returns-2 : tie.Need-returns-2
+unfolding refusal
+returns-2 c = rw (c .if1 .left)
+
+pub refuse-spec : {M : Type 1} → statement M
+refuse-spec = tie.close (tie.spec returns returns-2)

@@ -1,0 +1,28 @@
+-- Document 01, "A plan call, from bytes to figures": which places of a trace are valid, and the readings there. Assumes nothing.
+use Prim.Native.Nat.{ℕ, suc, _/_, _%_, _^_}
+use mathlib.Core.Bool.{Bool, true, false, cond}
+use mathlib.Core.List.{List, [], _∷_, zip}
+use lib.Dec.{eqb}
+use lib.ListN.{getD}
+use lib.Ieee.{Float}
+
+-- "A validity map, where one is lent, has one bit a place, lowest bit first, 1 for valid .. Without a map every place is valid"
+unfoldable pub validAt : Bool → List ℕ → ℕ → Bool
+validAt has map i = cond has (eqb (getD map (i / 8) 0 / 2 ^ (i % 8) % 2) 1) true
+
+-- "A pair is taken where both places are valid."
+unfoldable pub bothAt : Bool → List ℕ → Bool → List ℕ → ℕ → Bool
+bothAt has map has' map' i = cond (validAt has map i) (validAt has' map' i) false
+
+-- the valid ones, in order, of entries that stand from place i on
+unfoldable pub validFrom : {A : Type 0} → (ℕ → Bool) → ℕ → List A → List A
+validFrom valid i [] = []
+validFrom valid i (x ∷ xs) = cond (valid i) (x ∷ validFrom valid (suc i) xs) (validFrom valid (suc i) xs)
+
+-- the valid readings of a trace
+abbrev pub validReadings : Bool → List ℕ → List Float → List Float
+validReadings has map trace = validFrom (validAt has map) 0 trace
+
+-- the pairs of two traces that are valid in both
+abbrev pub validPairs : Bool → List ℕ → List Float → Bool → List ℕ → List Float → List (Float × Float)
+validPairs has map xs has' map' ys = validFrom (bothAt has map has' map') 0 (zip xs ys)

@@ -1,0 +1,57 @@
+// The sums that a state's `new` takes: plain additions, left to right from +0.0.
+ghost use mathlib.Core.Path.{_≡_};
+ghost use Prim.Native.Nat.{_+_, _^_, _<_};
+ghost use lib.ListN.{length};
+ghost use Rattle.moment.specs.Sums.{sumOf, itself, square};
+ghost use Rattle.moment.specs.Trace.{validAt, validFrom};
+use crate::trace;
+
+pub fn sum(x: &[f64]) -> f64
+    ensures { λ r. ⌜ r ≡ sumOf itself (now (x .entry)) ⌝ }
+{
+    let mut t = 0.0;
+    let mut i = 0;
+    while i < x.len() {
+        t = t + x[i];
+        i += 1;
+    }
+    t
+}
+
+pub fn squares(x: &[f64], mean: f64) -> f64
+    ensures { λ r. ⌜ r ≡ sumOf (square mean) (now (x .entry)) ⌝ }
+{
+    let mut t = 0.0;
+    let mut i = 0;
+    while i < x.len() {
+        let d = x[i] - mean;
+        t = t + d * d;
+        i += 1;
+    }
+    t
+}
+
+// How many readings there are, and their sum.
+pub struct Total {
+    pub count: usize,
+    pub sum: f64,
+}
+
+// The total of the valid readings of a part that starts at place `start` of its trace.
+pub fn valid_total(part: &[f64], has_map: bool, map: &[u8], start: usize) -> Total
+    requires { ⌜ start + length (now part) < 2 ^ 64 ⌝ }
+    ensures count { λ r. ⌜ r .count ≡ length (validFrom (validAt «has_map» (now (map .entry))) start (now (part .entry))) ⌝ }
+    ensures sum { λ r. ⌜ r .sum ≡ sumOf itself (validFrom (validAt «has_map» (now (map .entry))) start (now (part .entry))) ⌝ }
+{
+    let mut count = 0;
+    let mut sum = 0.0;
+    let mut i = 0;
+    while i < part.len() {
+        if trace::valid(has_map, map, start + i) {
+            count += 1;
+            sum = sum + part[i];
+        }
+        i += 1;
+    }
+    Total { count, sum }
+}
