@@ -1,6 +1,8 @@
--- Laws by subject; the crates above cite Weights and Variance.
+-- Laws by subject. The crates above cite Weights and Figures.
 pub mod Folds
 pub mod Pairs
 pub mod Filling
 pub mod Chunked
 pub mod Answers
+pub mod Weights
+pub mod Figures

@@ -1,0 +1,86 @@
+-- Of a state whose weight is the float of a count: where each figure is missing, in terms of the count; and a variance is
+-- missing, NaN or at least zero. Assumes nothing.
+use Prim.Native.Nat.{ℕ, _^_, _≤_, _<_}
+use mathlib.Core.Path.{_≡_, refl, ap, _∙_}
+use mathlib.Core.Bool.{Bool, true, false, cond, _||_}
+use native.Mathlib.Omega.{arith}
+use lib.Dec.{T, eqb, leb}
+use lib.Ieee.{Float, isNan, eq, le, ofBits, ofInt}
+use Rattle.float.specs.Operators.{_⊖_, _⊗_, _⊘_, zero64, two64, three64, count}
+use Rattle.float.proofs.Counts.{count-zero}
+use Rattle.float.proofs.Signs.{nan-or-at-least-zero}
+use Rattle.moment.specs.declared.VarState.{VarState}
+use Rattle.moment.specs.declared.CovState.{CovState}
+use Rattle.moment.specs.declared.SkewState.{SkewState}
+use Rattle.moment.specs.declared.KurtosisState.{KurtosisState}
+use Rattle.moment.specs.declared.Figure.{Figure}
+use Rattle.moment.specs.declared.Figure.the-variants.{Missing, Present}
+use Rattle.moment.specs.Var.{notNegative, varFinalize}
+use Rattle.moment.specs.Cov.{covFinalize}
+use Rattle.moment.specs.Skew.{skewBiased, skewCorrection, skewFinalize}
+use Rattle.moment.specs.Kurtosis.{kurtosisBiased, kurtosisUnbiased, lessThree, kurtosisFinalize}
+use Rattle.moment.proofs.Weights.{at-most-ddof}
+
+-- ---- missing exactly where the count says so
+two-is : two64 ≡ count 2
+unfolding ofBits ofInt
+two-is = refl
+
+three-is : three64 ≡ count 3
+unfolding ofBits ofInt
+three-is = refl
+
+module _ (n : ℕ) (h : n ≤ 2 ^ 53) where
+  none : (w : Float) → w ≡ count n → eq w zero64 ≡ eqb n 0
+  none w e = ap (λ (w : Float). eq w zero64) e ∙ count-zero n h
+
+  at-most : (w m : Float) (k : ℕ) → k < 256 → m ≡ count k → w ≡ count n → le w m ≡ leb n k
+  at-most w m k l f e = ap (λ (m : Float). le w m) f ∙ at-most-ddof w n k h l e
+
+  -- variance, and covariance, where the count is at most ddof
+  pub var-missing : (s : VarState) (ddof : ℕ) → ddof < 256 → s .weight ≡ count n
+      → varFinalize s ddof ≡ cond (leb n ddof) Missing (Present (notNegative (s .dp ⊘ (s .weight ⊖ count ddof))))
+  unfolding varFinalize
+  var-missing s ddof k e = rw (at-most-ddof (s .weight) n ddof h k e)
+
+  pub cov-missing : (s : CovState) (ddof : ℕ) → ddof < 256 → s .weight ≡ count n
+      → covFinalize s ddof ≡ cond (leb n ddof) Missing (Present (s .«dp_xy» ⊘ (s .weight ⊖ count ddof)))
+  unfolding covFinalize
+  cov-missing s ddof k e = rw (at-most-ddof (s .weight) n ddof h k e)
+
+  -- biased skewness where the count is 0, unbiased where it is at most 2
+  pub skew-biased-missing : (s : SkewState) → s .weight ≡ count n → skewFinalize s true ≡ cond (eqb n 0) Missing (Present (skewBiased s))
+  unfolding skewFinalize
+  skew-biased-missing s e = rw (none (s .weight) e)
+
+  pub skew-unbiased-missing : (s : SkewState) → s .weight ≡ count n
+      → skewFinalize s false ≡ cond (leb n 2) Missing (Present (skewCorrection (s .weight) ⊗ skewBiased s))
+  unfolding skewFinalize
+  skew-unbiased-missing s e = rw (at-most (s .weight) two64 2 (omega arith) two-is e)
+
+  -- biased kurtosis where the count is 0, unbiased where it is at most 3
+  pub kurtosis-biased-missing : (s : KurtosisState) (fisher : Bool) → s .weight ≡ count n
+      → kurtosisFinalize s fisher true ≡ cond (eqb n 0) Missing (Present (lessThree fisher (kurtosisBiased s)))
+  unfolding kurtosisFinalize
+  kurtosis-biased-missing s fisher e = rw (none (s .weight) e)
+
+  pub kurtosis-unbiased-missing : (s : KurtosisState) (fisher : Bool) → s .weight ≡ count n
+      → kurtosisFinalize s fisher false
+      ≡ cond (leb n 3) Missing (Present (lessThree fisher (kurtosisUnbiased (s .weight) (kurtosisBiased s))))
+  unfolding kurtosisFinalize
+  kurtosis-unbiased-missing s fisher e = rw (at-most (s .weight) three64 3 (omega arith) three-is e)
+
+-- ---- a variance
+-- missing, NaN or at least zero
+unfoldable pub notBelowZero : Figure → Bool
+notBelowZero Missing = true
+notBelowZero (Present v) = isNan v || le zero64 v
+
+-- of any state, whatever its floats
+pub var-not-below-zero : (s : VarState) (ddof : ℕ) → T (notBelowZero (varFinalize s ddof))
+unfolding varFinalize notBelowZero
+var-not-below-zero s ddof = by (le (s .weight) (count ddof)) (s .dp ⊘ (s .weight ⊖ count ddof))
+  where
+    by : (t : Bool) (v : Float) → T (notBelowZero (cond t Missing (Present (notNegative v))))
+    by true v = tt
+    by false v = nan-or-at-least-zero v

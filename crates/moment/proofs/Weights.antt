@@ -1,0 +1,131 @@
+-- A state's weight counts: after n inserts it is the float of n, and the weight of two states combined is the float of the sum
+-- of their counts, up to 2 ^ 53. One law over the state; each of the five states cites it. Assumes nothing.
+use Prim.Native.Nat.{ℕ, suc, _+_, _^_, _≤_, _<_}
+use mathlib.Core.Path.{_≡_, refl, sym, ap, _∙_, subst}
+use mathlib.Core.Bool.{Bool, true, false, cond}
+use mathlib.Core.List.{List, [], _∷_, foldl}
+use native.Mathlib.Nat.{add-zero}
+use native.Mathlib.Omega.{arith}
+use lib.Dec.{T, eqb, leb, eqb→eq}
+use lib.ListN.{length}
+use lib.Ieee.{Float, eq, le}
+use Rattle.float.specs.Operators.{_⊕_, zero64, one64, count}
+use Rattle.float.proofs.Counts.{count-one, count-add, count-zero, count-le}
+use Rattle.moment.specs.declared.VarState.{VarState}
+use Rattle.moment.specs.declared.CovState.{CovState}
+use Rattle.moment.specs.declared.PearsonState.{PearsonState}
+use Rattle.moment.specs.declared.SkewState.{SkewState}
+use Rattle.moment.specs.declared.KurtosisState.{KurtosisState}
+use Rattle.moment.specs.Var.{varEmpty, varClear, varInsert, varMerge, varCombine}
+use Rattle.moment.specs.Cov.{covInsert, covMerge, covCombine}
+use Rattle.moment.specs.Pearson.{pearsonInsert, pearsonMerge, pearsonCombine}
+use Rattle.moment.specs.Skew.{skewEmpty, skewClear, skewInsert, skewMerge, skewCombine}
+use Rattle.moment.specs.Kurtosis.{kurtosisEmpty, kurtosisClear, kurtosisInsert, kurtosisMerge, kurtosisCombine}
+
+-- ---- the law
+module _ {S A : Type 0} (weight : S → Float) (insert : S → A → S) (raises : (s : S) (x : A) → weight (insert s x) ≡ weight s ⊕ one64) where
+  -- n entries put into a state of weight a give one of weight a + n
+  pub inserts-count : (xs : List A) (s : S) (a : ℕ) → weight s ≡ count a → a + length xs ≤ 2 ^ 53 → weight (foldl insert s xs) ≡ count (a + length xs)
+  inserts-count [] s a e h = e ∙ ap count (sym (add-zero a))
+  inserts-count (x ∷ xs) s a e h =
+      inserts-count xs (insert s x) (a + 1) (raises s x ∙ ap (λ (w : Float). w ⊕ one64) e ∙ count-one a (omega arith)) (omega arith)
+      ∙ ap count (let k : a + 1 + length xs ≡ a + suc (length xs) = omega arith in k)
+
+-- what `combine` answers: the first where the other's weight is zero, the other where its own is zero, else the two merged
+module _ {S : Type 0} (weight : S → Float) (s o m : S) (a b : ℕ) (h : a ≤ 2 ^ 53) (k : b ≤ 2 ^ 53) (p : weight s ≡ count a) (q : weight o ≡ count b) (adds : weight m ≡ weight s ⊕ weight o) where
+  zero-test : (v : S) (n : ℕ) → n ≤ 2 ^ 53 → weight v ≡ count n → eq (weight v) zero64 ≡ eqb n 0
+  zero-test v n l e = ap (λ (w : Float). eq w zero64) e ∙ count-zero n l
+
+  merged : weight m ≡ count (a + b)
+  merged = adds ∙ ap (λ (w : Float). w ⊕ weight o) p ∙ ap (λ (w : Float). count a ⊕ w) q ∙ count-add a b h k
+
+  none-other : T (eqb b 0) → a ≡ a + b
+  none-other t = let z : b ≡ 0 = eqb→eq b 0 t in omega arith
+
+  none-own : T (eqb a 0) → b ≡ a + b
+  none-own t = let z : a ≡ 0 = eqb→eq a 0 t in omega arith
+
+  other-tested : (t : Bool) (n : S) → t ≡ eqb b 0 → weight n ≡ count (a + b) → weight (cond t s n) ≡ count (a + b)
+  other-tested true n e f = p ∙ ap count (none-other (subst T e tt))
+  other-tested false n e f = f
+
+  own-tested : (t : Bool) → t ≡ eqb a 0 → weight (cond t o m) ≡ count (a + b)
+  own-tested true e = q ∙ ap count (none-own (subst T e tt))
+  own-tested false e = merged
+
+  -- variance's combine, which does not test its own weight
+  pub merged-count : weight (cond (eq (weight o) zero64) s m) ≡ count (a + b)
+  merged-count = other-tested _ m (zero-test o b k q) merged
+
+  -- the other states' combine
+  pub combined-count : weight (cond (eq (weight o) zero64) s (cond (eq (weight s) zero64) o m)) ≡ count (a + b)
+  combined-count = other-tested _ _ (zero-test o b k q) (own-tested _ (zero-test s a h p))
+
+-- a weight is at most ddof exactly where the count is
+pub at-most-ddof : (w : Float) (n ddof : ℕ) → n ≤ 2 ^ 53 → ddof < 256 → w ≡ count n → le w (count ddof) ≡ leb n ddof
+at-most-ddof w n ddof h k e = ap (λ (w : Float). le w (count ddof)) e ∙ count-le n ddof h (omega arith)
+
+-- clearing keeps the weight
+cleared : {S : Type 0} (weight : S → Float) (t : Bool) (s z : S) → weight z ≡ weight s → weight (cond t z s) ≡ weight s
+cleared weight true s z e = e
+cleared weight false s z e = refl
+
+-- ---- variance
+abbrev varWeight : VarState → Float
+varWeight s = s .weight
+
+var-cleared : (s : VarState) → varClear s .weight ≡ s .weight
+unfolding varClear
+var-cleared s = cleared varWeight (eq (s .weight) zero64) s _ refl
+
+pub var-inserts-count : (xs : List Float) (s : VarState) (a : ℕ) → s .weight ≡ count a → a + length xs ≤ 2 ^ 53 → foldl varInsert s xs .weight ≡ count (a + length xs)
+var-inserts-count = inserts-count varWeight varInsert (λ s x. var-cleared _)
+
+pub var-combine-count : (s o : VarState) (a b : ℕ) → a ≤ 2 ^ 53 → b ≤ 2 ^ 53 → s .weight ≡ count a → o .weight ≡ count b → varCombine s o .weight ≡ count (a + b)
+unfolding varCombine
+var-combine-count s o a b h k p q = merged-count varWeight s o (varMerge s o) a b h k p q (var-cleared _)
+
+-- ---- skewness
+abbrev skewWeight : SkewState → Float
+skewWeight s = s .weight
+
+skew-cleared : (s : SkewState) → skewClear s .weight ≡ s .weight
+unfolding skewClear
+skew-cleared s = cleared skewWeight (eq (s .weight) zero64) s _ refl
+
+pub skew-inserts-count : (xs : List Float) (s : SkewState) (a : ℕ) → s .weight ≡ count a → a + length xs ≤ 2 ^ 53 → foldl skewInsert s xs .weight ≡ count (a + length xs)
+skew-inserts-count = inserts-count skewWeight skewInsert (λ s x. skew-cleared _)
+
+pub skew-combine-count : (s o : SkewState) (a b : ℕ) → a ≤ 2 ^ 53 → b ≤ 2 ^ 53 → s .weight ≡ count a → o .weight ≡ count b → skewCombine s o .weight ≡ count (a + b)
+unfolding skewCombine
+skew-combine-count s o a b h k p q = combined-count skewWeight s o (skewMerge s o) a b h k p q (skew-cleared _)
+
+-- ---- kurtosis
+abbrev kurtosisWeight : KurtosisState → Float
+kurtosisWeight s = s .weight
+
+kurtosis-cleared : (s : KurtosisState) → kurtosisClear s .weight ≡ s .weight
+unfolding kurtosisClear
+kurtosis-cleared s = cleared kurtosisWeight (eq (s .weight) zero64) s _ refl
+
+pub kurtosis-inserts-count : (xs : List Float) (s : KurtosisState) (a : ℕ) → s .weight ≡ count a → a + length xs ≤ 2 ^ 53 → foldl kurtosisInsert s xs .weight ≡ count (a + length xs)
+kurtosis-inserts-count = inserts-count kurtosisWeight kurtosisInsert (λ s x. kurtosis-cleared _)
+
+pub kurtosis-combine-count : (s o : KurtosisState) (a b : ℕ) → a ≤ 2 ^ 53 → b ≤ 2 ^ 53 → s .weight ≡ count a → o .weight ≡ count b → kurtosisCombine s o .weight ≡ count (a + b)
+unfolding kurtosisCombine
+kurtosis-combine-count s o a b h k p q = combined-count kurtosisWeight s o (kurtosisMerge s o) a b h k p q (kurtosis-cleared _)
+
+-- ---- covariance and correlation
+pub cov-inserts-count : (ps : List (Float × Float)) (s : CovState) (a : ℕ) → s .weight ≡ count a → a + length ps ≤ 2 ^ 53 → foldl (λ s p. covInsert s (p .0) (p .1)) s ps .weight ≡ count (a + length ps)
+cov-inserts-count = inserts-count (λ s. s .weight) (λ s p. covInsert s (p .0) (p .1)) (λ s p. refl)
+
+pub cov-combine-count : (s o : CovState) (a b : ℕ) → a ≤ 2 ^ 53 → b ≤ 2 ^ 53 → s .weight ≡ count a → o .weight ≡ count b → covCombine s o .weight ≡ count (a + b)
+unfolding covCombine
+cov-combine-count s o a b h k p q = combined-count (λ s. s .weight) s o (covMerge s o) a b h k p q refl
+
+pub pearson-inserts-count : (ps : List (Float × Float)) (s : PearsonState) (a : ℕ) → s .weight ≡ count a → a + length ps ≤ 2 ^ 53 → foldl (λ s p. pearsonInsert s (p .0) (p .1)) s ps .weight ≡ count (a + length ps)
+pearson-inserts-count = inserts-count (λ s. s .weight) (λ s p. pearsonInsert s (p .0) (p .1)) (λ s p. refl)
+
+pub pearson-combine-count : (s o : PearsonState) (a b : ℕ) → a ≤ 2 ^ 53 → b ≤ 2 ^ 53 → s .weight ≡ count a → o .weight ≡ count b → pearsonCombine s o .weight ≡ count (a + b)
+unfolding pearsonCombine
+pearson-combine-count s o a b h k p q = combined-count (λ s. s .weight) s o (pearsonMerge s o) a b h k p q refl
