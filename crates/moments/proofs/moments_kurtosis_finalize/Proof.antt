@@ -1,0 +1,16 @@
+-- The figure is written as it is. Assumes nothing.
+use borrow.Author.Needs.{needs}
+use Rattle.moments.proofs.moments_kurtosis_finalize.Statement.{statement}
+use Rattle.moments.proofs.moments_kurtosis_finalize.Tie as tie
+
+finalize-requires : tie.Need-finalize-requires
+finalize-requires c κs = search needs
+
+write-requires : tie.Need-write-requires
+write-requires c κs = search needs
+
+returns : tie.Need-returns
+returns c = rw (← c .before .before .finalize .ensures) (c .write .ensures)
+
+pub moments-kurtosis-finalize-spec : {M : Type 1} → statement M
+moments-kurtosis-finalize-spec = tie.close (tie.spec finalize-requires write-requires returns)

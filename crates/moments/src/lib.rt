@@ -1,0 +1,294 @@
+// The library's face to other languages: each entry of docs/ABI.md, with the whole contract of what stands behind it. Nothing
+// is required of a caller. A figure that is NaN has the bits 7FF8000000000000; a member of a state may be any NaN.
+ghost use mathlib.Core.Path.{_≡_};
+ghost use Rattle.root.specs.Root.{root as rootOf};
+ghost use Rattle.moment.specs.Var.{varInsert, varCombine, varFinalize};
+ghost use Rattle.moment.specs.Cov.{covInsert, covCombine, covFinalize};
+ghost use Rattle.moment.specs.Pearson.{pearsonInsert, pearsonCombine, pearsonFinalize};
+ghost use Rattle.moment.specs.Skew.{skewInsert, skewCombine, skewFinalize};
+ghost use Rattle.moment.specs.Kurtosis.{kurtosisInsert, kurtosisCombine, kurtosisFinalize};
+ghost use Rattle.moment.specs.Arrays.{varAnswer, varNumber, varMembers, covAnswer, covNumber, covMembers, pearsonAnswer, pearsonNumber, pearsonMembers, skewAnswer, skewRange, skewNumber, skewMembers, kurtosisAnswer, kurtosisRange, kurtosisNumber, kurtosisMembers};
+ghost use Rattle.moments.specs.Handed.{Handed, Written};
+use moment::CovAnswer;
+use moment::CovState;
+use moment::Figure;
+use moment::KurtosisAnswer;
+use moment::KurtosisState;
+use moment::PearsonAnswer;
+use moment::PearsonState;
+use moment::SkewAnswer;
+use moment::SkewState;
+use moment::VarAnswer;
+use moment::VarState;
+
+// Whole arrays and ranges: 0 and the state's members, or a refusal's number and the state as it was.
+#[no_mangle]
+pub extern "C" fn moments_var(trace: &[f64], has_map: bool, map: &[u8], state: &mut [f64; 3]) -> u32
+    ensures { λ r. ⌜ Handed varNumber varMembers (varAnswer (now (trace .entry)) «has_map» (now (map .entry))) (now (state .entry)) r (now (state .exit)) ⌝ }
+{
+    let answer = moment::var(trace, has_map, map);
+    match answer {
+        VarAnswer::State(s) => {
+            *state = [s.weight, s.mean, s.dp];
+            0
+        }
+        VarAnswer::Refused(number) => number,
+    }
+}
+
+#[no_mangle]
+pub extern "C" fn moments_skew(
+    trace: &[f64],
+    has_map: bool,
+    map: &[u8],
+    state: &mut [f64; 4],
+) -> u32
+    ensures { λ r. ⌜ Handed skewNumber skewMembers (skewAnswer (now (trace .entry)) «has_map» (now (map .entry))) (now (state .entry)) r (now (state .exit)) ⌝ }
+{
+    let answer = moment::skew(trace, has_map, map);
+    match answer {
+        SkewAnswer::State(s) => {
+            *state = [s.weight, s.mean, s.m2, s.m3];
+            0
+        }
+        SkewAnswer::Refused(number) => number,
+    }
+}
+
+#[no_mangle]
+pub extern "C" fn moments_kurtosis(
+    trace: &[f64],
+    has_map: bool,
+    map: &[u8],
+    state: &mut [f64; 5],
+) -> u32
+    ensures { λ r. ⌜ Handed kurtosisNumber kurtosisMembers (kurtosisAnswer (now (trace .entry)) «has_map» (now (map .entry))) (now (state .entry)) r (now (state .exit)) ⌝ }
+{
+    let answer = moment::kurtosis(trace, has_map, map);
+    match answer {
+        KurtosisAnswer::State(s) => {
+            *state = [s.weight, s.mean, s.m2, s.m3, s.m4];
+            0
+        }
+        KurtosisAnswer::Refused(number) => number,
+    }
+}
+
+#[no_mangle]
+pub extern "C" fn moments_cov(
+    x: &[f64],
+    x_has_map: bool,
+    x_map: &[u8],
+    y: &[f64],
+    y_has_map: bool,
+    y_map: &[u8],
+    state: &mut [f64; 4],
+) -> u32
+    ensures { λ r. ⌜ Handed covNumber covMembers (covAnswer (now (x .entry)) «x_has_map» (now («x_map» .entry)) (now (y .entry)) «y_has_map» (now («y_map» .entry))) (now (state .entry)) r (now (state .exit)) ⌝ }
+{
+    let answer = moment::cov(x, x_has_map, x_map, y, y_has_map, y_map);
+    match answer {
+        CovAnswer::State(s) => {
+            *state = [s.weight, s.mean_x, s.mean_y, s.dp_xy];
+            0
+        }
+        CovAnswer::Refused(number) => number,
+    }
+}
+
+#[no_mangle]
+pub extern "C" fn moments_pearson_corr(
+    x: &[f64],
+    x_has_map: bool,
+    x_map: &[u8],
+    y: &[f64],
+    y_has_map: bool,
+    y_map: &[u8],
+    state: &mut [f64; 6],
+) -> u32
+    ensures { λ r. ⌜ Handed pearsonNumber pearsonMembers (pearsonAnswer (now (x .entry)) «x_has_map» (now («x_map» .entry)) (now (y .entry)) «y_has_map» (now («y_map» .entry))) (now (state .entry)) r (now (state .exit)) ⌝ }
+{
+    let answer = moment::pearson_corr(x, x_has_map, x_map, y, y_has_map, y_map);
+    match answer {
+        PearsonAnswer::State(s) => {
+            *state = [s.weight, s.mean_x, s.mean_y, s.dp_xx, s.dp_xy, s.dp_yy];
+            0
+        }
+        PearsonAnswer::Refused(number) => number,
+    }
+}
+
+#[no_mangle]
+pub extern "C" fn moments_skew_range(
+    trace: &[f64],
+    has_map: bool,
+    map: &[u8],
+    start: usize,
+    length: usize,
+    state: &mut [f64; 4],
+) -> u32
+    ensures { λ r. ⌜ Handed skewNumber skewMembers (skewRange (now (trace .entry)) «has_map» (now (map .entry)) start length) (now (state .entry)) r (now (state .exit)) ⌝ }
+{
+    let answer = SkewState::from_array(trace, has_map, map, start, length);
+    match answer {
+        SkewAnswer::State(s) => {
+            *state = [s.weight, s.mean, s.m2, s.m3];
+            0
+        }
+        SkewAnswer::Refused(number) => number,
+    }
+}
+
+#[no_mangle]
+pub extern "C" fn moments_kurtosis_range(
+    trace: &[f64],
+    has_map: bool,
+    map: &[u8],
+    start: usize,
+    length: usize,
+    state: &mut [f64; 5],
+) -> u32
+    ensures { λ r. ⌜ Handed kurtosisNumber kurtosisMembers (kurtosisRange (now (trace .entry)) «has_map» (now (map .entry)) start length) (now (state .entry)) r (now (state .exit)) ⌝ }
+{
+    let answer = KurtosisState::from_array(trace, has_map, map, start, length);
+    match answer {
+        KurtosisAnswer::State(s) => {
+            *state = [s.weight, s.mean, s.m2, s.m3, s.m4];
+            0
+        }
+        KurtosisAnswer::Refused(number) => number,
+    }
+}
+
+// States.
+#[no_mangle]
+pub extern "C" fn moments_var_insert_one(state: VarState, x: f64) -> VarState
+    ensures { λ r. ⌜ r ≡ varInsert state x ⌝ }
+{
+    state.insert_one(x)
+}
+
+#[no_mangle]
+pub extern "C" fn moments_skew_insert_one(state: SkewState, x: f64) -> SkewState
+    ensures { λ r. ⌜ r ≡ skewInsert state x ⌝ }
+{
+    state.insert_one(x)
+}
+
+#[no_mangle]
+pub extern "C" fn moments_kurtosis_insert_one(state: KurtosisState, x: f64) -> KurtosisState
+    ensures { λ r. ⌜ r ≡ kurtosisInsert state x ⌝ }
+{
+    state.insert_one(x)
+}
+
+#[no_mangle]
+pub extern "C" fn moments_cov_insert_one(state: CovState, x: f64, y: f64) -> CovState
+    ensures { λ r. ⌜ r ≡ covInsert state x y ⌝ }
+{
+    state.insert_one(x, y)
+}
+
+#[no_mangle]
+pub extern "C" fn moments_pearson_insert_one(state: PearsonState, x: f64, y: f64) -> PearsonState
+    ensures { λ r. ⌜ r ≡ pearsonInsert state x y ⌝ }
+{
+    state.insert_one(x, y)
+}
+
+#[no_mangle]
+pub extern "C" fn moments_var_combine(state: VarState, other: VarState) -> VarState
+    ensures { λ r. ⌜ r ≡ varCombine state other ⌝ }
+{
+    state.combine(other)
+}
+
+#[no_mangle]
+pub extern "C" fn moments_skew_combine(state: SkewState, other: SkewState) -> SkewState
+    ensures { λ r. ⌜ r ≡ skewCombine state other ⌝ }
+{
+    state.combine(other)
+}
+
+#[no_mangle]
+pub extern "C" fn moments_kurtosis_combine(
+    state: KurtosisState,
+    other: KurtosisState,
+) -> KurtosisState
+    ensures { λ r. ⌜ r ≡ kurtosisCombine state other ⌝ }
+{
+    state.combine(other)
+}
+
+#[no_mangle]
+pub extern "C" fn moments_cov_combine(state: CovState, other: CovState) -> CovState
+    ensures { λ r. ⌜ r ≡ covCombine state other ⌝ }
+{
+    state.combine(other)
+}
+
+#[no_mangle]
+pub extern "C" fn moments_pearson_combine(state: PearsonState, other: PearsonState) -> PearsonState
+    ensures { λ r. ⌜ r ≡ pearsonCombine state other ⌝ }
+{
+    state.combine(other)
+}
+
+// Writes a figure's double and answers its byte.
+fn write(answer: Figure, figure: &mut f64) -> u8
+    ensures { λ r. ⌜ Written answer r (now (figure .exit)) ⌝ }
+{
+    let Figure::Present(v) = answer else {
+        *figure = 0.0;
+        return 0;
+    };
+    *figure = float::canonical(v);
+    1
+}
+
+#[no_mangle]
+pub extern "C" fn moments_var_finalize(state: VarState, ddof: u8, figure: &mut f64) -> u8
+    ensures { λ r. ⌜ Written (varFinalize state ddof) r (now (figure .exit)) ⌝ }
+{
+    write(state.finalize(ddof), figure)
+}
+
+#[no_mangle]
+pub extern "C" fn moments_cov_finalize(state: CovState, ddof: u8, figure: &mut f64) -> u8
+    ensures { λ r. ⌜ Written (covFinalize state ddof) r (now (figure .exit)) ⌝ }
+{
+    write(state.finalize(ddof), figure)
+}
+
+#[no_mangle]
+pub extern "C" fn moments_skew_finalize(state: SkewState, bias: bool, figure: &mut f64) -> u8
+    ensures { λ r. ⌜ Written (skewFinalize state bias) r (now (figure .exit)) ⌝ }
+{
+    write(state.finalize(bias), figure)
+}
+
+#[no_mangle]
+pub extern "C" fn moments_kurtosis_finalize(
+    state: KurtosisState,
+    fisher: bool,
+    bias: bool,
+    figure: &mut f64,
+) -> u8
+    ensures { λ r. ⌜ Written (kurtosisFinalize state fisher bias) r (now (figure .exit)) ⌝ }
+{
+    write(state.finalize(fisher, bias), figure)
+}
+
+#[no_mangle]
+pub extern "C" fn moments_pearson_finalize(state: PearsonState) -> f64
+    ensures { λ r. ⌜ r ≡ pearsonFinalize state ⌝ }
+{
+    float::canonical(state.finalize())
+}
+
+#[no_mangle]
+pub extern "C" fn moments_root(x: f64) -> f64
+    ensures { λ r. ⌜ r ≡ rootOf x ⌝ }
+{
+    float::canonical(root::root(x))
+}
