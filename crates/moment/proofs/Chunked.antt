@@ -7,7 +7,7 @@ use mathlib.Core.List.{List, [], _∷_, zip, zipWith}
 use native.Mathlib.Omega.{arith}
 use lib.ListN.{length, take, drop, length-drop}
 use lib.Ieee.{Float}
-use Rattle.moment.specs.Trace.{validFrom}
+use Rattle.trace.specs.Trace.{validFrom}
 use Rattle.moment.specs.Chunks.{chunks, chunksOf, foldChunks, inChunks, Filled}
 use Rattle.moment.proofs.Folds.{from-end}
 use Rattle.moment.proofs.Filling.{rest}

@@ -10,7 +10,7 @@ use lib.ListN.{length, take, drop, getD, set, drop-of-length-le, length-take, le
 use lib.Seq.{take-suc-set, take-set-le, take-all, take-at, drop-at, length-take-le}
 use lib.Ieee.{Float, nan}
 use mir.Val.{boolByte}
-use Rattle.moment.specs.Trace.{validFrom}
+use Rattle.trace.specs.Trace.{validFrom}
 use Rattle.moment.specs.Chunks.{Filled}
 use Rattle.moment.proofs.Folds.{from-valid, from-missing, from-end}
 

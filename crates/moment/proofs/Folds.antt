@@ -10,7 +10,7 @@ use native.Mathlib.Omega.{arith}
 use lib.ListN.{length, drop, getD, drop-of-length-le}
 use lib.Seq.{drop-cons}
 use lib.Ieee.{Float, nan}
-use Rattle.moment.specs.Trace.{validAt, validFrom}
+use Rattle.trace.specs.Trace.{validAt, validFrom}
 
 -- ---- every one of a list
 module _ {A B : Type 0} (f : B → A → B) (b : B) (xs : List A) where

@@ -9,7 +9,7 @@ use lib.ListN.{length, take, drop, getD}
 use lib.Ieee.{Float, nan}
 use Rattle.float.specs.Operators.{_⊗_, _⊘_, one64, zero64, _⊕_, count}
 use Rattle.moment.specs.Sums.{sumOf, itself, firstOf, secondOf}
-use Rattle.moment.specs.Trace.{validFrom}
+use Rattle.trace.specs.Trace.{validFrom}
 use Rattle.moment.proofs.Folds.{Folded, fold-step, fold-end}
 
 pub take-zip : {A B : Type 0} (n : ℕ) (xs : List A) (ys : List B) → take n (zip xs ys) ≡ zip (take n xs) (take n ys)

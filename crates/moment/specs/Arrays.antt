@@ -11,8 +11,8 @@ use Rattle.moment.specs.Cov.{covEmpty, covNew, covCombine}
 use Rattle.moment.specs.Pearson.{pearsonEmpty, pearsonNew, pearsonCombine}
 use Rattle.moment.specs.Skew.{skewEmpty, skewNew, skewCombine}
 use Rattle.moment.specs.Kurtosis.{kurtosisEmpty, kurtosisNew, kurtosisCombine}
-use Rattle.moment.specs.Trace.{validAt, validFrom, validReadings, validPairs}
-use Rattle.moment.specs.Refusals.{arrayRefusal, pairRefusal, rangeRefusal}
+use Rattle.trace.specs.Trace.{validAt, validFrom, validReadings, validPairs}
+use Rattle.trace.specs.Refusals.{arrayRefusal, pairRefusal, rangeRefusal}
 use Rattle.moment.specs.Chunks.{inChunks}
 use Rattle.moment.specs.declared.VarState.{VarState}
 use Rattle.moment.specs.declared.CovState.{CovState}

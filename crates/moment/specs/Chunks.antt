@@ -6,7 +6,7 @@ use mathlib.Core.Bool.{Bool}
 use mathlib.Core.List.{List, [], _∷_, foldl}
 use lib.ListN.{length, take, drop}
 use lib.Ieee.{Float}
-use Rattle.moment.specs.Trace.{validFrom}
+use Rattle.trace.specs.Trace.{validFrom}
 
 -- the first k chunks of 128
 unfoldable pub chunks : {A : Type 0} → ℕ → List A → List (List A)

@@ -1,4 +1,4 @@
--- In document 01's order: figures, states, traces and their maps, refusals, whole arrays and ranges.
+-- In document 01's order: figures, states, whole arrays and ranges.
 pub mod Figure
 pub mod Sums
 pub mod Var
@@ -6,7 +6,5 @@ pub mod Cov
 pub mod Pearson
 pub mod Skew
 pub mod Kurtosis
-pub mod Trace
-pub mod Refusals
 pub mod Chunks
 pub mod Arrays

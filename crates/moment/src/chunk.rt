@@ -1,9 +1,8 @@
 // Filling an array of 128 doubles with a trace's valid readings: the source's `chunk_as_float` and `chunk_as_float_binary`.
 ghost use mathlib.Core.Path.{_≡_};
 ghost use lib.ListN.{length};
-ghost use Rattle.moment.specs.Trace.{validAt, bothAt};
+ghost use Rattle.trace.specs.Trace.{validAt, bothAt};
 ghost use Rattle.moment.specs.Chunks.{Filled};
-use crate::trace;
 
 // Where filling stopped: the first place not looked at, and how many readings the chunk holds.
 pub struct Stop {

@@ -4,7 +4,7 @@ ghost use mathlib.Core.Path.{_≡_};
 ghost use Prim.Native.Nat.{_+_, _^_, _<_};
 ghost use mathlib.Core.List.{zip};
 ghost use lib.ListN.{length};
-ghost use Rattle.moment.specs.Trace.{validAt, validFrom, validReadings, validPairs};
+ghost use Rattle.trace.specs.Trace.{validAt, validFrom, validReadings, validPairs};
 ghost use Rattle.moment.specs.Skew.{isZero};
 ghost use Rattle.moment.specs.Var.{varEmpty, varNew, varClear, varInsert, varMerge, varCombine, notNegative, varFinalize};
 ghost use Rattle.moment.specs.Cov.{covEmpty, covAbout, covNew, covInsert, covMerge, covCombine, covFinalize};
@@ -15,7 +15,6 @@ ghost use Rattle.moment.specs.Arrays.{varWhole, covWhole, pearsonWhole, 
 
 mod chunk;
 mod sums;
-pub mod trace;
 
 // f64::EPSILON, 2^-52.
 const EPSILON: f64 = 2.220446049250313e-16;

@@ -1,6 +1,7 @@
 -- By the refusal number. Assumes nothing.
 use borrow.Author.Needs.{needs}
-use Rattle.moment.proofs.Answers.{answer-refused, answer-state, pair-fits}
+use Rattle.trace.proofs.Accepted.{pair-fits}
+use Rattle.moment.proofs.Answers.{answer-refused, answer-state}
 use Rattle.moment.proofs.cov.Statement.{statement}
 use Rattle.moment.proofs.cov.Tie as tie
 

@@ -7,7 +7,7 @@ use native.Mathlib.Omega.{arith}
 use lib.ListN.{length}
 use lib.Ieee.{eq, ofBits}
 use Rattle.moment.specs.declared.PearsonState.{PearsonState}
-use Rattle.moment.specs.Trace.{bothAt}
+use Rattle.trace.specs.Trace.{bothAt}
 use Rattle.moment.specs.Pearson.{pearsonEmpty, pearsonNew, pearsonCombine}
 use Rattle.moment.proofs.Filling.{part-long}
 use Rattle.moment.proofs.Chunked.{ReachedBoth, reached-start, combined-pairs, combined-pairs-end}

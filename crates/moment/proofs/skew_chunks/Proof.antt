@@ -7,7 +7,7 @@ use native.Mathlib.Omega.{arith}
 use lib.ListN.{length}
 use lib.Ieee.{eq, ofBits}
 use Rattle.moment.specs.declared.SkewState.{SkewState}
-use Rattle.moment.specs.Trace.{validAt}
+use Rattle.trace.specs.Trace.{validAt}
 use Rattle.moment.specs.Skew.{skewEmpty, skewNew, skewCombine}
 use Rattle.moment.proofs.Filling.{part-long}
 use Rattle.moment.proofs.Chunked.{ReachedAt, reached-start, combined, combined-end}

@@ -4,7 +4,8 @@ use Prim.Native.Nat.{_+_, _-_}
 use mathlib.Core.Path.{_≡_, sym, _∙_}
 use native.Mathlib.Omega.{arith}
 use lib.ListN.{length, length-take, length-drop}
-use Rattle.moment.proofs.Answers.{answer-refused, answer-state, range-fits}
+use Rattle.trace.proofs.Accepted.{range-fits}
+use Rattle.moment.proofs.Answers.{answer-refused, answer-state}
 use Rattle.moment.proofs.SkewState.from_array.Statement.{statement}
 use Rattle.moment.proofs.SkewState.from_array.Tie as tie
 

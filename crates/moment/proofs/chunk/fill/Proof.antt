@@ -4,7 +4,7 @@ use Prim.Native.Nat.{_-_}
 use mathlib.Core.Path.{refl}
 use native.Mathlib.Omega.{arith}
 use lib.ListN.{length}
-use Rattle.moment.specs.Trace.{validAt}
+use Rattle.trace.specs.Trace.{validAt}
 use Rattle.moment.proofs.Filling.{Filling, filling-step, filled-full, filled-end, bit-le}
 use Rattle.moment.proofs.chunk.fill.Statement.{statement}
 use Rattle.moment.proofs.chunk.fill.Tie as tie

@@ -5,7 +5,7 @@ use mathlib.Core.Path.{_≡_, refl, sym, ap, _∙_}
 use mathlib.Core.Logic.{⊎-elim}
 use native.Mathlib.Omega.{arith}
 use lib.ListN.{length}
-use Rattle.moment.specs.Trace.{validAt}
+use Rattle.trace.specs.Trace.{validAt}
 use Rattle.float.specs.Operators.{_⊕_, zero64}
 use Rattle.moment.proofs.Folds.{ValidFolded, valid-start, valid-step, missing-step, valid-end, oneMore, counted-end}
 use Rattle.moment.proofs.sums.valid_total.Statement.{statement}

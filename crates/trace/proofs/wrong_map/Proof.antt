@@ -1,11 +1,11 @@
 -- n / 8 rounded up, without a sum that might wrap. Assumes nothing.
-use Rattle.moment.specs.Refusals.{wrongMap}
+use Rattle.trace.specs.Refusals.{wrongMap}
 use Prim.Native.Nat.{_+_, _/_, _%_}
 use mathlib.Core.Path.{_≡_}
 use native.Mathlib.Omega.{arith}
 use borrow.Author.Needs.{needs}
-use Rattle.moment.proofs.trace.wrong_map.Statement.{statement}
-use Rattle.moment.proofs.trace.wrong_map.Tie as tie
+use Rattle.trace.proofs.wrong_map.Statement.{statement}
+use Rattle.trace.proofs.wrong_map.Tie as tie
 
 add-result : tie.Need-add-result
 add-result c = search needs

@@ -1,7 +1,7 @@
 -- By the callees. Assumes nothing.
 use borrow.Author.Needs.{needs}
-use Rattle.moment.proofs.trace.array_refusal.Statement.{statement}
-use Rattle.moment.proofs.trace.array_refusal.Tie as tie
+use Rattle.trace.proofs.array_refusal.Statement.{statement}
+use Rattle.trace.proofs.array_refusal.Tie as tie
 
 refuse-requires : tie.Need-refuse-requires
 refuse-requires c κs = search needs

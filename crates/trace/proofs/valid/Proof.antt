@@ -3,10 +3,10 @@ use native.Mathlib.Nat.{zero-div}
 use Prim.Native.Nat.{ℕ, _/_}
 use borrow.Author.Tests.{not-true, not-false}
 use lib.ListN.{List·getD-eq-default}
-use Rattle.moment.specs.Trace.{validAt}
+use Rattle.trace.specs.Trace.{validAt}
 use borrow.Author.Needs.{needs}
-use Rattle.moment.proofs.trace.valid.Statement.{statement}
-use Rattle.moment.proofs.trace.valid.Tie as tie
+use Rattle.trace.proofs.valid.Statement.{statement}
+use Rattle.trace.proofs.valid.Tie as tie
 
 returns : tie.Need-returns
 unfolding validAt

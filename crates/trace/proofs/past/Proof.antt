@@ -4,8 +4,8 @@ use native.Mathlib.Omega.{arith}
 use borrow.Author.Tests.{lt-ltb}
 use lib.Dec.{lt→ltb, ltb→lt}
 use Rattle.float.proofs.Booleans.{bool-same}
-use Rattle.moment.proofs.trace.past.Statement.{statement}
-use Rattle.moment.proofs.trace.past.Tie as tie
+use Rattle.trace.proofs.past.Statement.{statement}
+use Rattle.trace.proofs.past.Tie as tie
 
 returns : tie.Need-returns
 returns c = let a = c .before .args in rw (lt-ltb (a .n) (a .start + a .length) (omega arith))

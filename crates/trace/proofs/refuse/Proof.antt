@@ -1,7 +1,7 @@
 -- By the condition. Assumes nothing.
-use Rattle.moment.specs.Refusals.{refusal}
-use Rattle.moment.proofs.trace.refuse.Statement.{statement}
-use Rattle.moment.proofs.trace.refuse.Tie as tie
+use Rattle.trace.specs.Refusals.{refusal}
+use Rattle.trace.proofs.refuse.Statement.{statement}
+use Rattle.trace.proofs.refuse.Tie as tie
 
 returns : tie.Need-returns
 unfolding refusal

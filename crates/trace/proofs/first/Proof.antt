@@ -1,8 +1,8 @@
 -- By the test of the first. Assumes nothing.
-use Rattle.moment.specs.Refusals.{_orElse_}
+use Rattle.trace.specs.Refusals.{_orElse_}
 use borrow.Author.Tests.{eq-eqb, ne-eqb}
-use Rattle.moment.proofs.trace.first.Statement.{statement}
-use Rattle.moment.proofs.trace.first.Tie as tie
+use Rattle.trace.proofs.first.Statement.{statement}
+use Rattle.trace.proofs.first.Tie as tie
 
 returns : tie.Need-returns
 unfolding _orElse_

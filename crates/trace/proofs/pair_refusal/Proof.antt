@@ -1,7 +1,7 @@
 -- By the callees. Assumes nothing.
 use borrow.Author.Needs.{needs}
-use Rattle.moment.proofs.trace.pair_refusal.Statement.{statement}
-use Rattle.moment.proofs.trace.pair_refusal.Tie as tie
+use Rattle.trace.proofs.pair_refusal.Statement.{statement}
+use Rattle.trace.proofs.pair_refusal.Tie as tie
 
 either-requires : tie.Need-either-requires
 either-requires c κs = search needs

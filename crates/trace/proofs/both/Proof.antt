@@ -1,9 +1,9 @@
 -- By the first place's validity. Assumes nothing.
-use Rattle.moment.specs.Trace.{bothAt}
+use Rattle.trace.specs.Trace.{bothAt}
 use mathlib.Core.Path.{sym, _∙_}
 use borrow.Author.Needs.{needs}
-use Rattle.moment.proofs.trace.both.Statement.{statement}
-use Rattle.moment.proofs.trace.both.Tie as tie
+use Rattle.trace.proofs.both.Statement.{statement}
+use Rattle.trace.proofs.both.Tie as tie
 
 valid-requires : tie.Need-valid-requires
 valid-requires c κs = search needs

@@ -1,7 +1,7 @@
 -- By the callees. Assumes nothing.
 use borrow.Author.Needs.{needs}
-use Rattle.moment.proofs.trace.range_refusal.Statement.{statement}
-use Rattle.moment.proofs.trace.range_refusal.Tie as tie
+use Rattle.trace.proofs.range_refusal.Statement.{statement}
+use Rattle.trace.proofs.range_refusal.Tie as tie
 
 array-refusal-requires : tie.Need-array-refusal-requires
 array-refusal-requires c κs = search needs

@@ -1,10 +1,11 @@
-// A trace's places and its refusals. Every function is total, so that the crates above share them.
+// A trace's places and the refusals of its sender and of the asker of a range. Every function is total, so that the crates
+// above share them.
 ghost use mathlib.Core.Path.{_≡_};
 ghost use mathlib.Core.Bool.{_||_};
 ghost use Prim.Native.Nat.{_+_};
 ghost use lib.Dec.{ltb};
-ghost use Rattle.moment.specs.Trace.{validAt, bothAt};
-ghost use Rattle.moment.specs.Refusals.{refusal, _orElse_, wrongMap, arrayRefusal, pairRefusal, rangeRefusal};
+ghost use Rattle.trace.specs.Trace.{validAt, bothAt};
+ghost use Rattle.trace.specs.Refusals.{refusal, _orElse_, wrongMap, arrayRefusal, pairRefusal, rangeRefusal};
 
 // The most readings that a trace may have.
 pub const MOST: usize = 16777216;
