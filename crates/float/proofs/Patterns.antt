@@ -1,6 +1,7 @@
 -- Which patterns of 64 bits are a NaN's: those whose lower 63 bits are above plus infinity's. Assumes nothing.
 use mathlib.Core.Path.{_≡_, refl, sym, _∙_, subst}
 use Prim.Native.Nat.{ℕ, _%_, _<_, _≤_}
+use native.Mathlib.Omega.{arith}
 use mathlib.Core.Bool.{Bool, true, false, not, false≢true}
 use lib.Dec.{T}
 use lib.Ieee.{Float, nan, inf, fin, binary64, ofBits, nanBits, isNan, ne}
@@ -27,3 +28,7 @@ pattern-nan n h = only-nan (ofBits binary64 n) (sym (nanBits-is binary64 n) ∙ 
 
 pub pattern-number : (n : ℕ) → n % 0x8000_0000_0000_0000 ≤ 0x7ff0_0000_0000_0000 → T (not (nanBits binary64 n))
 pattern-number n h = subst (λ (b : Bool). T (not b)) (sym (nanBits-above binary64 n ∙ le-ltb 0x7ff0_0000_0000_0000 (n % 0x8000_0000_0000_0000) h)) tt
+
+-- so no pattern below plus infinity's is a NaN's
+pub no-nan-bits : (n : ℕ) → n < 0x7ff0_0000_0000_0000 → T (not (nanBits binary64 n))
+no-nan-bits n h = pattern-number n (omega arith)

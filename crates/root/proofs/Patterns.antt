@@ -1,11 +1,13 @@
--- The root of a value by its bit pattern: what number the pattern stands for, the root of it in units, and the pattern of that root. Assumes nothing.
+-- The root of a double by its bits: they are a number of units, the root of that number is an integer root moved some
+-- places up, and it has 53 digits, so its bits are the digits beside the exponent. Assumes nothing.
 use mathlib.Core.Path.{_≡_, refl, sym, ap, ap₂, _∙_, subst}
-use Prim.Native.Nat.{ℕ, zero, suc, _+_, _-_, _*_, _/_, _%_, _^_, _≤_, _<_, compare, Ordering, Ordering·lt, Ordering·eq, Ordering·gt}
-use native.Mathlib.Nat.{le-trans, lt-of-lt-of-le, lt-of-not-le, not-le-of-lt, lt-irrefl, mod-eq-of-lt, mul-one, mul-assoc, mul-pos, mul-comm, mul-div-cancel, mul-lt-mul-of-pos-right, mul-le-mul-right, zero-mul}
+use mathlib.Core.Bool.{Bool, true, false, cond}
+use Prim.Native.Nat.{ℕ, zero, suc, _+_, _-_, _*_, _/_, _%_, _^_, _≤_, _<_, compare}
+use native.Mathlib.Nat.{lt-of-lt-of-le, lt-of-not-le, not-le-of-lt, lt-irrefl, mod-eq-of-lt, mul-one, mul-pos, mul-div-cancel, mul-le-mul, mul-le-mul-right, zero-mul}
+use native.Mathlib.Decide.{decLe}
 use native.Mathlib.Omega.{arith}
-use mathlib.Core.Bool.{Bool, true, false, not, cond}
 use lib.IntN.{ℤ}
-use lib.Dec.{T, isLe, isEq, leb, ltb, eqb, leb→le, nleb→lt, eqb→eq, eqb-refl, lt→ltb, le→leb, not-T, lit≤, eqb·suc-zero}
+use lib.Dec.{T, leb, ltb, eqb, leb→le, eqb→eq, lt→ltb, le→leb, not-T, eqb·suc-zero}
 use lib.Pow.{pow-add, pow-pos, pow-mono, shl-lt, shl-shr}
 use lib.Count.{trailingZeros, under, leadingZeros, leading-top}
 use lib.Ieee.{Float, nan, inf, fin, binary64, up, down, size, nearest, odd, units, ofFields, ofBits}
@@ -13,48 +15,55 @@ use lib.Ieee.Digits.{size-le, size-lt}
 use lib.Ieee.Fits.{down-pos}
 use lib.Ieee.Bits.{is-true, is-false, cond-no}
 use lib.Ieee.Exact.{HasValue, odd-sign}
-use Rattle.root.specs.Root.{whole, near, root, rootUnits}
-use native.Mathlib.Nat.{mul-le-mul}
-use native.Mathlib.Decide.{decLe}
-use Rattle.root.proofs.Laws.{scaled, Floor, whole-floor, near-down, near-up, at-most}
+use Rattle.root.specs.Root.{square, integerRoot, roundedRoot, rootOfUnits, root}
+use Rattle.root.proofs.IntegerRoot.{Floor, integerRoot-floor, at-most, compare-scaled, toward, roundedRoot-at, roundedRoot-is, rounded-down, rounded-up}
+use Rattle.root.proofs.Doubles.{pow-sum, shift-sum}
 
 -- ---- the root of n * 4 ^ k units, for an n of 105 or 106 digits, is that of n, k places up
-pub dropped : (s k : ℕ) → s ≤ 106 + 2 * k → 104 + 2 * k < s → (s + 1) / 2 - 53 ≡ k
-dropped s k h g = omega arith
-
 pub pow-twice : (k : ℕ) → 2 ^ (2 * k) ≡ 2 ^ k * 2 ^ k
 pow-twice k = let e : 2 * k ≡ k + k = omega arith in ap (λ (x : ℕ). 2 ^ x) e ∙ pow-add 2 k k
 
 pub size-gt : (n j : ℕ) → 2 ^ j ≤ n → j < size n
-size-gt n j h = lt-of-not-le (λ (g : size n ≤ j). not-le-of-lt (lt-of-lt-of-le (size-lt n) (pow-mono g)) h)
+size-gt n j h =
+    lt-of-not-le (λ (g : size n ≤ j). not-le-of-lt (lt-of-lt-of-le (size-lt n) (pow-mono g)) h)
 
-cut : (n k : ℕ) → 2 ^ 104 ≤ n → n < 2 ^ 106 → (size (n * 2 ^ (2 * k)) + 1) / 2 - 53 ≡ k
-cut n k h g =
-    dropped (size (n * 2 ^ (2 * k))) k (size-le (n * 2 ^ (2 * k)) (106 + 2 * k) (shl-lt 106 (2 * k) g))
-    (size-gt (n * 2 ^ (2 * k)) (104 + 2 * k) (subst (λ (x : ℕ). x ≤ n * 2 ^ (2 * k)) (sym (pow-add 2 104 (2 * k))) (mul-le-mul-right (2 ^ (2 * k)) h)))
+-- how many digits of the root are dropped
+dropped : (n k : ℕ) → 2 ^ 104 ≤ n → n < 2 ^ 106 → (size (n * 2 ^ (2 * k)) + 1) / 2 - 53 ≡ k
+dropped n k h g =
+    let v = n * 2 ^ (2 * k) in
+    let l : 2 ^ (104 + 2 * k) ≤ v =
+    subst (λ (x : ℕ). x ≤ v) (sym (pow-add 2 104 (2 * k))) (mul-le-mul-right (2 ^ (2 * k)) h) in
+    by-size (size v) (size-le v (106 + 2 * k) (shl-lt 106 (2 * k) g)) (size-gt v (104 + 2 * k) l)
+  where
+    by-size : (z : ℕ) → z ≤ 106 + 2 * k → 104 + 2 * k < z → (z + 1) / 2 - 53 ≡ k
+    by-size z h g = omega arith
 
-abbrev pub rounded : (n k : ℕ) → ℕ → Float
-rounded n k q = units binary64 false (nearest q (compare (4 * n) ((2 * q + 1) * 2 ^ k * ((2 * q + 1) * 2 ^ k)))) k
+pub rootOfUnits-is : (n k : ℕ) → (size n + 1) / 2 - 53 ≡ k → rootOfUnits n ≡ units binary64 false (roundedRoot k n) k
+unfolding rootOfUnits
+rootOfUnits-is n k e = ap (λ (k : ℕ). units binary64 false (roundedRoot k n) k) e
 
-pub rootUnits-is : (n k : ℕ) → (size n + 1) / 2 - 53 ≡ k → rootUnits n ≡ rounded n k (whole 53 (n / 2 ^ (2 * k)))
-unfolding rootUnits
-rootUnits-is n k e = ap (λ (k : ℕ). rounded n k (whole 53 (n / 2 ^ (2 * k)))) e
-
-halves : (n k q : ℕ) → compare (4 * (n * 2 ^ (2 * k))) ((2 * q + 1) * 2 ^ k * ((2 * q + 1) * 2 ^ k)) ≡ compare (4 * n) ((2 * q + 1) * (2 * q + 1))
-halves n k q =
+half-way : (n k q : ℕ) → compare (4 * (n * 2 ^ (2 * k))) (square ((2 * q + 1) * 2 ^ k)) ≡ compare (4 * n) (square (2 * q + 1))
+half-way n k q =
     let p = pow-twice k in
     let P = 2 ^ k in
     let x : 4 * (n * 2 ^ (2 * k)) ≡ 4 * n * (P * P) = ap (λ (z : ℕ). 4 * (n * z)) p ∙ omega arith in
-    let y : (2 * q + 1) * P * ((2 * q + 1) * P) ≡ (2 * q + 1) * (2 * q + 1) * (P * P) = omega arith in
-    ap₂ compare x y ∙ scaled (4 * n) ((2 * q + 1) * (2 * q + 1)) (P * P) (mul-pos (pow-pos k) (pow-pos k))
+    let y : square ((2 * q + 1) * P) ≡ square (2 * q + 1) * (P * P) = omega arith in
+    ap₂ compare x y ∙ compare-scaled (4 * n) (square (2 * q + 1)) (P * P) (mul-pos (pow-pos k) (pow-pos k))
 
-rounded-is : (n k : ℕ) → rounded (n * 2 ^ (2 * k)) k (whole 53 n) ≡ units binary64 false (near n) k
-unfolding near
-rounded-is n k = ap (λ (o : Ordering). units binary64 false (nearest (whole 53 n) o) k) (halves n k (whole 53 n))
+roundedRoot-scaled : (n k : ℕ) → roundedRoot k (n * 2 ^ (2 * k)) ≡ roundedRoot 0 n
+roundedRoot-scaled n k =
+    let v = n * 2 ^ (2 * k) in
+    let q = integerRoot 53 n in
+    roundedRoot-at k v
+    ∙ ap (λ (z : ℕ). toward v k (integerRoot 53 z)) (shl-shr n (2 * k))
+    ∙ ap (nearest q) (half-way n k q)
+    ∙ sym (roundedRoot-is n)
 
-pub at-scale : (n k : ℕ) → 2 ^ 104 ≤ n → n < 2 ^ 106 → rootUnits (n * 2 ^ (2 * k)) ≡ units binary64 false (near n) k
-at-scale n k h g =
-    rootUnits-is (n * 2 ^ (2 * k)) k (cut n k h g) ∙ ap (λ (x : ℕ). rounded (n * 2 ^ (2 * k)) k (whole 53 x)) (shl-shr n (2 * k)) ∙ rounded-is n k
+rootOfUnits-scaled : (n k : ℕ) → 2 ^ 104 ≤ n → n < 2 ^ 106
+    → rootOfUnits (n * 2 ^ (2 * k)) ≡ units binary64 false (roundedRoot 0 n) k
+rootOfUnits-scaled n k h g =
+    rootOfUnits-is (n * 2 ^ (2 * k)) k (dropped n k h g)
+    ∙ ap (λ (q : ℕ). units binary64 false q k) (roundedRoot-scaled n k)
 
 -- ---- the fields of a pattern with the sign clear
 pub ofBits-is : (b : ℕ) → ofBits binary64 b ≡ ofFields binary64 (leb (2 ^ 63) b) (b % 2 ^ 63 / 2 ^ 52) (b % 2 ^ 52)
@@ -62,7 +71,7 @@ unfolding ofBits
 ofBits-is b = refl
 
 clear : (b : ℕ) → b < 2 ^ 63 → leb (2 ^ 63) b ≡ false
-clear b h = is-false (leb (2 ^ 63) b) (not-T (leb (2 ^ 63) b) (λ (u : T (leb (2 ^ 63) b)). let z = leb→le (2 ^ 63) b u in omega arith))
+clear b h = is-false (leb (2 ^ 63) b) (not-T (leb (2 ^ 63) b) λ u. let z = leb→le (2 ^ 63) b u in omega arith)
 
 pub fields : (b x t : ℕ) → x < 2 ^ 11 → t < 2 ^ 52 → b ≡ x * 2 ^ 52 + t → ofBits binary64 b ≡ ofFields binary64 false x t
 fields b x t X H e =
@@ -88,7 +97,13 @@ unfolding trailingZeros
 tz-more zero n p h = absurd (omega arith)
 tz-more (suc d) n p h = go (n % 2) refl (λ (e : n % 2 ≡ 0). tz-more d (n / 2) (omega arith) (omega arith))
   where
-    go : (r : ℕ) → n % 2 ≡ r → (n % 2 ≡ 0 → trailingZeros (suc d) (n / 2) ≡ trailingZeros d (n / 2)) → under r (trailingZeros (suc d) (n / 2)) ≡ under r (trailingZeros d (n / 2))
+    a : ℕ
+    a = trailingZeros (suc d) (n / 2)
+
+    b : ℕ
+    b = trailingZeros d (n / 2)
+
+    go : (r : ℕ) → n % 2 ≡ r → (n % 2 ≡ 0 → a ≡ b) → under r a ≡ under r b
     go zero e ih = ap suc (ih e)
     go (suc r) e ih = refl
 
@@ -118,19 +133,26 @@ as-bits q k h g K =
     ∙ sym (odd-more 53 false q k 1074 (omega arith) g)
     ∙ sym (units-is q k g K)
 
--- ---- the root of a value that is a units
-root-fin : (m : ℕ) (e : ℤ) (a : ℕ) → 0 < a → m * up e * 2 ^ 1074 ≡ a * down e → root (fin false m e) ≡ rootUnits (a * 2 ^ 1074)
-unfolding root
-root-fin zero e a p h = absurd (lt-irrefl 0 (subst (λ (x : ℕ). 0 < x) (sym h ∙ ap (λ (x : ℕ). x * 2 ^ 1074) (zero-mul (up e)) ∙ zero-mul (2 ^ 1074)) (mul-pos p (down-pos e))))
-root-fin (suc m) e a p h = ap (λ (x : ℕ). rootUnits (x * 2 ^ 1074)) (ap (λ (x : ℕ). x / down e) h ∙ mul-div-cancel a (down-pos e))
+-- ---- the root of a double that is a units
+not-zero : (e : ℤ) (a c : ℕ) → 0 < a → zero * up e * c ≡ a * down e → ⊥
+not-zero e a c p h =
+    let z : a * down e ≡ 0 = sym h ∙ ap (λ (x : ℕ). x * c) (zero-mul (up e)) ∙ zero-mul c in
+    lt-irrefl 0 (subst (λ (x : ℕ). 0 < x) z (mul-pos p (down-pos e)))
 
-root-val : (x : Float) (a : ℕ) → 0 < a → HasValue x false a (2 ^ 1074) → root x ≡ rootUnits (a * 2 ^ 1074)
+root-fin : (m : ℕ) (e : ℤ) (a : ℕ) → 0 < a → m * up e * 2 ^ 1074 ≡ a * down e → root (fin false m e) ≡ rootOfUnits (a * 2 ^ 1074)
+unfolding root
+root-fin zero e a p h = absurd (not-zero e a (2 ^ 1074) p h)
+root-fin (suc m) e a p h =
+    ap (λ (x : ℕ). rootOfUnits (x * 2 ^ 1074)) (ap (λ (x : ℕ). x / down e) h ∙ mul-div-cancel a (down-pos e))
+
+root-val : (x : Float) (a : ℕ) → 0 < a → HasValue x false a (2 ^ 1074) → root x ≡ rootOfUnits (a * 2 ^ 1074)
 root-val nan a p h = absurd h
 root-val (inf s) a p h = absurd h
 root-val (fin s m e) a p h = ap (λ (s : Bool). root (fin s m e)) (h .0) ∙ root-fin m e a p (h .1)
 
-pub root-odd : (q k : ℕ) → 0 < q → root (odd 53 false q k 1074) ≡ rootUnits (q * 2 ^ k * 2 ^ 1074)
-root-odd q k p = root-val (odd 53 false q k 1074) (q * 2 ^ k) (mul-pos p (pow-pos k)) (odd-sign 53 false q k 1074)
+pub root-odd : (q k : ℕ) → 0 < q → root (odd 53 false q k 1074) ≡ rootOfUnits (q * 2 ^ k * 2 ^ 1074)
+root-odd q k p =
+    root-val (odd 53 false q k 1074) (q * 2 ^ k) (mul-pos p (pow-pos k)) (odd-sign 53 false q k 1074)
 
 -- ---- the nearest whole number to the root of n, for an n of 105 or 106 digits whose last 53 are 0: it has 53 digits
 abbrev In : ℕ → Type 0
@@ -143,24 +165,27 @@ floor-in n q h g f =
     omega arith
 
 no-carry : (n q : ℕ) → n ≤ 2 ^ 106 - 2 ^ 53 → q < 2 ^ 53 → q < n - q * q → q + 1 < 2 ^ 53
-no-carry n q g h l = lt-of-not-le (λ (k : 2 ^ 53 ≤ q + 1). let z : 2 ^ 53 - 1 ≤ q = omega arith in let w = mul-le-mul z z in absurd (omega arith))
+no-carry n q g h l = lt-of-not-le λ (k : 2 ^ 53 ≤ q + 1).
+    let z : 2 ^ 53 - 1 ≤ q = omega arith in
+    let w = mul-le-mul z z in
+    absurd (omega arith)
 
-pub near-in : (n : ℕ) → 2 ^ 104 ≤ n → n ≤ 2 ^ 106 - 2 ^ 53 → In (near n)
-near-in n h g =
+pub rounded-in : (n : ℕ) → 2 ^ 104 ≤ n → n ≤ 2 ^ 106 - 2 ^ 53 → In (roundedRoot 0 n)
+rounded-in n h g =
     let b : n < 2 ^ 106 = omega arith in
-    let q = whole 53 n in
-    let f = whole-floor 53 n b in
+    let q = integerRoot 53 n in
+    let f = integerRoot-floor 53 n b in
     let i = floor-in n q h b f in
     let rem = n - q * q in
     let e : n ≡ q * q + rem = omega arith in
     elim (decLe rem q) [
-      | yes d ↦ subst In (sym (near-down n q rem b e d)) i
+      | yes d ↦ subst In (sym (rounded-down n q rem b e d)) i
       | no d ↦
           let u : q < rem = lt-of-not-le d in
           let w : rem ≤ 2 * q = omega arith in
           let c : q + 1 < 2 ^ 53 = no-carry n q g (i .1) u in
           let z : In (q + 1) = omega arith in
-          subst In (sym (near-up n q rem b e u w)) z
+          subst In (sym (rounded-up n q rem b e u w)) z
     ]
 
 -- ---- m * 2 ^ j units, m of 53 digits
@@ -174,34 +199,43 @@ in-range m zero h k g = omega arith
 in-range m (suc zero) h k g = omega arith
 in-range m (suc (suc p)) h k g = absurd (omega arith)
 
-module _ (m j : ℕ) (lo : 2 ^ 52 ≤ m) (hi : m < 2 ^ 53) (least : 1022 ≤ j) (most : j ≤ 3119) where
-  abbrev pub word : ℕ
+abbrev pub Normal : ℕ → ℕ → Type 0
+Normal m j = (2 ^ 52 ≤ m) × (m < 2 ^ 53) × (1022 ≤ j) × (j ≤ 3119)
+
+module _ (m j : ℕ) (normal : Normal m j) where
+  abbrev word : ℕ
   word = (m * 2 ^ (j % 2)) % 2 ^ 64
 
   bit : j % 2 < 2
   bit = omega arith
 
+  word-is : word * 2 ^ 52 ≡ m * 2 ^ (52 + j % 2)
+  word-is = shifted m (j % 2) bit (normal .1)
+
+  range : (2 ^ 104 ≤ m * 2 ^ (52 + j % 2)) × (m * 2 ^ (52 + j % 2) ≤ 2 ^ 106 - 2 ^ 53)
+  range = in-range m (j % 2) bit (normal .0) (normal .1)
+
   pub word-in : (2 ^ 52 ≤ word) × (word < 2 ^ 54)
-  word-in = omega (arith, shifted m (j % 2) bit hi, in-range m (j % 2) bit lo hi)
+  word-in = omega (arith, word-is, range)
 
-  pub root-in : In (near (word * 2 ^ 52))
-  root-in = subst (λ (n : ℕ). In (near n)) (sym (shifted m (j % 2) bit hi)) (near-in (m * 2 ^ (52 + j % 2)) (in-range m (j % 2) bit lo hi .0) (in-range m (j % 2) bit lo hi .1))
-
-  pub root-bits : ofBits binary64 ((j / 2 - 26) * 2 ^ 52 + near (word * 2 ^ 52)) ≡ rootUnits (m * 2 ^ j)
-  root-bits =
+  pub root-bits : (q : ℕ) → q ≡ roundedRoot 0 (word * 2 ^ 52)
+      → ((j / 2 - 26) * 2 ^ 52 + q < 0x7ff0000000000000) × (ofBits binary64 ((j / 2 - 26) * 2 ^ 52 + q) ≡ rootOfUnits (m * 2 ^ j))
+  root-bits q is =
       let k = j / 2 - 26 in
       let n = m * 2 ^ (52 + j % 2) in
-      let i = root-in in
-      let r = in-range m (j % 2) bit lo hi in
+      let f : q ≡ roundedRoot 0 n = is ∙ ap (λ (n : ℕ). roundedRoot 0 n) word-is in
+      let i : In q = subst In (sym f) (rounded-in n (range .0) (range .1)) in
       let e : 52 + j % 2 + 2 * k ≡ j = omega arith in
       let K : k ≤ 1533 = omega arith in
-      let N : n < 2 ^ 106 = omega arith in
-      as-bits (near (word * 2 ^ 52)) k (i .0) (i .1) K
-      ∙ ap (λ (n : ℕ). units binary64 false (near n) k) (shifted m (j % 2) bit hi)
-      ∙ sym (at-scale n k (r .0) N)
-      ∙ ap rootUnits (mul-assoc m (2 ^ (52 + j % 2)) (2 ^ (2 * k)) ∙ ap (λ (x : ℕ). m * x) (sym (pow-add 2 (52 + j % 2) (2 * k)) ∙ ap (λ (x : ℕ). 2 ^ x) e))
+      let N : n < 2 ^ 106 = omega (arith, range) in (
+        omega arith,
+        as-bits q k (i .0) (i .1) K
+            ∙ ap (λ (q : ℕ). units binary64 false q k) f
+            ∙ sym (rootOfUnits-scaled n k (range .0) N)
+            ∙ ap rootOfUnits (shift-sum m (52 + j % 2) (2 * k) j e),
+      )
 
--- ---- a subnormal value: b units, moved up by its leading zeros
+-- ---- a subnormal double: b units, normalised by its leading zeros
 module _ (b : ℕ) (some : 0 < b) (few : b < 2 ^ 52) where
   abbrev pub shift : ℕ
   shift = leadingZeros 64 b - 11
@@ -211,7 +245,10 @@ module _ (b : ℕ) (some : 0 < b) (few : b < 2 ^ 52) where
   lead = let h : b < 2 ^ 64 = omega arith in leading-top 64 b some h
 
   lead-lt : lead .0 < 52
-  lead-lt = lt-of-not-le (λ (g : 52 ≤ lead .0). let z : 2 ^ 52 ≤ 2 ^ (lead .0) = pow-mono g in let w = lead .2 in absurd (omega arith))
+  lead-lt = lt-of-not-le λ (g : 52 ≤ lead .0).
+      let z : 2 ^ 52 ≤ 2 ^ (lead .0) = pow-mono g in
+      let w = lead .2 in
+      absurd (omega arith)
 
   pub zeros-in : (12 ≤ leadingZeros 64 b) × (leadingZeros 64 b ≤ 63)
   zeros-in = let w = lead .1 in let l = lead-lt in omega arith
@@ -220,43 +257,44 @@ module _ (b : ℕ) (some : 0 < b) (few : b < 2 ^ 52) where
   makes = let w = lead .1 in let l = lead-lt in omega arith
 
   pub moved-lo : 2 ^ 52 ≤ b * 2 ^ shift
-  moved-lo = subst (λ (x : ℕ). x ≤ b * 2 ^ shift) (sym (pow-add 2 (lead .0) shift) ∙ ap (λ (x : ℕ). 2 ^ x) makes) (mul-le-mul-right (2 ^ shift) (lead .2))
+  moved-lo = subst (λ (x : ℕ). x ≤ b * 2 ^ shift) (pow-sum (lead .0) shift 52 makes) (mul-le-mul-right (2 ^ shift) (lead .2))
 
   pub moved-hi : b * 2 ^ shift < 2 ^ 53
-  moved-hi = let e : suc (lead .0) + shift ≡ 53 = omega (arith, makes) in subst (λ (x : ℕ). b * 2 ^ shift < 2 ^ x) e (shl-lt (suc (lead .0)) shift (lead .3))
+  moved-hi =
+      let e : suc (lead .0) + shift ≡ 53 = omega (arith, makes) in
+      subst (λ (x : ℕ). b * 2 ^ shift < 2 ^ x) e (shl-lt (suc (lead .0)) shift (lead .3))
 
   pub moved : (b * 2 ^ shift) % 2 ^ 64 ≡ b * 2 ^ shift
   moved = let h = moved-hi in let g : b * 2 ^ shift < 2 ^ 64 = omega arith in mod-eq-of-lt g
 
-  pub low-root : root (ofBits binary64 b) ≡ rootUnits (b * 2 ^ shift * 2 ^ (1074 - shift))
+  pub low-root : root (ofBits binary64 b) ≡ rootOfUnits (b * 2 ^ shift * 2 ^ (1074 - shift))
   low-root =
       let e : shift + (1074 - shift) ≡ 1074 = omega (arith, makes) in
       let f : b ≡ 0 * 2 ^ 52 + b = omega arith in
       let z : 0 < 2 ^ 11 = omega arith in
       ap root (fields b 0 b z few f ∙ field-low b)
       ∙ root-odd b 0 some
-      ∙ ap (λ (x : ℕ). rootUnits (x * 2 ^ 1074)) (mul-one b)
-      ∙ ap rootUnits (ap (λ (x : ℕ). b * x) (ap (λ (x : ℕ). 2 ^ x) (sym e) ∙ pow-add 2 shift (1074 - shift)) ∙ sym (mul-assoc b (2 ^ shift) (2 ^ (1074 - shift))))
+      ∙ ap (λ (x : ℕ). rootOfUnits (x * 2 ^ 1074)) (mul-one b)
+      ∙ ap rootOfUnits (sym (shift-sum b shift (1074 - shift) 1074 e))
 
--- ---- a normal value
-pub high-root : (b : ℕ) → 2 ^ 52 ≤ b → b < 0x7ff0000000000000 → root (ofBits binary64 b) ≡ rootUnits ((b % 2 ^ 52 + 2 ^ 52) * 2 ^ (1073 + b / 2 ^ 52))
+-- ---- a normal double
+pub high-root : (b : ℕ) → 2 ^ 52 ≤ b → b < 0x7ff0000000000000
+    → root (ofBits binary64 b) ≡ rootOfUnits ((b % 2 ^ 52 + 2 ^ 52) * 2 ^ (1073 + b / 2 ^ 52))
 high-root b h g =
     let x = b / 2 ^ 52 - 1 in
     let t = b % 2 ^ 52 in
-    let e : suc x + 1073 ≡ 1073 + b / 2 ^ 52 = omega arith in
-    let e' : x + 1074 ≡ 1073 + b / 2 ^ 52 = omega arith in
+    let e : x + 1074 ≡ 1073 + b / 2 ^ 52 = omega arith in
     let p : 0 < 2 ^ 52 + t = omega arith in
     let y : suc x < 2047 = omega arith in
     ap root (fields b (suc x) t (omega arith) (omega arith) (omega arith) ∙ field-mid x t y)
     ∙ root-odd (2 ^ 52 + t) x p
-    ∙ ap rootUnits
-    (mul-assoc (2 ^ 52 + t) (2 ^ x) (2 ^ 1074) ∙ ap (λ (z : ℕ). (2 ^ 52 + t) * z) (sym (pow-add 2 x 1074) ∙ ap (λ (z : ℕ). 2 ^ z) e')
-    ∙ ap (λ (z : ℕ). z * 2 ^ (1073 + b / 2 ^ 52)) (omega arith))
+    ∙ ap rootOfUnits (shift-sum (2 ^ 52 + t) x 1074 (1073 + b / 2 ^ 52) e)
+    ∙ ap (λ (z : ℕ). rootOfUnits (z * 2 ^ (1073 + b / 2 ^ 52))) (omega arith)
 
 -- ---- below zero, minus infinity and NaN
 neg-fin : (m : ℕ) (e : ℤ) (a c : ℕ) → 0 < a → m * up e * c ≡ a * down e → root (fin true m e) ≡ nan
 unfolding root
-neg-fin zero e a c p h = absurd (lt-irrefl 0 (subst (λ (x : ℕ). 0 < x) (sym h ∙ ap (λ (x : ℕ). x * c) (zero-mul (up e)) ∙ zero-mul c) (mul-pos p (down-pos e))))
+neg-fin zero e a c p h = absurd (not-zero e a c p h)
 neg-fin (suc m) e a c p h = refl
 
 neg-val : (x : Float) (a c : ℕ) → 0 < a → HasValue x true a c → root x ≡ nan
@@ -265,7 +303,8 @@ neg-val (inf s) a c p h = absurd h
 neg-val (fin s m e) a c p h = ap (λ (s : Bool). root (fin s m e)) (h .0) ∙ neg-fin m e a c p (h .1)
 
 neg-odd : (q k : ℕ) → 0 < q → root (odd 53 true q k 1074) ≡ nan
-neg-odd q k p = neg-val (odd 53 true q k 1074) (q * 2 ^ k) (2 ^ 1074) (mul-pos p (pow-pos k)) (odd-sign 53 true q k 1074)
+neg-odd q k p =
+    neg-val (odd 53 true q k 1074) (q * 2 ^ k) (2 ^ 1074) (mul-pos p (pow-pos k)) (odd-sign 53 true q k 1074)
 
 neg-fields : (x t : ℕ) → 0 < x + t → root (ofFields binary64 true x t) ≡ nan
 unfolding ofFields
@@ -301,34 +340,21 @@ no-root b w h n = elim (decLe (2 ^ 63) b) [
       ap root (fields b 2047 t (omega arith) (omega arith) e) ∙ nan-fields t s
 ]
 
--- ---- the values that are their own root
-zero-root : root (ofBits binary64 0) ≡ ofBits binary64 0
+-- ---- NaN, and the doubles that are their own root
+pub nan-none : (x : Float) → x ≡ nan → root x ≡ nan
+nan-none x e = ap root e ∙ unfold root in refl
+
+pub zero-own : root (ofBits binary64 0) ≡ ofBits binary64 0
 unfolding root ofBits
-zero-root = refl
+zero-own = refl
 
-minus-zero-root : root (ofBits binary64 0x8000000000000000) ≡ ofBits binary64 0x8000000000000000
+pub minus-zero-own : root (ofBits binary64 0x8000000000000000) ≡ ofBits binary64 0x8000000000000000
 unfolding root ofBits
-minus-zero-root = refl
+minus-zero-own = refl
 
-inf-root : root (ofBits binary64 0x7ff0000000000000) ≡ ofBits binary64 0x7ff0000000000000
+pub infinity-own : root (ofBits binary64 0x7ff0000000000000) ≡ ofBits binary64 0x7ff0000000000000
 unfolding root ofBits
-inf-root = refl
+infinity-own = refl
 
-nan-root : root nan ≡ nan
-unfolding root
-nan-root = refl
-
-own : (x : Float) (b k : ℕ) → ofBits binary64 b ≡ x → b ≡ k → root (ofBits binary64 k) ≡ ofBits binary64 k → x ≡ root x
-own x b k e f r = sym (ap root (sym e ∙ ap (ofBits binary64) f) ∙ r ∙ ap (ofBits binary64) (sym f) ∙ e)
-
-pub zero-own : (x : Float) (b : ℕ) → ofBits binary64 b ≡ x → b ≡ 0 → x ≡ root x
-zero-own x b e f = own x b 0 e f zero-root
-
-pub minus-zero-own : (x : Float) (b : ℕ) → ofBits binary64 b ≡ x → b ≡ 0x8000000000000000 → x ≡ root x
-minus-zero-own x b e f = own x b 0x8000000000000000 e f minus-zero-root
-
-pub inf-own : (x : Float) (b : ℕ) → ofBits binary64 b ≡ x → b ≡ 0x7ff0000000000000 → x ≡ root x
-inf-own x b e f = own x b 0x7ff0000000000000 e f inf-root
-
-pub nan-own : (x : Float) → x ≡ nan → x ≡ root x
-nan-own x e = e ∙ sym nan-root ∙ ap root (sym e)
+pub own : (x : Float) (b k : ℕ) → ofBits binary64 b ≡ x → b ≡ k → root (ofBits binary64 k) ≡ ofBits binary64 k → x ≡ root x
+own x b k e f r = let g : ofBits binary64 k ≡ x = ap (ofBits binary64) (sym f) ∙ e in sym (ap root (sym g) ∙ r ∙ g)

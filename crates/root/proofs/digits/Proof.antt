@@ -1,70 +1,72 @@
--- `root::digits` meets its contract. Assumes nothing.
-use mathlib.Core.Path.{_≡_, sym, ap, _∙_, subst}
+-- `root::digits` meets its contract: after i turns `root` and `remainder` are the integer root of the first 2 * i digits
+-- of a * 2 ^ 42 and what is left of them, and at the end the remainder tells which way to round. Assumes nothing.
+use mathlib.Core.Path.{_≡_, sym, ap, _∙_}
 use mathlib.Core.Logic.{⊎-elim}
 use Prim.Native.Nat.{ℕ, _+_, _-_, _*_, _^_, _/_, _%_, _≤_, _<_}
-use native.Mathlib.Omega.{arith}
 use native.Mathlib.Nat.{pow-suc}
 use native.Mathlib.Numerals.{add-one}
-use lib.Pow.{pow-mono, pow-add}
-use Rattle.root.proofs.Laws.{near-down, near-up}
+use native.Mathlib.Omega.{arith}
+use lib.Pow.{pow-mono}
+use Rattle.root.proofs.IntegerRoot.{rounded-down, rounded-up}
 use Rattle.root.proofs.digits.Statement.{statement}
 use Rattle.root.proofs.digits.Tie as tie
-use Rattle.root.proofs.digits.Reads as reads
-use Rattle.root.proofs.digits.Lts as lts
 
--- after i digits the root is that of the first 2 * i digits of a, and rem is what is left of them
-pub record State (a rest root rem i : ℕ) : Type 0 where
+-- a has 64 digits, of which `rest` holds those to come
+pub record State (a rest root remainder i : ℕ) : Type 0 where
   pub most : i ≤ 53
-  pub value : (root * root + rem) * 2 ^ 64 + rest ≡ a * 4 ^ i
+  pub value : (root * root + remainder) * 2 ^ 64 + rest ≡ a * 4 ^ i
   pub left : rest < 2 ^ 64
-  pub short : rem ≤ 2 * root
+  pub short : remainder ≤ 2 * root
   pub small : root < 2 ^ i
 
 abbrev Inv-loop : tie.InvT-loop
-Inv-loop a rest₀ root₀ rem₀ i₀ rest root rem i = State a rest root rem i
+Inv-loop a rest₀ root₀ remainder₀ i₀ rest root remainder i = State a rest root remainder i
 
 abbrev μ-loop : tie.MeasureT-loop
-μ-loop a rest₀ root₀ rem₀ i₀ rest root rem i = 53 - i
-
-root-lt : (a rest root rem i : ℕ) → State a rest root rem i → i < 53 → root < 2 ^ 52
-root-lt a rest root rem i s h = let k : i ≤ 52 = omega arith in
-    let p : 2 ^ i ≤ 2 ^ 52 = pow-mono k in omega arith
+μ-loop a rest₀ root₀ remainder₀ i₀ rest root remainder i = 53 - i
 
 next-pow : (n i : ℕ) → n ^ (i + 1) ≡ n * n ^ i
 next-pow n i = ap (λ (k : ℕ). n ^ k) (add-one i) ∙ pow-suc n i ∙ omega arith
 
-step-down : (a rest root rem i : ℕ) → State a rest root rem i → i < 53 → rem * 4 + rest / 2 ^ 62 < root * 4 + 1
-    → State a ((rest * 2 ^ 2) % 2 ^ 64) (root * 2) (rem * 4 + rest / 2 ^ 62) (i + 1)
-step-down a rest root rem i s h k =
-    let p = next-pow 2 i in
-    let p' = next-pow 4 i in
-    record {
-      most = omega arith;
-      value = omega (arith, ap (λ (x : ℕ). a * x) p');
-      left = omega arith;
-      short = omega arith;
-      small = omega arith;
-    }
+-- one turn
+module _ (a rest root remainder i : ℕ) (s : State a rest root remainder i) (h : i < 53) where
+  root-lt : root < 2 ^ 52
+  root-lt =
+      let k : i ≤ 52 = omega arith in
+      let p : 2 ^ i ≤ 2 ^ 52 = pow-mono k in
+      omega arith
 
-step-up : (a rest root rem i : ℕ) → State a rest root rem i → i < 53 → root * 4 + 1 ≤ rem * 4 + rest / 2 ^ 62
-    → State a ((rest * 2 ^ 2) % 2 ^ 64) (root * 2 + 1) (rem * 4 + rest / 2 ^ 62 - (root * 4 + 1)) (i + 1)
-step-up a rest root rem i s h k =
-    let p = next-pow 2 i in
-    let p' = next-pow 4 i in
-    record {
-      most = omega arith;
-      value = omega (arith, ap (λ (x : ℕ). a * x) p');
-      left = omega arith;
-      short = omega arith;
-      small = omega arith;
-    }
+  step : (r m : ℕ) → r < 2 ^ (i + 1) → m ≤ 2 * r → r * r + m ≡ 4 * (root * root) + (remainder * 4 + rest / 2 ^ 62)
+      → State a ((rest * 2 ^ 2) % 2 ^ 64) r m (i + 1)
+  step r m b l e =
+      let p = next-pow 4 i in
+      record {
+        most = omega arith;
+        value = omega (arith, ap (λ (x : ℕ). a * x) p);
+        left = omega arith;
+        short = l;
+        small = b;
+      }
+
+  zero-digit : remainder * 4 + rest / 2 ^ 62 < root * 4 + 1
+      → State a ((rest * 2 ^ 2) % 2 ^ 64) (root * 2) (remainder * 4 + rest / 2 ^ 62) (i + 1)
+  zero-digit k =
+      let p = next-pow 2 i in
+      step (root * 2) (remainder * 4 + rest / 2 ^ 62) (omega arith) (omega arith) (omega arith)
+
+  one-digit : root * 4 + 1 ≤ remainder * 4 + rest / 2 ^ 62
+      → State a ((rest * 2 ^ 2) % 2 ^ 64) (root * 2 + 1) (remainder * 4 + rest / 2 ^ 62 - (root * 4 + 1)) (i + 1)
+  one-digit k =
+      let p = next-pow 2 i in
+      step (root * 2 + 1) (remainder * 4 + rest / 2 ^ 62 - (root * 4 + 1)) (omega arith) (omega arith) (omega arith)
 
 loop-holds : tie.Need-loop-holds Inv-loop μ-loop
 loop-holds c = omega arith
 
--- at the head of a turn: root is below 2 ^ 52
 turn : (c : tie.In-loop Inv-loop μ-loop) → c .before .loop .root < 2 ^ 52
-turn c = let l = c .before .loop in root-lt (c .before .before .args .a) (l .rest) (l .root) (l .rem) (l .i) (l .inv) (c .loop-test .taken)
+turn c =
+    let l = c .before .loop in
+    root-lt (c .before .before .args .a) (l .rest) (l .root) (l .remainder) (l .i) (l .inv) (c .loop-test .taken)
 
 mul-next : tie.Need-mul-next Inv-loop μ-loop
 mul-next c = omega (arith, turn c)
@@ -90,29 +92,31 @@ add-i c = omega arith
 loop-less : tie.Need-loop-less Inv-loop μ-loop
 loop-less c = omega arith
 
-with : (a rest root root' rem rem' i : ℕ) → root' ≡ root → rem' ≡ rem → State a rest root rem i → State a rest root' rem' i
-with a rest root root' rem rem' i e f s = subst (λ (r : ℕ). State a rest r rem' i) (sym e) (subst (λ (r : ℕ). State a rest root r i) (sym f) s)
-
 loop-again : tie.Need-loop-again Inv-loop μ-loop
 loop-again c =
     let a = c .before .before .before .args .a in
     let l = c .before .before .loop in
     let h = c .before .loop-test .taken in
     ⊎-elim
-    (λ w. with a _ _ (c .if1 .root) _ (c .if1 .rem) _ (w .1) (w .2) (step-up a (l .rest) (l .root) (l .rem) (l .i) (l .inv) h (w .0 .taken)))
-    (λ w. with a _ _ (c .if1 .root) _ (c .if1 .rem) _ (w .1) (w .2) (step-down a (l .rest) (l .root) (l .rem) (l .i) (l .inv) h (w .0 .left)))
+    (λ w. rw (w .1, w .2) (one-digit a (l .rest) (l .root) (l .remainder) (l .i) (l .inv) h (w .0 .taken)))
+    (λ w. rw (w .1, w .2) (zero-digit a (l .rest) (l .root) (l .remainder) (l .i) (l .inv) h (w .0 .left)))
     (c .if1 .came)
 
--- where the loop ends, the 53 digits are there
-at-end : (a rest root rem i : ℕ) → State a rest root rem i → 53 ≤ i → (a * 2 ^ 42 ≡ root * root + rem) × (root < 2 ^ 53)
-at-end a rest root rem i s h =
+-- the last digit is found
+at-end : (a rest root remainder i : ℕ) → State a rest root remainder i → 53 ≤ i
+    → (a * 2 ^ 42 ≡ root * root + remainder) × (root < 2 ^ 53)
+at-end a rest root remainder i s h =
     let e : i ≡ 53 = omega arith in
-    let v : (root * root + rem) * 2 ^ 64 + rest ≡ a * 4 ^ 53 = subst (λ (k : ℕ). (root * root + rem) * 2 ^ 64 + rest ≡ a * 4 ^ k) e (s .value) in
-    let z : root < 2 ^ 53 = subst (λ (k : ℕ). root < 2 ^ k) e (s .small) in
+    let v : (root * root + remainder) * 2 ^ 64 + rest ≡ a * 4 ^ 53 = rw e at (s .value) in
+    let z : root < 2 ^ 53 = rw e at (s .small) in
     omega arith
 
-ended : (c : tie.After-loop Inv-loop μ-loop) → (c .before .before .args .a * 2 ^ 42 ≡ c .before .loop .root * c .before .loop .root + c .before .loop .rem) × (c .before .loop .root < 2 ^ 53)
-ended c = let l = c .before .loop in at-end (c .before .before .args .a) (l .rest) (l .root) (l .rem) (l .i) (l .inv) (c .loop-test .left)
+ended : (c : tie.After-loop Inv-loop μ-loop)
+    → (c .before .before .args .a * 2 ^ 42 ≡ c .before .loop .root * c .before .loop .root + c .before .loop .remainder)
+    × (c .before .loop .root < 2 ^ 53)
+ended c =
+    let l = c .before .loop in
+    at-end (c .before .before .args .a) (l .rest) (l .root) (l .remainder) (l .i) (l .inv) (c .loop-test .left)
 
 add-result : tie.Need-add-result Inv-loop μ-loop
 add-result c = omega (arith, ended (c .before))
@@ -122,14 +126,31 @@ returns c =
     let l = c .before .before .loop in
     let n = c .before .before .before .args .a * 2 ^ 42 in
     let b : n < 2 ^ 106 = omega arith in
-    sym (near-up n (l .root) (l .rem) b (ended (c .before) .0) (c .if2 .taken) (l .inv .short))
+    sym (rounded-up n (l .root) (l .remainder) b (ended (c .before) .0) (c .if2 .taken) (l .inv .short))
 
 returns-2 : tie.Need-returns-2 Inv-loop μ-loop
 returns-2 c =
     let l = c .before .before .loop in
     let n = c .before .before .before .args .a * 2 ^ 42 in
     let b : n < 2 ^ 106 = omega arith in
-    sym (near-down n (l .root) (l .rem) b (ended (c .before) .0) (c .if2 .left))
+    sym (rounded-down n (l .root) (l .remainder) b (ended (c .before) .0) (c .if2 .left))
 
 pub digits-spec : {M : Type 1} → statement M
-digits-spec = tie.close (tie.spec Inv-loop μ-loop loop-holds mul-next add-next mul-trial add-trial mul-root add-root add-i loop-less loop-again add-result returns returns-2)
+digits-spec =
+    tie.close
+    (tie.spec
+    Inv-loop
+    μ-loop
+    loop-holds
+    mul-next
+    add-next
+    mul-trial
+    add-trial
+    mul-root
+    add-root
+    add-i
+    loop-less
+    loop-again
+    add-result
+    returns
+    returns-2)

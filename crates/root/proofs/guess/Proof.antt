@@ -1,13 +1,11 @@
--- `root::guess` meets its contract. Assumes nothing.
+-- `root::guess` meets its contract: the bits of no float that it reads are a NaN's, and each answer is in range by the
+-- test before it. Assumes nothing.
 use borrow.Author.Needs.{needs}
+use Prim.Native.Nat.{_-_, _/_}
+use native.Mathlib.Omega.{arith}
+use Rattle.float.proofs.Patterns.{no-nan, no-nan-bits}
 use Rattle.root.proofs.guess.Statement.{statement}
 use Rattle.root.proofs.guess.Tie as tie
-use Rattle.root.proofs.guess.Reads as reads
-use Rattle.root.proofs.guess.Lts as lts
-use mathlib.Core.Path.{_≡_}
-use Prim.Native.Nat.{_+_, _-_, _*_, _/_, _^_, _≤_, _<_}
-use native.Mathlib.Omega.{arith}
-use Rattle.root.proofs.Nans.{no-nan, no-nan-bits}
 
 float-from-bits-x : tie.Need-float-from-bits-x
 float-from-bits-x c = no-nan-bits (c .args .bits) (omega arith)

@@ -1,14 +1,12 @@
+-- `root::nearest` meets its contract: an answer that is not 0 was settled, and the digits are those of the same number.
+-- Assumes nothing.
 use borrow.Author.Needs.{needs}
+use mathlib.Core.Path.{ap, _∙_}
+use Prim.Native.Nat.{ℕ}
+use native.Mathlib.Omega.{arith}
+use Rattle.root.specs.Root.{roundedRoot}
 use Rattle.root.proofs.nearest.Statement.{statement}
 use Rattle.root.proofs.nearest.Tie as tie
-use Rattle.root.proofs.nearest.Reads as reads
-use Rattle.root.proofs.nearest.Lts as lts
-use Rattle.root.proofs.digits.Reads as digits-reads
-use Rattle.root.proofs.guess.Reads as guess-reads
-use Rattle.root.proofs.settle.Reads as settle-reads
-use mathlib.Core.Path.{_≡_, ap, _∙_}
-use native.Mathlib.Omega.{arith}
-use Rattle.root.specs.Root.{near}
 
 guess-requires : tie.Need-guess-requires
 guess-requires c κs = search needs
@@ -23,7 +21,7 @@ digits-requires : tie.Need-digits-requires
 digits-requires c κs = search needs
 
 returns : tie.Need-returns
-returns c = c .digits .ensures ∙ ap near (omega arith)
+returns c = c .digits .ensures ∙ ap (λ (n : ℕ). roundedRoot 0 n) (omega arith)
 
 returns-2 : tie.Need-returns-2
 returns-2 c = c .before .settle .ensures (c .if1 .left)
