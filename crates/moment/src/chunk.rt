@@ -4,6 +4,9 @@ ghost use lib.ListN.{length};
 ghost use Rattle.trace.specs.Trace.{validAt, bothAt};
 ghost use Rattle.moment.specs.Chunks.{Filled};
 
+// How many readings a chunk holds.
+const CHUNK_SIZE: usize = 128;
+
 // Where filling stopped: the first place not looked at, and how many readings the chunk holds.
 pub struct Stop {
     pub place: usize,
@@ -19,7 +22,7 @@ pub fn fill(values: &[f64], has_map: bool, map: &[u8], place: usize, chunk: &mut
     let mut at = place;
     let mut count = 0;
     while at < values.len() {
-        if count == 128 {
+        if count == CHUNK_SIZE {
             return Stop { place: at, count };
         }
         chunk[count] = values[at];
@@ -48,7 +51,7 @@ pub fn fill_pairs(
     let mut at = place;
     let mut count = 0;
     while at < x.len() {
-        if count == 128 {
+        if count == CHUNK_SIZE {
             return Stop { place: at, count };
         }
         x_chunk[count] = x[at];
