@@ -9,10 +9,10 @@ use lib.Ieee.{Float, isNan, eq, le, ofBits, ofInt}
 use Rattle.float.specs.Operators.{_⊖_, _⊗_, _⊘_, zero64, two64, three64, count}
 use Rattle.float.proofs.Counts.{count-zero}
 use Rattle.float.proofs.Signs.{nan-or-at-least-zero}
-use Rattle.moment.specs.declared.VarState.{VarState}
-use Rattle.moment.specs.declared.CovState.{CovState}
-use Rattle.moment.specs.declared.SkewState.{SkewState}
-use Rattle.moment.specs.declared.KurtosisState.{KurtosisState}
+use Rattle.moment.specs.declared.var_state.VarState.{VarState}
+use Rattle.moment.specs.declared.cov_state.CovState.{CovState}
+use Rattle.moment.specs.declared.skew_state.SkewState.{SkewState}
+use Rattle.moment.specs.declared.kurtosis_state.KurtosisState.{KurtosisState}
 use Rattle.moment.specs.declared.Figure.{Figure}
 use Rattle.moment.specs.declared.Figure.the-variants.{Missing, Present}
 use Rattle.moment.specs.Var.{notNegative, varFinalize}

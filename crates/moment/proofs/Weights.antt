@@ -11,11 +11,11 @@ use lib.ListN.{length}
 use lib.Ieee.{Float, eq, le}
 use Rattle.float.specs.Operators.{_⊕_, zero64, one64, count}
 use Rattle.float.proofs.Counts.{count-one, count-add, count-zero, count-le}
-use Rattle.moment.specs.declared.VarState.{VarState}
-use Rattle.moment.specs.declared.CovState.{CovState}
-use Rattle.moment.specs.declared.PearsonState.{PearsonState}
-use Rattle.moment.specs.declared.SkewState.{SkewState}
-use Rattle.moment.specs.declared.KurtosisState.{KurtosisState}
+use Rattle.moment.specs.declared.var_state.VarState.{VarState}
+use Rattle.moment.specs.declared.cov_state.CovState.{CovState}
+use Rattle.moment.specs.declared.pearson_state.PearsonState.{PearsonState}
+use Rattle.moment.specs.declared.skew_state.SkewState.{SkewState}
+use Rattle.moment.specs.declared.kurtosis_state.KurtosisState.{KurtosisState}
 use Rattle.moment.specs.Var.{varEmpty, varClear, varInsert, varMerge, varCombine}
 use Rattle.moment.specs.Cov.{covInsert, covMerge, covCombine}
 use Rattle.moment.specs.Pearson.{pearsonInsert, pearsonMerge, pearsonCombine}

@@ -14,11 +14,11 @@ use Rattle.moment.specs.Kurtosis.{kurtosisEmpty, kurtosisNew, kurtosisCo
 use Rattle.trace.specs.Trace.{validAt, validFrom, validReadings, validPairs}
 use Rattle.trace.specs.Refusals.{arrayRefusal, pairRefusal, rangeRefusal}
 use Rattle.moment.specs.Chunks.{inChunks}
-use Rattle.moment.specs.declared.VarState.{VarState}
-use Rattle.moment.specs.declared.CovState.{CovState}
-use Rattle.moment.specs.declared.PearsonState.{PearsonState}
-use Rattle.moment.specs.declared.SkewState.{SkewState}
-use Rattle.moment.specs.declared.KurtosisState.{KurtosisState}
+use Rattle.moment.specs.declared.var_state.VarState.{VarState}
+use Rattle.moment.specs.declared.cov_state.CovState.{CovState}
+use Rattle.moment.specs.declared.pearson_state.PearsonState.{PearsonState}
+use Rattle.moment.specs.declared.skew_state.SkewState.{SkewState}
+use Rattle.moment.specs.declared.kurtosis_state.KurtosisState.{KurtosisState}
 use Rattle.moment.specs.declared.VarAnswer.{VarAnswer}
 use Rattle.moment.specs.declared.VarAnswer.the-variants as var
 use Rattle.moment.specs.declared.CovAnswer.{CovAnswer}

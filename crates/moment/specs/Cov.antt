@@ -8,7 +8,7 @@ use lib.ListN.{length}
 use lib.Ieee.{Float, eq, le}
 use Rattle.float.specs.Operators.{_⊕_, _⊖_, _⊗_, _⊘_, zero64, one64, count}
 use Rattle.moment.specs.Sums.{sumOf, firstOf, secondOf, product}
-use Rattle.moment.specs.declared.CovState.{CovState}
+use Rattle.moment.specs.declared.cov_state.CovState.{CovState}
 use Rattle.moment.specs.declared.Figure.{Figure}
 use Rattle.moment.specs.declared.Figure.the-variants.{Missing, Present}
 

@@ -8,7 +8,7 @@ use Rattle.float.specs.Operators.{_⊕_, _⊖_, _⊗_, _⊘_, zero64, one64, tw
 use Rattle.moment.specs.Sums.{sumOf, square, cube, fourth}
 use Rattle.moment.specs.Var.{meanOf}
 use Rattle.moment.specs.Skew.{isZero}
-use Rattle.moment.specs.declared.KurtosisState.{KurtosisState}
+use Rattle.moment.specs.declared.kurtosis_state.KurtosisState.{KurtosisState}
 use Rattle.moment.specs.declared.Figure.{Figure}
 use Rattle.moment.specs.declared.Figure.the-variants.{Missing, Present}
 

@@ -9,7 +9,7 @@ use Rattle.float.specs.Operators.{_⊕_, _⊖_, _⊗_, _⊘_, zero64, one64, co
 use Rattle.root.specs.Root.{root}
 use Rattle.moment.specs.Sums.{sumOf, firstOf, secondOf, product}
 use Rattle.moment.specs.Cov.{pairMean}
-use Rattle.moment.specs.declared.PearsonState.{PearsonState}
+use Rattle.moment.specs.declared.pearson_state.PearsonState.{PearsonState}
 
 -- `PearsonState::default`
 abbrev pub pearsonEmpty : PearsonState

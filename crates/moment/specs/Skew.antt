@@ -9,7 +9,7 @@ use Rattle.float.specs.Operators.{_⊕_, _⊖_, _⊗_, _⊘_, zero64, one64, tw
 use Rattle.root.specs.Root.{root}
 use Rattle.moment.specs.Sums.{sumOf, square, cube}
 use Rattle.moment.specs.Var.{meanOf}
-use Rattle.moment.specs.declared.SkewState.{SkewState}
+use Rattle.moment.specs.declared.skew_state.SkewState.{SkewState}
 use Rattle.moment.specs.declared.Figure.{Figure}
 use Rattle.moment.specs.declared.Figure.the-variants.{Missing, Present}
 

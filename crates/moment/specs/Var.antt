@@ -8,7 +8,7 @@ use lib.ListN.{length}
 use lib.Ieee.{Float, eq, lt, le}
 use Rattle.float.specs.Operators.{_⊕_, _⊖_, _⊗_, _⊘_, zero64, one64, count}
 use Rattle.moment.specs.Sums.{sumOf, itself, square}
-use Rattle.moment.specs.declared.VarState.{VarState}
+use Rattle.moment.specs.declared.var_state.VarState.{VarState}
 use Rattle.moment.specs.declared.Figure.{Figure}
 use Rattle.moment.specs.declared.Figure.the-variants.{Missing, Present}
 

@@ -8,14 +8,20 @@ ghost use Rattle.moment.specs.Chunks.{Filled};
 const CHUNK_SIZE: usize = 128;
 
 // Where filling stopped: the first place not looked at, and how many readings the chunk holds.
-pub struct Stop {
-    pub place: usize,
-    pub count: usize,
+pub(crate) struct Stop {
+    pub(crate) place: usize,
+    pub(crate) count: usize,
 }
 
 // Fills the chunk with the valid readings from `place` on, 128 or all that are left. A reading is stored before its
 // validity is known and counted by it: that has no branch, and a missing one is overwritten by the next.
-pub fn fill(values: &[f64], has_map: bool, map: &[u8], place: usize, chunk: &mut [f64]) -> Stop
+pub(crate) fn fill(
+    values: &[f64],
+    has_map: bool,
+    map: &[u8],
+    place: usize,
+    chunk: &mut [f64],
+) -> Stop
     requires { ⌜ length (now chunk) ≡ 128 ⌝ }
     ensures { λ r. ⌜ Filled (validAt «has_map» (now (map .entry))) (now (values .entry)) place (r .place) (r .count) (now (chunk .exit)) ⌝ }
 {
@@ -33,7 +39,7 @@ pub fn fill(values: &[f64], has_map: bool, map: &[u8], place: usize, chunk: &mut
 }
 
 // The same for two traces, with the places that are valid in both.
-pub fn fill_pairs(
+pub(crate) fn fill_pairs(
     x: &[f64],
     x_has_map: bool,
     x_map: &[u8],

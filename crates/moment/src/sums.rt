@@ -5,7 +5,7 @@ ghost use lib.ListN.{length};
 ghost use Rattle.moment.specs.Sums.{sumOf, itself, square};
 ghost use Rattle.trace.specs.Trace.{validAt, validFrom};
 
-pub fn sum(x: &[f64]) -> f64
+pub(crate) fn sum(x: &[f64]) -> f64
     ensures { λ r. ⌜ r ≡ sumOf itself (now (x .entry)) ⌝ }
 {
     let mut t = 0.0;
@@ -17,7 +17,7 @@ pub fn sum(x: &[f64]) -> f64
     t
 }
 
-pub fn squares(x: &[f64], mean: f64) -> f64
+pub(crate) fn squares(x: &[f64], mean: f64) -> f64
     ensures { λ r. ⌜ r ≡ sumOf (square mean) (now (x .entry)) ⌝ }
 {
     let mut t = 0.0;
@@ -31,13 +31,13 @@ pub fn squares(x: &[f64], mean: f64) -> f64
 }
 
 // How many readings there are, and their sum.
-pub struct Total {
-    pub count: usize,
-    pub sum: f64,
+pub(crate) struct Total {
+    pub(crate) count: usize,
+    pub(crate) sum: f64,
 }
 
 // The total of the valid readings of a part that starts at place `start` of its trace.
-pub fn valid_total(part: &[f64], has_map: bool, map: &[u8], start: usize) -> Total
+pub(crate) fn valid_total(part: &[f64], has_map: bool, map: &[u8], start: usize) -> Total
     requires { ⌜ start + length (now part) < 2 ^ 64 ⌝ }
     ensures count { λ r. ⌜ r .count ≡ length (validFrom (validAt «has_map» (now (map .entry))) start (now (part .entry))) ⌝ }
     ensures sum { λ r. ⌜ r .sum ≡ sumOf itself (validFrom (validAt «has_map» (now (map .entry))) start (now (part .entry))) ⌝ }

@@ -22,17 +22,34 @@ use moment::VarAnswer;
 use moment::VarState;
 
 // Whole arrays and ranges: 0 and the state's members, or a refusal's number and the state as it was.
-#[no_mangle]
-pub extern "C" fn moments_var(trace: &[f64], has_map: bool, map: &[u8], state: &mut [f64; 3]) -> u32
-    ensures { λ r. ⌜ Handed varNumber varMembers (varAnswer (now (trace .entry)) «has_map» (now (map .entry))) (now (state .entry)) r (now (state .exit)) ⌝ }
+fn hand_var(answer: VarAnswer, state: &mut [f64; 3]) -> u32
+    ensures { λ r. ⌜ Handed varNumber varMembers answer (now (state .entry)) r (now (state .exit)) ⌝ }
 {
-    let answer = moment::var(trace, has_map, map);
     match answer {
         VarAnswer::State(s) => {
             *state = [s.weight, s.mean, s.dp];
             0
         }
         VarAnswer::Refused(number) => number,
+    }
+}
+
+#[no_mangle]
+pub extern "C" fn moments_var(trace: &[f64], has_map: bool, map: &[u8], state: &mut [f64; 3]) -> u32
+    ensures { λ r. ⌜ Handed varNumber varMembers (varAnswer (now (trace .entry)) «has_map» (now (map .entry))) (now (state .entry)) r (now (state .exit)) ⌝ }
+{
+    hand_var(moment::var(trace, has_map, map), state)
+}
+
+fn hand_skew(answer: SkewAnswer, state: &mut [f64; 4]) -> u32
+    ensures { λ r. ⌜ Handed skewNumber skewMembers answer (now (state .entry)) r (now (state .exit)) ⌝ }
+{
+    match answer {
+        SkewAnswer::State(s) => {
+            *state = [s.weight, s.mean, s.m2, s.m3];
+            0
+        }
+        SkewAnswer::Refused(number) => number,
     }
 }
 
@@ -45,13 +62,35 @@ pub extern "C" fn moments_skew(
 ) -> u32
     ensures { λ r. ⌜ Handed skewNumber skewMembers (skewAnswer (now (trace .entry)) «has_map» (now (map .entry))) (now (state .entry)) r (now (state .exit)) ⌝ }
 {
-    let answer = moment::skew(trace, has_map, map);
+    hand_skew(moment::skew(trace, has_map, map), state)
+}
+
+#[no_mangle]
+pub extern "C" fn moments_skew_range(
+    trace: &[f64],
+    has_map: bool,
+    map: &[u8],
+    start: usize,
+    length: usize,
+    state: &mut [f64; 4],
+) -> u32
+    ensures { λ r. ⌜ Handed skewNumber skewMembers (skewRange (now (trace .entry)) «has_map» (now (map .entry)) start length) (now (state .entry)) r (now (state .exit)) ⌝ }
+{
+    hand_skew(
+        SkewState::from_array(trace, has_map, map, start, length),
+        state,
+    )
+}
+
+fn hand_kurtosis(answer: KurtosisAnswer, state: &mut [f64; 5]) -> u32
+    ensures { λ r. ⌜ Handed kurtosisNumber kurtosisMembers answer (now (state .entry)) r (now (state .exit)) ⌝ }
+{
     match answer {
-        SkewAnswer::State(s) => {
-            *state = [s.weight, s.mean, s.m2, s.m3];
+        KurtosisAnswer::State(s) => {
+            *state = [s.weight, s.mean, s.m2, s.m3, s.m4];
             0
         }
-        SkewAnswer::Refused(number) => number,
+        KurtosisAnswer::Refused(number) => number,
     }
 }
 
@@ -64,13 +103,35 @@ pub extern "C" fn moments_kurtosis(
 ) -> u32
     ensures { λ r. ⌜ Handed kurtosisNumber kurtosisMembers (kurtosisAnswer (now (trace .entry)) «has_map» (now (map .entry))) (now (state .entry)) r (now (state .exit)) ⌝ }
 {
-    let answer = moment::kurtosis(trace, has_map, map);
+    hand_kurtosis(moment::kurtosis(trace, has_map, map), state)
+}
+
+#[no_mangle]
+pub extern "C" fn moments_kurtosis_range(
+    trace: &[f64],
+    has_map: bool,
+    map: &[u8],
+    start: usize,
+    length: usize,
+    state: &mut [f64; 5],
+) -> u32
+    ensures { λ r. ⌜ Handed kurtosisNumber kurtosisMembers (kurtosisRange (now (trace .entry)) «has_map» (now (map .entry)) start length) (now (state .entry)) r (now (state .exit)) ⌝ }
+{
+    hand_kurtosis(
+        KurtosisState::from_array(trace, has_map, map, start, length),
+        state,
+    )
+}
+
+fn hand_cov(answer: CovAnswer, state: &mut [f64; 4]) -> u32
+    ensures { λ r. ⌜ Handed covNumber covMembers answer (now (state .entry)) r (now (state .exit)) ⌝ }
+{
     match answer {
-        KurtosisAnswer::State(s) => {
-            *state = [s.weight, s.mean, s.m2, s.m3, s.m4];
+        CovAnswer::State(s) => {
+            *state = [s.weight, s.mean_x, s.mean_y, s.dp_xy];
             0
         }
-        KurtosisAnswer::Refused(number) => number,
+        CovAnswer::Refused(number) => number,
     }
 }
 
@@ -86,13 +147,18 @@ pub extern "C" fn moments_cov(
 ) -> u32
     ensures { λ r. ⌜ Handed covNumber covMembers (covAnswer (now (x .entry)) «x_has_map» (now («x_map» .entry)) (now (y .entry)) «y_has_map» (now («y_map» .entry))) (now (state .entry)) r (now (state .exit)) ⌝ }
 {
-    let answer = moment::cov(x, x_has_map, x_map, y, y_has_map, y_map);
+    hand_cov(moment::cov(x, x_has_map, x_map, y, y_has_map, y_map), state)
+}
+
+fn hand_pearson(answer: PearsonAnswer, state: &mut [f64; 6]) -> u32
+    ensures { λ r. ⌜ Handed pearsonNumber pearsonMembers answer (now (state .entry)) r (now (state .exit)) ⌝ }
+{
     match answer {
-        CovAnswer::State(s) => {
-            *state = [s.weight, s.mean_x, s.mean_y, s.dp_xy];
+        PearsonAnswer::State(s) => {
+            *state = [s.weight, s.mean_x, s.mean_y, s.dp_xx, s.dp_xy, s.dp_yy];
             0
         }
-        CovAnswer::Refused(number) => number,
+        PearsonAnswer::Refused(number) => number,
     }
 }
 
@@ -108,56 +174,10 @@ pub extern "C" fn moments_pearson_corr(
 ) -> u32
     ensures { λ r. ⌜ Handed pearsonNumber pearsonMembers (pearsonAnswer (now (x .entry)) «x_has_map» (now («x_map» .entry)) (now (y .entry)) «y_has_map» (now («y_map» .entry))) (now (state .entry)) r (now (state .exit)) ⌝ }
 {
-    let answer = moment::pearson_corr(x, x_has_map, x_map, y, y_has_map, y_map);
-    match answer {
-        PearsonAnswer::State(s) => {
-            *state = [s.weight, s.mean_x, s.mean_y, s.dp_xx, s.dp_xy, s.dp_yy];
-            0
-        }
-        PearsonAnswer::Refused(number) => number,
-    }
-}
-
-#[no_mangle]
-pub extern "C" fn moments_skew_range(
-    trace: &[f64],
-    has_map: bool,
-    map: &[u8],
-    start: usize,
-    length: usize,
-    state: &mut [f64; 4],
-) -> u32
-    ensures { λ r. ⌜ Handed skewNumber skewMembers (skewRange (now (trace .entry)) «has_map» (now (map .entry)) start length) (now (state .entry)) r (now (state .exit)) ⌝ }
-{
-    let answer = SkewState::from_array(trace, has_map, map, start, length);
-    match answer {
-        SkewAnswer::State(s) => {
-            *state = [s.weight, s.mean, s.m2, s.m3];
-            0
-        }
-        SkewAnswer::Refused(number) => number,
-    }
-}
-
-#[no_mangle]
-pub extern "C" fn moments_kurtosis_range(
-    trace: &[f64],
-    has_map: bool,
-    map: &[u8],
-    start: usize,
-    length: usize,
-    state: &mut [f64; 5],
-) -> u32
-    ensures { λ r. ⌜ Handed kurtosisNumber kurtosisMembers (kurtosisRange (now (trace .entry)) «has_map» (now (map .entry)) start length) (now (state .entry)) r (now (state .exit)) ⌝ }
-{
-    let answer = KurtosisState::from_array(trace, has_map, map, start, length);
-    match answer {
-        KurtosisAnswer::State(s) => {
-            *state = [s.weight, s.mean, s.m2, s.m3, s.m4];
-            0
-        }
-        KurtosisAnswer::Refused(number) => number,
-    }
+    hand_pearson(
+        moment::pearson_corr(x, x_has_map, x_map, y, y_has_map, y_map),
+        state,
+    )
 }
 
 // States.
@@ -165,49 +185,49 @@ pub extern "C" fn moments_kurtosis_range(
 pub extern "C" fn moments_var_insert_one(state: VarState, x: f64) -> VarState
     ensures { λ r. ⌜ r ≡ varInsert state x ⌝ }
 {
-    state.insert_one(x)
+    VarState::insert_one(state, x)
 }
 
 #[no_mangle]
 pub extern "C" fn moments_skew_insert_one(state: SkewState, x: f64) -> SkewState
     ensures { λ r. ⌜ r ≡ skewInsert state x ⌝ }
 {
-    state.insert_one(x)
+    SkewState::insert_one(state, x)
 }
 
 #[no_mangle]
 pub extern "C" fn moments_kurtosis_insert_one(state: KurtosisState, x: f64) -> KurtosisState
     ensures { λ r. ⌜ r ≡ kurtosisInsert state x ⌝ }
 {
-    state.insert_one(x)
+    KurtosisState::insert_one(state, x)
 }
 
 #[no_mangle]
 pub extern "C" fn moments_cov_insert_one(state: CovState, x: f64, y: f64) -> CovState
     ensures { λ r. ⌜ r ≡ covInsert state x y ⌝ }
 {
-    state.insert_one(x, y)
+    CovState::insert_one(state, x, y)
 }
 
 #[no_mangle]
 pub extern "C" fn moments_pearson_insert_one(state: PearsonState, x: f64, y: f64) -> PearsonState
     ensures { λ r. ⌜ r ≡ pearsonInsert state x y ⌝ }
 {
-    state.insert_one(x, y)
+    PearsonState::insert_one(state, x, y)
 }
 
 #[no_mangle]
 pub extern "C" fn moments_var_combine(state: VarState, other: VarState) -> VarState
     ensures { λ r. ⌜ r ≡ varCombine state other ⌝ }
 {
-    state.combine(other)
+    VarState::combine(state, other)
 }
 
 #[no_mangle]
 pub extern "C" fn moments_skew_combine(state: SkewState, other: SkewState) -> SkewState
     ensures { λ r. ⌜ r ≡ skewCombine state other ⌝ }
 {
-    state.combine(other)
+    SkewState::combine(state, other)
 }
 
 #[no_mangle]
@@ -217,21 +237,21 @@ pub extern "C" fn moments_kurtosis_combine(
 ) -> KurtosisState
     ensures { λ r. ⌜ r ≡ kurtosisCombine state other ⌝ }
 {
-    state.combine(other)
+    KurtosisState::combine(state, other)
 }
 
 #[no_mangle]
 pub extern "C" fn moments_cov_combine(state: CovState, other: CovState) -> CovState
     ensures { λ r. ⌜ r ≡ covCombine state other ⌝ }
 {
-    state.combine(other)
+    CovState::combine(state, other)
 }
 
 #[no_mangle]
 pub extern "C" fn moments_pearson_combine(state: PearsonState, other: PearsonState) -> PearsonState
     ensures { λ r. ⌜ r ≡ pearsonCombine state other ⌝ }
 {
-    state.combine(other)
+    PearsonState::combine(state, other)
 }
 
 // Writes a figure's double and answers its byte.
@@ -250,21 +270,21 @@ fn write(answer: Figure, figure: &mut f64) -> u8
 pub extern "C" fn moments_var_finalize(state: VarState, ddof: u8, figure: &mut f64) -> u8
     ensures { λ r. ⌜ Written (varFinalize state ddof) r (now (figure .exit)) ⌝ }
 {
-    write(state.finalize(ddof), figure)
+    write(VarState::finalize(state, ddof), figure)
 }
 
 #[no_mangle]
 pub extern "C" fn moments_cov_finalize(state: CovState, ddof: u8, figure: &mut f64) -> u8
     ensures { λ r. ⌜ Written (covFinalize state ddof) r (now (figure .exit)) ⌝ }
 {
-    write(state.finalize(ddof), figure)
+    write(CovState::finalize(state, ddof), figure)
 }
 
 #[no_mangle]
 pub extern "C" fn moments_skew_finalize(state: SkewState, bias: bool, figure: &mut f64) -> u8
     ensures { λ r. ⌜ Written (skewFinalize state bias) r (now (figure .exit)) ⌝ }
 {
-    write(state.finalize(bias), figure)
+    write(SkewState::finalize(state, bias), figure)
 }
 
 #[no_mangle]
@@ -276,14 +296,14 @@ pub extern "C" fn moments_kurtosis_finalize(
 ) -> u8
     ensures { λ r. ⌜ Written (kurtosisFinalize state fisher bias) r (now (figure .exit)) ⌝ }
 {
-    write(state.finalize(fisher, bias), figure)
+    write(KurtosisState::finalize(state, fisher, bias), figure)
 }
 
 #[no_mangle]
 pub extern "C" fn moments_pearson_finalize(state: PearsonState) -> f64
     ensures { λ r. ⌜ r ≡ pearsonFinalize state ⌝ }
 {
-    float::canonical(state.finalize())
+    float::canonical(PearsonState::finalize(state))
 }
 
 #[no_mangle]

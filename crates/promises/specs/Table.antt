@@ -8,7 +8,7 @@ use lib.IntN.{negsuc}
 use lib.Ieee.{Float, nan, inf, binary64, ofBits, toBits, ofInt}
 use Rattle.float.specs.Operators.{zero64, one64, count}
 use Rattle.root.specs.Root.{root}
-use Rattle.moment.specs.declared.VarState.{VarState}
+use Rattle.moment.specs.declared.var_state.VarState.{VarState}
 use Rattle.moment.specs.declared.Figure.{Figure}
 use Rattle.moment.specs.declared.Figure.the-variants.{Missing, Present}
 use Rattle.moment.specs.declared.SkewAnswer.{SkewAnswer}

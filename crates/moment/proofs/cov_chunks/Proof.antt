@@ -6,7 +6,7 @@ use mathlib.Core.List.{[]}
 use native.Mathlib.Omega.{arith}
 use lib.ListN.{length}
 use lib.Ieee.{eq, ofBits}
-use Rattle.moment.specs.declared.CovState.{CovState}
+use Rattle.moment.specs.declared.cov_state.CovState.{CovState}
 use Rattle.trace.specs.Trace.{bothAt}
 use Rattle.moment.specs.Cov.{covEmpty, covNew, covCombine}
 use Rattle.moment.proofs.Filling.{part-long}

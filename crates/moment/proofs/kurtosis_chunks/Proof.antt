@@ -6,7 +6,7 @@ use mathlib.Core.List.{[]}
 use native.Mathlib.Omega.{arith}
 use lib.ListN.{length}
 use lib.Ieee.{eq, ofBits}
-use Rattle.moment.specs.declared.KurtosisState.{KurtosisState}
+use Rattle.moment.specs.declared.kurtosis_state.KurtosisState.{KurtosisState}
 use Rattle.trace.specs.Trace.{validAt}
 use Rattle.moment.specs.Kurtosis.{kurtosisEmpty, kurtosisNew, kurtosisCombine}
 use Rattle.moment.proofs.Filling.{part-long}

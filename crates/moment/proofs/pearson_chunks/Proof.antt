@@ -6,7 +6,7 @@ use mathlib.Core.List.{[]}
 use native.Mathlib.Omega.{arith}
 use lib.ListN.{length}
 use lib.Ieee.{eq, ofBits}
-use Rattle.moment.specs.declared.PearsonState.{PearsonState}
+use Rattle.moment.specs.declared.pearson_state.PearsonState.{PearsonState}
 use Rattle.trace.specs.Trace.{bothAt}
 use Rattle.moment.specs.Pearson.{pearsonEmpty, pearsonNew, pearsonCombine}
 use Rattle.moment.proofs.Filling.{part-long}

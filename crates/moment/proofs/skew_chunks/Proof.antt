@@ -6,7 +6,7 @@ use mathlib.Core.List.{[]}
 use native.Mathlib.Omega.{arith}
 use lib.ListN.{length}
 use lib.Ieee.{eq, ofBits}
-use Rattle.moment.specs.declared.SkewState.{SkewState}
+use Rattle.moment.specs.declared.skew_state.SkewState.{SkewState}
 use Rattle.trace.specs.Trace.{validAt}
 use Rattle.moment.specs.Skew.{skewEmpty, skewNew, skewCombine}
 use Rattle.moment.proofs.Filling.{part-long}

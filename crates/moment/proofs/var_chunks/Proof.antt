@@ -6,7 +6,7 @@ use mathlib.Core.List.{[]}
 use native.Mathlib.Omega.{arith}
 use lib.ListN.{length}
 use lib.Ieee.{eq, ofBits}
-use Rattle.moment.specs.declared.VarState.{VarState}
+use Rattle.moment.specs.declared.var_state.VarState.{VarState}
 use Rattle.trace.specs.Trace.{validAt}
 use Rattle.moment.specs.Var.{varEmpty, varNew, varCombine}
 use Rattle.moment.proofs.Filling.{part-long}

@@ -1,23 +1,16 @@
--- By the two cases of the answer. Assumes nothing.
+-- The answer is handed out as it is. Assumes nothing.
 use borrow.Author.Needs.{needs}
-use mathlib.Core.Path.{refl}
 use Rattle.moments.proofs.moments_cov.Statement.{statement}
 use Rattle.moments.proofs.moments_cov.Tie as tie
 
 cov-requires : tie.Need-cov-requires
 cov-requires c κs = search needs
 
-enum-known-answer : tie.Need-enum-known-answer
-enum-known-answer c = search needs
-
-enum-known-answer-2 : tie.Need-enum-known-answer-2
-enum-known-answer-2 c = search needs
+hand-cov-requires : tie.Need-hand-cov-requires
+hand-cov-requires c κs = search needs
 
 returns : tie.Need-returns
-returns c = rw (← c .before .before .before .before .cov .ensures, c .before .before .answer .given .1) record { number = refl; state = refl }
-
-returns-2 : tie.Need-returns-2
-returns-2 c = rw (← c .before .before .before .cov .ensures, c .before .answer2 .given .1) record { number = refl; state = refl }
+returns c = rw (← c .before .before .cov .ensures) (c .hand-cov .ensures)
 
 pub moments-cov-spec : {M : Type 1} → statement M
-moments-cov-spec = tie.close (tie.spec cov-requires enum-known-answer enum-known-answer-2 returns returns-2)
+moments-cov-spec = tie.close (tie.spec cov-requires hand-cov-requires returns)

@@ -1,23 +1,16 @@
--- By the two cases of the answer. Assumes nothing.
+-- The answer is handed out as it is. Assumes nothing.
 use borrow.Author.Needs.{needs}
-use mathlib.Core.Path.{refl}
 use Rattle.moments.proofs.moments_kurtosis_range.Statement.{statement}
 use Rattle.moments.proofs.moments_kurtosis_range.Tie as tie
 
 from-array-requires : tie.Need-from-array-requires
 from-array-requires c κs = search needs
 
-enum-known-answer : tie.Need-enum-known-answer
-enum-known-answer c = search needs
-
-enum-known-answer-2 : tie.Need-enum-known-answer-2
-enum-known-answer-2 c = search needs
+hand-kurtosis-requires : tie.Need-hand-kurtosis-requires
+hand-kurtosis-requires c κs = search needs
 
 returns : tie.Need-returns
-returns c = rw (← c .before .before .before .before .from-array .ensures, c .before .before .answer .given .1) record { number = refl; state = refl }
-
-returns-2 : tie.Need-returns-2
-returns-2 c = rw (← c .before .before .before .from-array .ensures, c .before .answer2 .given .1) record { number = refl; state = refl }
+returns c = rw (← c .before .before .from-array .ensures) (c .hand-kurtosis .ensures)
 
 pub moments-kurtosis-range-spec : {M : Type 1} → statement M
-moments-kurtosis-range-spec = tie.close (tie.spec from-array-requires enum-known-answer enum-known-answer-2 returns returns-2)
+moments-kurtosis-range-spec = tie.close (tie.spec from-array-requires hand-kurtosis-requires returns)

@@ -1,23 +1,16 @@
--- By the two cases of the answer. Assumes nothing.
+-- The answer is handed out as it is. Assumes nothing.
 use borrow.Author.Needs.{needs}
-use mathlib.Core.Path.{refl}
 use Rattle.moments.proofs.moments_pearson_corr.Statement.{statement}
 use Rattle.moments.proofs.moments_pearson_corr.Tie as tie
 
 pearson-corr-requires : tie.Need-pearson-corr-requires
 pearson-corr-requires c κs = search needs
 
-enum-known-answer : tie.Need-enum-known-answer
-enum-known-answer c = search needs
-
-enum-known-answer-2 : tie.Need-enum-known-answer-2
-enum-known-answer-2 c = search needs
+hand-pearson-requires : tie.Need-hand-pearson-requires
+hand-pearson-requires c κs = search needs
 
 returns : tie.Need-returns
-returns c = rw (← c .before .before .before .before .pearson-corr .ensures, c .before .before .answer .given .1) record { number = refl; state = refl }
-
-returns-2 : tie.Need-returns-2
-returns-2 c = rw (← c .before .before .before .pearson-corr .ensures, c .before .answer2 .given .1) record { number = refl; state = refl }
+returns c = rw (← c .before .before .pearson-corr .ensures) (c .hand-pearson .ensures)
 
 pub moments-pearson-corr-spec : {M : Type 1} → statement M
-moments-pearson-corr-spec = tie.close (tie.spec pearson-corr-requires enum-known-answer enum-known-answer-2 returns returns-2)
+moments-pearson-corr-spec = tie.close (tie.spec pearson-corr-requires hand-pearson-requires returns)

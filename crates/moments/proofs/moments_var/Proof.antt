@@ -1,23 +1,16 @@
--- By the two cases of the answer. Assumes nothing.
+-- The answer is handed out as it is. Assumes nothing.
 use borrow.Author.Needs.{needs}
-use mathlib.Core.Path.{refl}
 use Rattle.moments.proofs.moments_var.Statement.{statement}
 use Rattle.moments.proofs.moments_var.Tie as tie
 
 var-requires : tie.Need-var-requires
 var-requires c κs = search needs
 
-enum-known-answer : tie.Need-enum-known-answer
-enum-known-answer c = search needs
-
-enum-known-answer-2 : tie.Need-enum-known-answer-2
-enum-known-answer-2 c = search needs
+hand-var-requires : tie.Need-hand-var-requires
+hand-var-requires c κs = search needs
 
 returns : tie.Need-returns
-returns c = rw (← c .before .before .before .before .var .ensures, c .before .before .answer .given .1) record { number = refl; state = refl }
-
-returns-2 : tie.Need-returns-2
-returns-2 c = rw (← c .before .before .before .var .ensures, c .before .answer2 .given .1) record { number = refl; state = refl }
+returns c = rw (← c .before .before .var .ensures) (c .hand-var .ensures)
 
 pub moments-var-spec : {M : Type 1} → statement M
-moments-var-spec = tie.close (tie.spec var-requires enum-known-answer enum-known-answer-2 returns returns-2)
+moments-var-spec = tie.close (tie.spec var-requires hand-var-requires returns)

@@ -1,0 +1,15 @@
+-- By the test of the weight. Assumes nothing.
+use Rattle.moment.proofs.var_state.VarState.clear_zero_weight_nan.Statement.{statement}
+use Rattle.moment.proofs.var_state.VarState.clear_zero_weight_nan.Tie as tie
+use Rattle.moment.specs.Var.{varClear}
+
+returns : tie.Need-returns
+unfolding varClear
+returns c = rw (c .if1 .taken)
+
+returns-2 : tie.Need-returns-2
+unfolding varClear
+returns-2 c = rw (c .if1 .left)
+
+pub clear-zero-weight-nan-spec : {M : Type 1} → statement M
+clear-zero-weight-nan-spec = tie.close (tie.spec returns returns-2)

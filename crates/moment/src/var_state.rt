@@ -1,0 +1,102 @@
+// Variance: the source's `VarState`.
+ghost use mathlib.Core.Path.{_≡_};
+ghost use Rattle.moment.specs.Var.{varEmpty, varNew, varClear, varInsert, varMerge, varCombine, notNegative, varFinalize};
+use crate::Figure;
+use crate::sums;
+
+#[repr(C)]
+pub struct VarState {
+    pub weight: f64,
+    pub mean: f64,
+    pub dp: f64,
+}
+
+// A quotient below zero comes of rounding alone; a NaN stays.
+fn not_negative(v: f64) -> f64
+    ensures { λ r. ⌜ r ≡ notNegative v ⌝ }
+{
+    if v < 0.0 { 0.0 } else { v }
+}
+
+impl VarState {
+    pub fn default() -> Self
+        ensures { λ r. ⌜ r ≡ varEmpty ⌝ }
+    {
+        VarState {
+            weight: 0.0,
+            mean: 0.0,
+            dp: 0.0,
+        }
+    }
+
+    pub fn new(x: &[f64]) -> Self
+        ensures { λ r. ⌜ r ≡ varNew (now (x .entry)) ⌝ }
+    {
+        if x.len() == 0 {
+            return VarState::default();
+        }
+        let weight = std::num::nearest_u64_to_f64(x.len() as u64);
+        let mean = sums::sum(x) / weight;
+        let dp = sums::squares(x, mean);
+        VarState { weight, mean, dp }
+    }
+
+    fn clear_zero_weight_nan(self) -> Self
+        ensures { λ r. ⌜ r ≡ varClear self ⌝ }
+    {
+        if self.weight == 0.0 {
+            return VarState {
+                weight: self.weight,
+                mean: 0.0,
+                dp: 0.0,
+            };
+        }
+        self
+    }
+
+    pub fn insert_one(self, x: f64) -> Self
+        ensures { λ r. ⌜ r ≡ varInsert self x ⌝ }
+    {
+        let new_weight = self.weight + 1.0;
+        let delta_mean = x - self.mean;
+        let new_mean = self.mean + delta_mean / new_weight;
+        VarState {
+            weight: new_weight,
+            mean: new_mean,
+            dp: self.dp + (x - new_mean) * delta_mean,
+        }.clear_zero_weight_nan()
+    }
+
+    fn merged(self, other: VarState) -> Self
+        ensures { λ r. ⌜ r ≡ varMerge self other ⌝ }
+    {
+        let new_weight = self.weight + other.weight;
+        let other_weight_frac = other.weight / new_weight;
+        let delta_mean = other.mean - self.mean;
+        let new_mean = self.mean + delta_mean * other_weight_frac;
+        VarState {
+            weight: new_weight,
+            mean: new_mean,
+            dp: self.dp + (other.dp + other.weight * (other.mean - new_mean) * delta_mean),
+        }.clear_zero_weight_nan()
+    }
+
+    pub fn combine(self, other: VarState) -> Self
+        ensures { λ r. ⌜ r ≡ varCombine self other ⌝ }
+    {
+        if other.weight == 0.0 {
+            return self;
+        }
+        self.merged(other)
+    }
+
+    pub fn finalize(self, ddof: u8) -> Figure
+        ensures { λ r. ⌜ r ≡ varFinalize self ddof ⌝ }
+    {
+        let ddof = ddof as f64;
+        if self.weight <= ddof {
+            return Figure::Missing;
+        }
+        Figure::Present(not_negative(self.dp / (self.weight - ddof)))
+    }
+}
