@@ -1,0 +1,209 @@
+// Records of new, whole and range. Word 1 is the state (0 var, 1 cov, 2 pearson, 3 skew, 4
+// kurtosis), 2 the readings of the first trace, 3 whether it has a map, 4 the map's bytes, 5 to 7 the
+// same for the second trace, 8 and 9 a range's start and length, 10 to 15 what the lent state holds,
+// 16 the number answered, 17 to 22 what the state holds then. From 23 on: trace, map, trace, map.
+use crate::words::are;
+use crate::words::bytes;
+use crate::words::count;
+use crate::words::double;
+use crate::words::doubles;
+use crate::words::flag;
+use crate::words::word;
+use moment::KurtosisState;
+use moment::SkewState;
+use moment::VarState;
+
+fn answered(rec: &[u8], code: u32, state: &[f64]) -> bool {
+    if code as u64 == word(rec, 16) {
+        return are(rec, 17, state);
+    }
+    false
+}
+
+fn answered3(rec: &[u8], code: u32, state: &[f64; 3]) -> bool {
+    answered(rec, code, state)
+}
+
+fn answered4(rec: &[u8], code: u32, state: &[f64; 4]) -> bool {
+    answered(rec, code, state)
+}
+
+fn answered5(rec: &[u8], code: u32, state: &[f64; 5]) -> bool {
+    answered(rec, code, state)
+}
+
+fn answered6(rec: &[u8], code: u32, state: &[f64; 6]) -> bool {
+    answered(rec, code, state)
+}
+
+fn new(rec: &[u8], x: &[f64]) -> bool {
+    match word(rec, 1) {
+        0 => {
+            let s = VarState::new(x);
+            are(rec, 17, &[s.weight, s.mean, s.dp])
+        }
+        3 => {
+            let s = SkewState::new(x);
+            are(rec, 17, &[s.weight, s.mean, s.m2, s.m3])
+        }
+        4 => {
+            let s = KurtosisState::new(x);
+            are(rec, 17, &[s.weight, s.mean, s.m2, s.m3, s.m4])
+        }
+        _ => false,
+    }
+}
+
+fn var(rec: &[u8], x: &[f64], has_map: bool, map: &[u8]) -> bool {
+    let mut state = [double(rec, 10), double(rec, 11), double(rec, 12)];
+    let code = moments::moments_var(x, has_map, map, &mut state);
+    answered3(rec, code, &state)
+}
+
+fn skew(rec: &[u8], x: &[f64], has_map: bool, map: &[u8]) -> bool {
+    let mut state = [
+        double(rec, 10),
+        double(rec, 11),
+        double(rec, 12),
+        double(rec, 13),
+    ];
+    let code = moments::moments_skew(x, has_map, map, &mut state);
+    answered4(rec, code, &state)
+}
+
+fn kurtosis(rec: &[u8], x: &[f64], has_map: bool, map: &[u8]) -> bool {
+    let mut state = [
+        double(rec, 10),
+        double(rec, 11),
+        double(rec, 12),
+        double(rec, 13),
+        double(rec, 14),
+    ];
+    let code = moments::moments_kurtosis(x, has_map, map, &mut state);
+    answered5(rec, code, &state)
+}
+
+fn whole(rec: &[u8], x: &[f64], has_map: bool, map: &[u8]) -> bool {
+    match word(rec, 1) {
+        0 => var(rec, x, has_map, map),
+        3 => skew(rec, x, has_map, map),
+        4 => kurtosis(rec, x, has_map, map),
+        _ => false,
+    }
+}
+
+fn skew_range(rec: &[u8], x: &[f64], has_map: bool, map: &[u8]) -> bool {
+    let mut state = [
+        double(rec, 10),
+        double(rec, 11),
+        double(rec, 12),
+        double(rec, 13),
+    ];
+    let start = word(rec, 8) as usize;
+    let length = word(rec, 9) as usize;
+    let code = moments::moments_skew_range(x, has_map, map, start, length, &mut state);
+    answered4(rec, code, &state)
+}
+
+fn kurtosis_range(rec: &[u8], x: &[f64], has_map: bool, map: &[u8]) -> bool {
+    let mut state = [
+        double(rec, 10),
+        double(rec, 11),
+        double(rec, 12),
+        double(rec, 13),
+        double(rec, 14),
+    ];
+    let start = word(rec, 8) as usize;
+    let length = word(rec, 9) as usize;
+    let code = moments::moments_kurtosis_range(x, has_map, map, start, length, &mut state);
+    answered5(rec, code, &state)
+}
+
+fn range(rec: &[u8], x: &[f64], has_map: bool, map: &[u8]) -> bool {
+    match word(rec, 1) {
+        3 => skew_range(rec, x, has_map, map),
+        4 => kurtosis_range(rec, x, has_map, map),
+        _ => false,
+    }
+}
+
+fn cov(
+    rec: &[u8],
+    x: &[f64],
+    x_has_map: bool,
+    x_map: &[u8],
+    y: &[f64],
+    y_has_map: bool,
+    y_map: &[u8],
+) -> bool {
+    let mut state = [
+        double(rec, 10),
+        double(rec, 11),
+        double(rec, 12),
+        double(rec, 13),
+    ];
+    let code = moments::moments_cov(x, x_has_map, x_map, y, y_has_map, y_map, &mut state);
+    answered4(rec, code, &state)
+}
+
+fn pearson_corr(
+    rec: &[u8],
+    x: &[f64],
+    x_has_map: bool,
+    x_map: &[u8],
+    y: &[f64],
+    y_has_map: bool,
+    y_map: &[u8],
+) -> bool {
+    let mut state = [
+        double(rec, 10),
+        double(rec, 11),
+        double(rec, 12),
+        double(rec, 13),
+        double(rec, 14),
+        double(rec, 15),
+    ];
+    let code = moments::moments_pearson_corr(x, x_has_map, x_map, y, y_has_map, y_map, &mut state);
+    answered6(rec, code, &state)
+}
+
+// New and whole alike: of at most 128 pairs the whole array is what `new` makes of them.
+fn pairs(rec: &[u8], x: &[f64], x_has_map: bool, x_map: &[u8], y: &[f64], y_map: &[u8]) -> bool {
+    let y_has_map = flag(rec, 6);
+    match word(rec, 1) {
+        1 => cov(rec, x, x_has_map, x_map, y, y_has_map, y_map),
+        2 => pearson_corr(rec, x, x_has_map, x_map, y, y_has_map, y_map),
+        _ => false,
+    }
+}
+
+fn second(rec: &[u8], x: &[f64], has_map: bool, map: &[u8], from: usize) -> bool {
+    let n = count(rec, 5);
+    let mut y = [0.0; 1024];
+    doubles(rec, from, n, &mut y);
+    let b = count(rec, 7);
+    let mut y_map = [0u8; 1024];
+    bytes(rec, std::num::wrapping_add_usize(from, n), b, &mut y_map);
+    pairs(rec, x, has_map, map, &y[..n], &y_map[..b])
+}
+
+fn first(kind: u8, rec: &[u8], x: &[f64], has_map: bool, map: &[u8], from: usize) -> bool {
+    match word(rec, 1) {
+        1..=2 => second(rec, x, has_map, map, from),
+        _ => match kind {
+            1 => new(rec, x),
+            5 => whole(rec, x, has_map, map),
+            _ => range(rec, x, has_map, map),
+        },
+    }
+}
+
+pub fn agrees(kind: u8, rec: &[u8]) -> bool {
+    let n = count(rec, 2);
+    let mut x = [0.0; 1024];
+    doubles(rec, 23, n, &mut x);
+    let b = count(rec, 4);
+    let mut map = [0u8; 1024];
+    bytes(rec, 23 + n, b, &mut map);
+    first(kind, rec, &x[..n], flag(rec, 3), &map[..b], 23 + n + b)
+}

@@ -1,0 +1,234 @@
+//! ns a row (a reading for whole arrays and ranges, a call for the root) of the Rust and, in the same run and in turn with
+//! it, of a second implementation, with the ratio. usage: bench [--demo] [--n readings] [--reps k] [filter]
+//! The best and the median of k runs are given. The second's answers are compared with the Rust's.
+use oracle::rng::Rng;
+use oracle::second::Impl;
+use oracle::*;
+use std::hint::black_box;
+use std::time::Instant;
+
+/// Nanoseconds of each, best and median, run in turn so that both see the same machine.
+fn time(reps: usize, jobs: &mut [&mut dyn FnMut()]) -> Vec<(f64, f64)> {
+    let mut t = vec![Vec::with_capacity(reps); jobs.len()];
+    for _ in 0..reps {
+        for (f, t) in jobs.iter_mut().zip(&mut t) {
+            let a = Instant::now();
+            f();
+            t.push(a.elapsed().as_nanos() as f64);
+        }
+    }
+    t.iter_mut()
+        .map(|t| {
+            t.sort_by(|a, b| a.total_cmp(b));
+            (t[0], t[t.len() / 2])
+        })
+        .collect()
+}
+struct Bench {
+    reps: usize,
+    filter: String,
+    second: Option<Impl>,
+    differ: usize,
+}
+impl Bench {
+    fn job(&mut self, name: &str, per: usize, one: &mut dyn FnMut(), two: Option<&mut dyn FnMut()>, same: &mut dyn FnMut() -> usize) {
+        if !name.contains(&self.filter) {
+            return;
+        }
+        one();
+        let mut line = format!("{name:<44}");
+        let said = |who: &str, t: (f64, f64)| format!(" {who} {:>8.2} (median {:>8.2})", t.0 / per as f64, t.1 / per as f64);
+        if let Some(two) = two {
+            two();
+            let t = time(self.reps, &mut [one, two]);
+            let d = same();
+            self.differ += d;
+            let ratio = t[1].0 / t[0].0;
+            line += &format!("{} {}  ratio {ratio:.3}  that differ {d}", said("rust", t[0]), said(self.second.unwrap().name, t[1]));
+        } else {
+            line += &said("rust", time(self.reps, &mut [one])[0]);
+        }
+        println!("{line}");
+    }
+}
+fn differ(a: &[Option<f64>], v: &[f64], p: &[u8]) -> usize {
+    (0..a.len())
+        .filter(|&i| match a[i] {
+            None => p[i] != 0 || v[i].to_bits() != 0,
+            Some(x) => p[i] != 1 || !oracle::same(x, v[i]),
+        })
+        .count()
+}
+
+fn main() {
+    let (mut n, mut reps, mut demo, mut filter) = (1_000_000usize, 5usize, false, String::new());
+    let mut args = std::env::args().skip(1);
+    while let Some(a) = args.next() {
+        match a.as_str() {
+            "--demo" => demo = true,
+            "--n" => n = args.next().unwrap().parse().unwrap(),
+            "--reps" => reps = args.next().unwrap().parse().unwrap(),
+            f => filter = f.into(),
+        }
+    }
+    let second = if demo { Some(second::demo()) } else { second::second() };
+    let mut b = Bench { reps, filter, second, differ: 0 };
+    let mut r = Rng(42);
+    let x: Vec<f64> = (0..n).map(|i| 18.0 + 4.0 * ((i % 1440) as f64 / 229.0).sin() + r.unit()).collect();
+    let y: Vec<f64> = (0..n).map(|i| x[i] * 0.5 + r.unit()).collect();
+    let mut map = vec![0u8; n.div_ceil(8)];
+    for i in 0..n {
+        if r.chance(9, 10) {
+            map[i / 8] |= 1 << (i % 8);
+        }
+    }
+    let map = &map[..];
+    let figs = [("variance", Figure::Var { ddof: 1 }), ("skewness", Figure::Skew { bias: false }), ("kurtosis", Figure::Kurt { fisher: true, bias: false })];
+    let (mut ov, mut op) = (vec![0.0; n], vec![0u8; n]);
+    println!("{n} readings; ns per row; best of {reps} (median)");
+    for m in [None, Some(map)] {
+        let tag = if m.is_some() { "map" } else { "no map" };
+        let arr = array(&x, m);
+        for (size, centre) in [(8, false), (128, false), (4096, false), (128, true)] {
+            for (name, f) in figs {
+                let mut work = vec![0.0; f.entry() * size.min(n)];
+                let fun = b.second.and_then(|s| s.fixed);
+                let o = std::cell::RefCell::new((&mut ov, &mut op));
+                let mut two = || {
+                    let (v, p) = &mut *o.borrow_mut();
+                    black_box(fun.unwrap()(&x, m, size, centre, f, 1, v, p, &mut work));
+                };
+                b.job(
+                    &format!("fixed {size}{} {name}, {tag}", if centre { " centred" } else { "" }),
+                    n,
+                    &mut || { black_box(fixed_raw(&arr, size, 1, centre, f)); },
+                    if fun.is_some() { Some(&mut two) } else { None },
+                    &mut || { let (v, p) = &*o.borrow(); differ(&fixed(&x, m, size, 1, centre, f), v, p) },
+                );
+            }
+        }
+    }
+    // plan: as many rows as readings, ends step 0..=2, widths wander between 0 and 256, some gaps
+    let (mut starts, mut ends) = (Vec::with_capacity(n), Vec::with_capacity(n));
+    let (mut s, mut e, mut wide) = (0usize, 0usize, 100usize);
+    for _ in 0..n {
+        e = (e + r.below(3)).min(n);
+        if r.chance(1, 50) {
+            wide = r.below(257);
+        }
+        s = s.max(e.saturating_sub(wide));
+        if r.chance(1, 2000) {
+            s = e;
+        }
+        starts.push(s as u32);
+        ends.push(e as u32);
+    }
+    let rows: Vec<(usize, usize)> = starts.iter().zip(&ends).map(|(a, b)| (*a as usize, *b as usize)).collect();
+    let widest = rows.iter().map(|v| v.1 - v.0).max().unwrap_or(0);
+    println!("plan: {n} rows, widest {widest}, mean width {:.1}", rows.iter().map(|v| (v.1 - v.0) as f64).sum::<f64>() / n as f64);
+    let (mut rv, mut rp) = (vec![0.0; n], vec![0u8; n]);
+    for m in [None, Some(map)] {
+        let tag = if m.is_some() { "map" } else { "no map" };
+        let bm = m.map(|m| bitmap(m, n));
+        for (name, f) in figs {
+            for min in [1usize, 60] {
+                let mut work = vec![0.0; f.entry() * widest];
+                let fun = b.second.and_then(|s| s.plan);
+                let o = std::cell::RefCell::new((&mut ov, &mut op));
+                let mut two = || {
+                    let (v, p) = &mut *o.borrow_mut();
+                    black_box(fun.unwrap()(&x, m, &starts, &ends, f, min, v, p, &mut work));
+                };
+                let it = starts.iter().zip(&ends).map(|(a, b)| (*a as usize, *b as usize));
+                b.job(
+                    &format!("plan {name}, minimum {min}, {tag}"),
+                    n,
+                    &mut || {
+                        plan_with(&x, bm.as_ref(), it.clone(), f, min, |i, r| {
+                            rv[i] = r.unwrap_or(0.0);
+                            rp[i] = r.is_some() as u8;
+                        });
+                        black_box((&rv, &rp));
+                    },
+                    if fun.is_some() { Some(&mut two) } else { None },
+                    &mut || { let (v, p) = &*o.borrow(); differ(&plan(&x, m, &rows, f, min), v, p) },
+                );
+            }
+        }
+    }
+    for size in [8usize, 128] {
+        let w: Vec<f64> = (0..size).map(|i| 1.0 + i as f64).collect();
+        let fun = b.second.and_then(|s| s.weighted);
+        let o = std::cell::RefCell::new((&mut ov, &mut op));
+        let mut two = || { let (v, p) = &mut *o.borrow_mut(); black_box(fun.unwrap()(&x, size, false, &w, 1, v, p)); };
+        b.job(
+            &format!("weighted {size}"),
+            n,
+            &mut || { black_box(rolling::no_nulls::rolling_var(&x, size, 1, false, Some(&w), None).is_ok()); },
+            if fun.is_some() { Some(&mut two) } else { None },
+            &mut || { let (v, p) = &*o.borrow(); differ(&weighted(&x, size, 1, false, &w).unwrap(), v, p) },
+        );
+    }
+    for m in [None, Some(map)] {
+        let tag = if m.is_some() { "map" } else { "no map" };
+        let (ax, ay) = (array(&x, m), array(&y, m));
+        for k in ["var", "skew", "kurt", "cov", "pearson"] {
+            let fun = b.second.and_then(|s| s.whole);
+            let st = std::cell::RefCell::new([0.0; 6]);
+            let mut two = || { black_box(fun.unwrap()(k, &x, m, &y, m, &mut st.borrow_mut())); };
+            let get = |k: &str| match k {
+                "var" => moment::var(&ax).fields(),
+                "skew" => moment::skew(&ax).fields(),
+                "kurt" => moment::kurtosis(&ax).fields(),
+                "cov" => moment::cov(&ax, &ay).fields(),
+                _ => moment::pearson_corr(&ax, &ay).fields(),
+            };
+            b.job(
+                &format!("whole {k}, {tag}"),
+                n,
+                &mut || { black_box(get(k)); },
+                if fun.is_some() { Some(&mut two) } else { None },
+                &mut || get(k).iter().zip(st.borrow().iter()).filter(|(p, q)| !oracle::same(**p, **q)).count(),
+            );
+        }
+        for k in ["skew", "kurt"] {
+            let fun = b.second.and_then(|s| s.range);
+            let st = std::cell::RefCell::new([0.0; 6]);
+            let mut two = || { black_box(fun.unwrap()(k, &x, m, 1, n - 1, &mut st.borrow_mut())); };
+            let get = |k: &str| match k {
+                "skew" => SkewState::from_array(&ax, 1, n - 1).fields(),
+                _ => KurtosisState::from_array(&ax, 1, n - 1).fields(),
+            };
+            b.job(
+                &format!("range {k}, {tag}"),
+                n,
+                &mut || { black_box(get(k)); },
+                if fun.is_some() { Some(&mut two) } else { None },
+                &mut || get(k).iter().zip(st.borrow().iter()).filter(|(p, q)| !oracle::same(**p, **q)).count(),
+            );
+        }
+    }
+    // the root in independent calls, both through a pointer, against the processor's instruction
+    extern "C" fn hardware(x: f64) -> f64 {
+        x.sqrt()
+    }
+    let any: Vec<f64> = (0..n).map(|_| f64::from_bits(r.u64() >> 1)).filter(|x| x.is_finite()).collect();
+    for (name, v) in [("readings", &x), ("any size", &any)] {
+        let fun = b.second.and_then(|s| s.root);
+        let sum = |f: second::RootFn| {
+            let f = black_box(f);
+            v.iter().fold(0u64, |a, x| a ^ f(*x).to_bits())
+        };
+        let mut two = || { black_box(sum(fun.unwrap())); };
+        b.job(
+            &format!("root, {name}"),
+            v.len(),
+            &mut || { black_box(sum(hardware)); },
+            if fun.is_some() { Some(&mut two) } else { None },
+            &mut || v.iter().filter(|x| !oracle::same(hardware(**x), fun.unwrap()(**x))).count(),
+        );
+    }
+    if b.second.is_some() {
+        println!("that differ in all: {}", b.differ);
+    }
+}

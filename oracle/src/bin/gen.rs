@@ -1,0 +1,262 @@
+//! Prints test vectors; the format is described in FORMAT.md.
+//! usage: gen [seed] [records of each kind] [kind ...]
+use oracle::record::*;
+use oracle::rng::Rng;
+use oracle::*;
+use std::fmt::Write as _;
+use std::io::Write as _;
+
+fn h(x: f64) -> String {
+    format!("{:016X}", x.to_bits())
+}
+fn hc(x: f64) -> String {
+    format!("{:016X}", canon(x))
+}
+fn list(x: &[f64]) -> String {
+    x.iter().map(|v| h(*v)).collect::<Vec<_>>().join(",")
+}
+fn listc(x: &[f64]) -> String {
+    x.iter().map(|v| hc(*v)).collect::<Vec<_>>().join(",")
+}
+fn nums(x: &[usize]) -> String {
+    x.iter().map(|v| v.to_string()).collect::<Vec<_>>().join(",")
+}
+fn map(m: Option<&[u8]>) -> String {
+    match m {
+        None => "none".into(),
+        Some(b) => b.iter().map(|v| format!("{v:02X}")).collect(),
+    }
+}
+fn fig(f: Option<f64>) -> String {
+    f.map_or("missing".into(), hc)
+}
+fn setting(f: Figure) -> String {
+    match f {
+        Figure::Var { ddof } => format!("fig=var ddof={ddof} biased=0 fisher=0"),
+        Figure::Skew { bias } => format!("fig=skew ddof=0 biased={} fisher=0", bias as u8),
+        Figure::Kurt { fisher, bias } => format!("fig=kurt ddof=0 biased={} fisher={}", bias as u8, fisher as u8),
+    }
+}
+fn rows(v: &[Option<f64>]) -> String {
+    let f: Vec<f64> = v.iter().map(|x| x.unwrap_or(0.0)).collect();
+    let p: String = v.iter().map(|x| if x.is_some() { '1' } else { '0' }).collect();
+    format!("refusal=0 v={} p={p}", listc(&f))
+}
+
+fn size_n(r: &mut Rng) -> usize {
+    match r.below(12) {
+        0 => r.below(3),
+        1 => 100 + r.below(200),
+        2 | 3 => r.below(70),
+        _ => 1 + r.below(24),
+    }
+}
+fn out_len(r: &mut Rng, n: usize) -> usize {
+    match r.below(30) {
+        0 => n.saturating_sub(1),
+        1 => n + r.below(5),
+        _ => n,
+    }
+}
+
+fn keen_figure(r: &mut Rng) -> Figure {
+    match r.below(3) {
+        0 => Figure::Var { ddof: r.below(3) as u8 },
+        1 => Figure::Skew { bias: r.chance(2, 3) },
+        _ => Figure::Kurt { fisher: r.chance(1, 2), bias: r.chance(2, 3) },
+    }
+}
+/// Slides of changing width: grows, shrinks to 1 to 3 places for a row or two, grows again.
+fn keen_rows(r: &mut Rng, n: usize, count: usize) -> Vec<(usize, usize)> {
+    let (mut s, mut e) = (0, r.below(4));
+    let mut v = Vec::new();
+    for _ in 0..count {
+        v.push((s, e));
+        e = (e + r.below(4)).min(n);
+        let lag = if r.chance(1, 4) { r.below(4) } else { 4 + r.below(6) };
+        s = s.max(e.saturating_sub(lag));
+        if r.chance(1, 3) { s = v.last().unwrap().0; }
+    }
+    v
+}
+
+fn record(r: &mut Rng, kind: &str) -> String {
+    let mut o = String::new();
+    match kind {
+        "root" => {
+            let x = match r.below(6) {
+                0 => f64::from_bits(r.u64()),
+                1 => f64::from_bits(r.u64() >> (12 + r.below(52))),
+                2 => { let a = f64::from_bits(r.u64() >> 1); let q = a * a; f64::from_bits((q.to_bits() as i64 + r.below(5) as i64 - 2) as u64) }
+                3 => f64::from_bits(((r.below(2047) as u64) << 52) + r.below(5) as u64),
+                4 => *[0.0, -0.0, f64::INFINITY, f64::NEG_INFINITY, f64::NAN, 2.0, f64::from_bits(1), f64::MAX, f64::MIN_POSITIVE, -5e-324, 4.0].get(r.below(11)).unwrap(),
+                _ => r.unit() * 100.0,
+            };
+            write!(o, "root x={} => r={}", h(x), hc(x.sqrt())).unwrap();
+        }
+        "new" => {
+            let s = STATES[r.below(5)];
+            let n = r.below(12);
+            let (x, y) = (r.trace(n), r.trace(n));
+            let two = pairs(s);
+            write!(o, "new s={s} x={} y={} => st={}", list(&x), if two { list(&y) } else { String::new() }, listc(&make(s, &x, &y))).unwrap();
+        }
+        "insert" => {
+            let s = STATES[r.below(5)];
+            let (st, x, y) = insert_case(r, s);
+            write!(o, "insert s={s} st={} x={} y={} => st={}", list(&st), h(x), h(y), listc(&insert(s, &st, x, y))).unwrap();
+        }
+        "combine" => {
+            let s = STATES[r.below(5)];
+            let (a, b) = combine_case(r, s);
+            write!(o, "combine s={s} a={} b={} => st={}", list(&a), list(&b), listc(&combine(s, &a, &b))).unwrap();
+        }
+        "finalize" => {
+            let s = STATES[r.below(5)];
+            let (st, ddof, biased, fisher) = finalize_case(r, s);
+            write!(o, "finalize s={s} st={} ddof={ddof} biased={} fisher={} => fig={}", list(&st), biased as u8, fisher as u8, fig(finalize(s, &st, ddof, biased, fisher))).unwrap();
+        }
+        "whole" => {
+            let s = STATES[r.below(5)];
+            let n = match r.below(8) { 0 => 120 + r.below(20), 1 => 250 + r.below(20), 2 => r.below(700), _ => r.below(30) };
+            let x = r.trace(n);
+            let two = pairs(s);
+            let m = if two && r.chance(1, 25) { r.below(30) } else { n };
+            let y = if two { r.trace(m) } else { vec![] };
+            let xm = maybe_map(r, n);
+            let ym = if two { maybe_map(r, m) } else { None };
+            let (xm, ym) = (xm.as_deref(), ym.as_deref());
+            let code = whole_refusal(s, n, xm, m, ym);
+            write!(o, "whole s={s} x={} xmap={} y={} ymap={} => refusal={code} st=", list(&x), map(xm), list(&y), map(ym)).unwrap();
+            if code == 0 {
+                o += &listc(&whole(s, &x, xm, &y, ym));
+            }
+        }
+        "range" => {
+            let s = ["skew", "kurt"][r.below(2)];
+            let n = if r.chance(1, 6) { 130 + r.below(200) } else { r.below(30) };
+            let x = r.trace(n);
+            let m = maybe_map(r, n);
+            let m = m.as_deref();
+            let (start, len) = range_case(r, n);
+            let code = refusal::range(n, m.map(|v| v.len()), start, len);
+            write!(o, "range s={s} x={} map={} start={start} len={len} => refusal={code} st=", list(&x), map(m)).unwrap();
+            if code == 0 {
+                o += &listc(&range(s, &x, m, start, len));
+            }
+        }
+        "plan" => {
+            // keen: finite readings of one size, figures mostly present, minimums near the widths
+            let keen = r.chance(1, 2);
+            let n = if keen { 8 + r.below(30) } else { size_n(r) };
+            let style = [0, 1, 2, 3, 6][r.below(5)];
+            let x = if keen { (0..n).map(|_| r.reading(style)).collect() } else { r.trace(n) };
+            let m = if keen && r.chance(1, 3) { Some(vec![0xFF; n.div_ceil(8)]) } else { maybe_map(r, n) };
+            let m = m.as_deref();
+            let count = if keen { 6 + r.below(18) } else { r.below(24) };
+            let rw = if keen && r.chance(2, 3) { keen_rows(r, n, count) } else { r.rows(n, count) };
+            let f = if keen { keen_figure(r) } else { r.figure() };
+            let min = if keen { 1 + r.below(6) } else { r.minimum() };
+            let mut starts: Vec<usize> = rw.iter().map(|v| v.0).collect();
+            let mut ends: Vec<usize> = rw.iter().map(|v| v.1).collect();
+            let mut short = 0;
+            if count > 0 {
+                let k = r.below(count);
+                match r.below(30) {
+                    0 => starts[k] = ends[k] + 1,
+                    1 => { for e in &mut ends[k..] { *e = n + 1 } }
+                    2 => starts[k] = starts[k].saturating_sub(1 + r.below(3)),
+                    3 => ends[k] = ends[k].saturating_sub(1 + r.below(3)),
+                    4 => { ends.pop(); }
+                    5 => starts.push(n),
+                    6 => { starts[k] = r.below(n + 3); ends[k] = r.below(n + 3); }
+                    7 => short = 1 + r.below(2),
+                    _ => {}
+                }
+            }
+            let widest = starts.iter().zip(&ends).map(|(s, e)| e.saturating_sub(*s)).max().unwrap_or(0);
+            let work = (f.entry() * widest + if r.chance(1, 6) { r.below(9) } else { 0 }).saturating_sub(short);
+            let (of, op) = (out_len(r, starts.len()), out_len(r, starts.len()));
+            let code = refusal::plan(n, m.map(|v| v.len()), &starts, &ends, (of, op), f.entry(), work);
+            write!(o, "plan {} min={min} x={} map={} starts={} ends={} outv={of} outp={op} work={work} => ", setting(f), list(&x), map(m), nums(&starts), nums(&ends)).unwrap();
+            if code == 0 {
+                let rw: Vec<(usize, usize)> = starts.iter().copied().zip(ends.iter().copied()).collect();
+                o += &rows(&plan(&x, m, &rw, f, min));
+            } else {
+                write!(o, "refusal={code} v= p=").unwrap();
+            }
+        }
+        "fixed" => {
+            let keen = r.chance(1, 2);
+            let n = size_n(r);
+            let style = [0, 1, 2, 3, 6][r.below(5)];
+            let x = if keen { (0..n).map(|_| r.reading(style)).collect() } else { r.trace(n) };
+            let m = if keen && r.chance(1, 3) { Some(vec![0xFF; n.div_ceil(8)]) } else { maybe_map(r, n) };
+            let m = m.as_deref();
+            let size = match r.below(14) { 0 => usize::MAX - r.below(3), 1 => 1 << 63, 2 => r.below(100), 3 => 0, _ => r.below(14) };
+            let centre = r.chance(1, 2);
+            let f = if keen { keen_figure(r) } else { r.figure() };
+            let min = if keen { 1 + r.below(6) } else { r.minimum() };
+            let short = if r.chance(1, 30) { 1 } else { 0 };
+            let work = (f.entry() * size.min(n) + if r.chance(1, 6) { r.below(9) } else { 0 }).saturating_sub(short);
+            let (of, op) = (out_len(r, n), out_len(r, n));
+            let code = refusal::fixed(n, m.map(|v| v.len()), size, (of, op), f.entry(), work);
+            write!(o, "fixed {} min={min} size={size} centre={} x={} map={} outv={of} outp={op} work={work} => ", setting(f), centre as u8, list(&x), map(m)).unwrap();
+            if code == 0 {
+                // the Rust panics on an empty trace with a trailing window; document 01: no rows
+                o += &rows(&if n == 0 { vec![] } else { fixed(&x, m, size, min, centre, f) });
+            } else {
+                write!(o, "refusal={code} v= p=").unwrap();
+            }
+        }
+        "weighted" => {
+            let n = size_n(r).min(80);
+            let x = r.trace(n);
+            let m = if r.chance(1, 15) { maybe_map(r, n) } else { None };
+            let m = m.as_deref();
+            let size = r.below(10);
+            let wn = if r.chance(1, 15) { r.below(10) } else { size };
+            let style = r.below(5);
+            let w: Vec<f64> = (0..wn).map(|_| match style { 0 => r.below(3) as f64, 1 => r.below(5) as f64 - 2.0, 2 | 3 => r.unit(), _ => { let s = r.below(8); r.reading(s) } }).collect();
+            let centre = r.chance(1, 2);
+            let min = r.minimum();
+            let (of, op) = (out_len(r, n), out_len(r, n));
+            let code = refusal::weighted(n, m.map(|v| v.len()), size, &w, (of, op));
+            write!(o, "weighted min={min} size={size} centre={} w={} x={} map={} outv={of} outp={op} => ", centre as u8, list(&w), list(&x), map(m)).unwrap();
+            if code == 0 {
+                o += &rows(&weighted(&x, size, min, centre, &w).unwrap());
+            } else {
+                write!(o, "refusal={code} v= p=").unwrap();
+            }
+        }
+        "bounds" => {
+            let n = 1 + r.below(40);
+            let i = r.below(n);
+            let size = match r.below(8) { 0 => usize::MAX - r.below(3), 1 => 1 << 63, 2 => 0, _ => r.below(50) };
+            let centre = r.chance(1, 2);
+            let (s, e) = offsets(i, size, n, centre);
+            write!(o, "bounds size={size} centre={} n={n} i={i} => start={s} end={e}", centre as u8).unwrap();
+        }
+        _ => panic!("unknown kind {kind}"),
+    }
+    o
+}
+
+fn main() {
+    let mut args = std::env::args().skip(1);
+    let seed: u64 = args.next().map_or(1, |s| s.parse().unwrap());
+    let count: usize = args.next().map_or(200, |s| s.parse().unwrap());
+    let mut kinds: Vec<String> = args.collect();
+    if kinds.is_empty() {
+        kinds = ["root", "new", "insert", "combine", "finalize", "whole", "range", "plan", "fixed", "weighted", "bounds"].iter().map(|s| s.to_string()).collect();
+    }
+    let mut out = std::io::BufWriter::new(std::io::stdout().lock());
+    for k in kinds {
+        let mut r = Rng(seed ^ k.bytes().fold(0xcbf29ce484222325u64, |a, b| (a ^ b as u64).wrapping_mul(0x100000001b3)));
+        for _ in 0..count {
+            if writeln!(out, "{}", record(&mut r, &k)).is_err() {
+                return;
+            }
+        }
+    }
+}

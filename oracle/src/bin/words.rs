@@ -1,0 +1,298 @@
+//! Writes the lists that the program `vectors` replays, one file for each kind (FORMAT.md, 'Word lists').
+//! usage: words SEED FOLDER
+use oracle::record::*;
+use oracle::rng::Rng;
+use oracle::*;
+use std::path::Path;
+
+/// A state takes six words, 0 after its members.
+fn six(v: &[f64], word: fn(f64) -> u64) -> Vec<u64> {
+    let mut w: Vec<u64> = v.iter().map(|x| word(*x)).collect();
+    w.resize(6, 0);
+    w
+}
+fn given(x: f64) -> u64 {
+    x.to_bits()
+}
+fn bits(x: &[f64]) -> Vec<u64> {
+    x.iter().map(|v| v.to_bits()).collect()
+}
+fn bytes(m: Option<&[u8]>) -> Vec<u64> {
+    m.unwrap_or(&[]).iter().map(|b| *b as u64).collect()
+}
+/// Any readings, or finite ones of one size, whose figures are mostly numbers.
+fn readings(r: &mut Rng, n: usize) -> Vec<f64> {
+    if r.chance(1, 2) {
+        return r.trace(n);
+    }
+    let style = [0, 1, 2, 6][r.below(4)];
+    (0..n).map(|_| r.reading(style)).collect()
+}
+/// Any state, or one that such readings make.
+fn state(r: &mut Rng, s: &str, any: Vec<f64>) -> Vec<f64> {
+    if r.chance(1, 2) {
+        return any;
+    }
+    let n = 1 + r.below(12);
+    let (x, y) = (readings(r, n), readings(r, n));
+    make(s, &x, &y).iter().map(|v| f64::from_bits(canon(*v))).collect()
+}
+/// A record of new, whole or range: the call on arrays, what the lent state holds before it, and what it answers.
+#[derive(Default)]
+struct Call<'a> {
+    state: &'a str,
+    x: &'a [f64],
+    x_map: Option<&'a [u8]>,
+    y: &'a [f64],
+    y_map: Option<&'a [u8]>,
+    start: usize,
+    length: usize,
+}
+impl Call<'_> {
+    fn record(&self, r: &mut Rng, code: u32, answer: impl Fn() -> Vec<f64>) -> Vec<u64> {
+        let held = before(r, self.state);
+        let after = if code == 0 { answer() } else { held.clone() };
+        let (x_map, y_map) = (bytes(self.x_map), bytes(self.y_map));
+        let counts = [
+            STATES.iter().position(|t| *t == self.state).unwrap(),
+            self.x.len(),
+            self.x_map.is_some() as usize,
+            x_map.len(),
+            self.y.len(),
+            self.y_map.is_some() as usize,
+            y_map.len(),
+            self.start,
+            self.length,
+        ]
+        .map(|n| n as u64);
+        [&counts, &six(&held, given)[..], &[code as u64], &six(&after, canon), &bits(self.x), &x_map, &bits(self.y), &y_map].concat()
+    }
+}
+/// What a lent state array holds before the call: any numbers but NaNs, whose bits the program cannot see.
+fn before(r: &mut Rng, s: &str) -> Vec<f64> {
+    (0..width(s)).map(|_| r.reading(1)).collect()
+}
+
+/// The roots of a square a modulo 2^54 (a is 1 modulo 8), those from 2^53 up.
+fn square_roots(a: u64) -> Vec<u64> {
+    let mut s: u64 = 1;
+    for k in 3..54 {
+        if (s.wrapping_mul(s).wrapping_sub(a)) % (1 << (k + 1)) != 0 {
+            s += 1 << (k - 1);
+        }
+    }
+    let all = 1u64 << 54;
+    [s, all.wrapping_sub(s), s + (all >> 1), (all >> 1).wrapping_sub(s)]
+        .iter()
+        .map(|v| v % all)
+        .filter(|v| *v >= all >> 1 && v.wrapping_mul(*v).wrapping_sub(a) % all == 0)
+        .collect()
+}
+/// Numbers from 1 up to 4 whose root lies as near as possible to the midpoint of two doubles. In units of
+/// 2^-52 the root of m is r + 1/2 where m * 2^52 = r * r + r + d for a small even d, so where 2 * r + 1 is a root of
+/// 1 - 4 * d modulo 2^54.
+fn halfway() -> Vec<f64> {
+    let mut out = Vec::new();
+    for half in 0..60i64 {
+        for d in [2 * half, -2 * half] {
+            for t in square_roots((1 - 4 * d) as u64) {
+                let r = (t / 2) as i128;
+                let m = (r * r + r + d as i128) >> 52;
+                let fits = (1i128 << 52..1 << 53).contains(&m) || ((1i128 << 53..1 << 54).contains(&m) && m % 2 == 0);
+                if fits && (r * r + r + d as i128) % (1 << 52) == 0 {
+                    out.push(m as f64 / (1u64 << 52) as f64);
+                }
+            }
+        }
+    }
+    out
+}
+/// x times 4^k, in two steps: 4^k itself may be below the least double.
+fn scaled(x: f64, k: i32) -> f64 {
+    x * 2f64.powi(k) * 2f64.powi(k)
+}
+fn root_inputs(r: &mut Rng) -> Vec<u64> {
+    let mut v: Vec<u64> = vec![
+        0, 1, 2, 3, 0x000F_FFFF_FFFF_FFFF, 0x0010_0000_0000_0000, 0x0010_0000_0000_0001, 0x3FF0_0000_0000_0000,
+        0x4000_0000_0000_0000, 0x4010_0000_0000_0000, 0x7FEF_FFFF_FFFF_FFFF, 0x7FF0_0000_0000_0000, 0x7FF0_0000_0000_0001,
+        0x7FF4_0000_0000_0000, 0x7FF7_FFFF_FFFF_FFFF, 0x7FF8_0000_0000_0000, 0x7FF8_0000_0000_0001, 0x7FFF_FFFF_FFFF_FFFF,
+    ];
+    // each with the other sign
+    v.extend(v.clone().iter().map(|b| b | 1 << 63));
+    // powers of two, all the subnormal ones, then every seventh: both parities
+    v.extend((0..52).map(|k| 1u64 << k));
+    v.extend((1..2047u64).step_by(7).map(|e| e << 52));
+    // exact squares and the doubles beside them; even powers down to the least
+    for _ in 0..256 {
+        let a = 1 + r.below(94_906_265) as u64;
+        let q = scaled((a * a) as f64, r.below(1000) as i32 - 537);
+        v.extend([q.to_bits() - 1, q.to_bits(), q.to_bits() + 1]);
+    }
+    for x in halfway() {
+        v.push(scaled(x, r.below(1020) as i32 - 510).to_bits());
+        v.push(x.to_bits());
+    }
+    for _ in 0..512 {
+        v.push(r.u64() >> (12 + r.below(52)));
+    }
+    while v.len() < 4096 {
+        v.push(match r.below(4) {
+            0 => r.u64(),
+            1 => ((0x3FE + r.below(4) as u64) << 52) + (r.u64() >> 12),
+            _ => r.u64() >> 1,
+        });
+    }
+    v
+}
+
+/// The records of a kind, each a list of words.
+fn records(r: &mut Rng, kind: &str) -> Vec<Vec<u64>> {
+    let which = |i: usize| STATES[i % 5];
+    let of = |s: &str| STATES.iter().position(|t| *t == s).unwrap() as u64;
+    let flat = |parts: &[&[u64]]| parts.concat();
+    let mut out = Vec::new();
+    match kind {
+        "root" => {
+            for b in root_inputs(r) {
+                out.push(vec![b, canon(f64::from_bits(b).sqrt())]);
+            }
+        }
+        "new" => {
+            for i in 0..250 {
+                let s = which(i);
+                let n = match i / 5 {
+                    k @ 0..4 => k,
+                    4 => 127,
+                    5 => 128,
+                    6 => if pairs(s) { 126 } else { 300 },
+                    _ => r.below(24),
+                };
+                let (x, y) = (readings(r, n), if pairs(s) { readings(r, n) } else { vec![] });
+                let call = Call { state: s, x: &x, y: &y, ..Default::default() };
+                out.push(call.record(r, 0, || make(s, &x, &y)));
+            }
+        }
+        "insert" => {
+            for i in 0..400 {
+                let s = which(i);
+                let (any, x, y) = insert_case(r, s);
+                let st = state(r, s, any);
+                let made = insert(s, &st, x, y);
+                out.push(flat(&[&[of(s)], &six(&st, given), &bits(&[x, y]), &six(&made, canon)]));
+            }
+        }
+        "combine" => {
+            for i in 0..400 {
+                let s = which(i);
+                let (a, b) = combine_case(r, s);
+                let (mut a, mut b) = (state(r, s, a), state(r, s, b));
+                match i / 5 {
+                    0 => a.fill(0.0),
+                    1 => b.fill(0.0),
+                    2 => { a.fill(0.0); b[0] = 1.0; b[1] = f64::INFINITY; b[2] = 0.0 }
+                    3 => a[0] = -b[0],
+                    _ => {}
+                }
+                let made = combine(s, &a, &b);
+                out.push(flat(&[&[of(s)], &six(&a, given), &six(&b, given), &six(&made, canon)]));
+            }
+        }
+        "finalize" => {
+            for i in 0..500 {
+                let s = which(i);
+                let (any, mut ddof, mut biased, mut fisher) = finalize_case(r, s);
+                let mut st = state(r, s, any);
+                let k = i / 5;
+                if k < 40 {
+                    // every setting, at weights beside those where a figure is missing
+                    (biased, fisher) = (k % 2 == 0, k / 2 % 2 == 0);
+                    ddof = [0, 1, 2, 255, 3][k / 4 % 5];
+                    let near = if pairs(s) || s == "var" { ddof as f64 } else { [0.0, 1.0, 2.0, 3.0, 4.0][k / 4 % 5] };
+                    st[0] = near + [0.0, 1.0, -1.0, 0.5][k % 4] * if k < 20 { 1.0 } else { 2f64.powi(-40) };
+                }
+                let f = finalize(s, &st, ddof, biased, fisher);
+                let tail = [ddof as u64, biased as u64, fisher as u64, f.is_some() as u64, f.map_or(0, canon)];
+                out.push(flat(&[&[of(s)], &six(&st, given), &tail]));
+            }
+        }
+        "whole" => {
+            let lengths = [0, 1, 8, 9, 127, 128, 129, 256, 257, 300];
+            for i in 0..300 {
+                let s = which(i);
+                let k = i / 5;
+                let n = if k < 20 { lengths[k % 10] } else { r.below(24) };
+                let m = if k % 8 == 7 { r.below(24) } else { n };
+                let x = readings(r, n);
+                let y = if pairs(s) { readings(r, m) } else { vec![] };
+                let (mut xm, mut ym) = (maybe_map(r, n), maybe_map(r, y.len()).filter(|_| pairs(s)));
+                match k {
+                    // with and without a map at every length
+                    0..10 => (xm, ym) = (None, None),
+                    10..20 => xm = Some(r.map(n)),
+                    // lengths that are wrong: a byte too many, one too few, none
+                    20 => { let mut w = r.map(n); w.push(0xFF); xm = Some(w) }
+                    21 => { let mut w = r.map(n); if w.pop().is_none() { w.push(0) } xm = Some(w) }
+                    22 => xm = Some(vec![]),
+                    24 if pairs(s) => { let mut w = r.map(m); w.push(1); ym = Some(w) }
+                    _ => {}
+                }
+                let (xm, ym) = (xm.as_deref(), ym.as_deref());
+                let code = whole_refusal(s, n, xm, y.len(), ym);
+                let call = Call { state: s, x: &x, x_map: xm, y: &y, y_map: ym, ..Default::default() };
+                out.push(call.record(r, code, || whole(s, &x, xm, &y, ym)));
+            }
+        }
+        "range" => {
+            for i in 0..200 {
+                let s = ["skew", "kurt"][i % 2];
+                let k = i / 2;
+                let n = if k % 12 == 5 { 130 + r.below(150) } else { r.below(30) };
+                let x = readings(r, n);
+                let m = maybe_map(r, n);
+                let m = m.as_deref();
+                let (mut start, mut len) = range_case(r, n);
+                match k {
+                    0 => (start, len) = (0, n),
+                    1 => (start, len) = (n, 0),
+                    2 => (start, len) = (n, 1),
+                    3 => (start, len) = (n + 1, 0),
+                    // sums that come back below n where they wrap
+                    4 => (start, len) = (usize::MAX, 1),
+                    5 => (start, len) = (1, usize::MAX),
+                    6 => (start, len) = (usize::MAX, usize::MAX),
+                    7 => (start, len) = (1 << 63, 1 << 63),
+                    8 => (start, len) = (usize::MAX - n / 2, n / 2 + 1),
+                    _ => {}
+                }
+                let code = refusal::range(n, m.map(|v| v.len()), start, len);
+                let call = Call { state: s, x: &x, x_map: m, start, length: len, ..Default::default() };
+                out.push(call.record(r, code, || range(s, &x, m, start, len)));
+            }
+        }
+        _ => unreachable!(),
+    }
+    out
+}
+
+fn main() {
+    let mut args = std::env::args().skip(1);
+    let (Some(seed), Some(folder)) = (args.next().and_then(|s| s.parse::<u64>().ok()), args.next()) else {
+        eprintln!("usage: words SEED FOLDER");
+        std::process::exit(1);
+    };
+    for (i, kind) in ["root", "new", "insert", "combine", "finalize", "whole", "range"].into_iter().enumerate() {
+        let mut r = Rng(seed.wrapping_mul(7).wrapping_add(i as u64));
+        let list = records(&mut r, kind);
+        let mut text = format!("{:016X}\n", list.len());
+        for words in &list {
+            // a record's first word is how many words it has, this one too
+            text += &format!("{:016X}", words.len() + 1);
+            for w in words {
+                text += &format!(" {w:016X}");
+            }
+            text.push('\n');
+        }
+        std::fs::write(Path::new(&folder).join(kind), &text).unwrap();
+        println!("{kind}: {} records, {} bytes", list.len(), text.len());
+    }
+}

@@ -1,0 +1,122 @@
+//! Document 01's refusal numbers, straight from its text (not from the crate). 0: accepted.
+pub const LIMIT: usize = 16_777_216;
+
+/// 5, 6, 7, each row tested in that order from row 0.
+pub fn rows(rows: impl Iterator<Item = (usize, usize)>, n: usize) -> u32 {
+    let mut prev: Option<(usize, usize)> = None;
+    for (s, e) in rows {
+        if s > e {
+            return 5;
+        }
+        if e > n {
+            return 6;
+        }
+        if let Some((ps, pe)) = prev {
+            if s < ps || e < pe {
+                return 7;
+            }
+        }
+        prev = Some((s, e));
+    }
+    0
+}
+pub fn trace(n: usize, map: Option<usize>) -> u32 {
+    if n > LIMIT {
+        return 1;
+    }
+    match map {
+        Some(m) if m != n.div_ceil(8) => 3,
+        _ => 0,
+    }
+}
+/// `outs`: lengths of the figure list and of the present list.
+#[allow(clippy::too_many_arguments)]
+pub fn plan(
+    n: usize,
+    map: Option<usize>,
+    starts: &[usize],
+    ends: &[usize],
+    outs: (usize, usize),
+    entry: usize,
+    work: usize,
+) -> u32 {
+    let r = trace(n, map);
+    if r != 0 {
+        return r;
+    }
+    if starts.len() != ends.len() || starts.len() > LIMIT {
+        return 4;
+    }
+    let it = || starts.iter().copied().zip(ends.iter().copied());
+    let r = rows(it(), n);
+    if r != 0 {
+        return r;
+    }
+    if outs.0 < starts.len() || outs.1 < starts.len() {
+        return 12;
+    }
+    let widest = it().map(|(s, e)| e - s).max().unwrap_or(0);
+    if work < entry * widest {
+        return 13;
+    }
+    0
+}
+pub fn fixed(n: usize, map: Option<usize>, size: usize, outs: (usize, usize), entry: usize, work: usize) -> u32 {
+    let r = trace(n, map);
+    if r != 0 {
+        return r;
+    }
+    if outs.0 < n || outs.1 < n {
+        return 12;
+    }
+    if work < entry * size.min(n) {
+        return 13;
+    }
+    0
+}
+pub fn weighted(n: usize, map: Option<usize>, size: usize, w: &[f64], outs: (usize, usize)) -> u32 {
+    let r = trace(n, map);
+    if r != 0 {
+        return r;
+    }
+    if map.is_some() {
+        return 8;
+    }
+    let mut sum = 0.0;
+    for x in w {
+        sum += x;
+    }
+    if sum == 0.0 {
+        return 9;
+    }
+    if w.len() != size {
+        return 10;
+    }
+    if outs.0 < n || outs.1 < n {
+        return 12;
+    }
+    0
+}
+pub fn range(n: usize, map: Option<usize>, start: usize, len: usize) -> u32 {
+    let r = trace(n, map);
+    if r != 0 {
+        return r;
+    }
+    if start as u128 + len as u128 > n as u128 {
+        return 11;
+    }
+    0
+}
+/// 1 and 3 apply to either trace: document 01 does not say which of two.
+pub fn pair(n: usize, nm: Option<usize>, m: usize, mm: Option<usize>) -> u32 {
+    if n > LIMIT || m > LIMIT {
+        return 1;
+    }
+    if n != m {
+        return 2;
+    }
+    if trace(n, nm) == 3 || trace(m, mm) == 3 {
+        return 3;
+    }
+    0
+}

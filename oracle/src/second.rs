@@ -1,0 +1,252 @@
+//! A second implementation beside the Rust, reached by function pointers: `bench` and `fuzz` ask both. With the feature
+//! `second` it is our libmoments.a, whose entries are declared in `c`; the feature `rolling` adds plans, fixed windows
+//! and weights.
+use crate::Figure;
+
+/// trace, map, starts, ends, figure, minimum, figures out, present out, work -> 0 or refusal
+pub type PlanFn = fn(&[f64], Option<&[u8]>, &[u32], &[u32], Figure, usize, &mut [f64], &mut [u8], &mut [f64]) -> u32;
+/// trace, map, size, centred, figure, minimum, figures out, present out, work -> 0 or refusal
+pub type FixedFn = fn(&[f64], Option<&[u8]>, usize, bool, Figure, usize, &mut [f64], &mut [u8], &mut [f64]) -> u32;
+/// trace, size, centred, weights, minimum, figures out, present out -> 0 or refusal
+pub type WeightedFn = fn(&[f64], usize, bool, &[f64], usize, &mut [f64], &mut [u8]) -> u32;
+/// "var" "skew" "kurt" "cov" "pearson": x, its map, y, its map, state fields out -> 0 or refusal
+pub type WholeFn = fn(&str, &[f64], Option<&[u8]>, &[f64], Option<&[u8]>, &mut [f64; 6]) -> u32;
+/// "skew" "kurt": trace, map, start, length, state fields out -> 0 or refusal
+pub type RangeFn = fn(&str, &[f64], Option<&[u8]>, usize, usize, &mut [f64; 6]) -> u32;
+pub type RootFn = extern "C" fn(f64) -> f64;
+
+#[derive(Clone, Copy)]
+pub struct Impl {
+    pub name: &'static str,
+    pub plan: Option<PlanFn>,
+    pub fixed: Option<FixedFn>,
+    pub weighted: Option<WeightedFn>,
+    pub whole: Option<WholeFn>,
+    pub range: Option<RangeFn>,
+    pub root: Option<RootFn>,
+}
+
+/// A demonstration: the work-slice model of src/model.rs.
+pub fn demo() -> Impl {
+    fn put(outv: &mut [f64], outp: &mut [u8], i: usize, r: Option<f64>) {
+        // a NaN that arithmetic made has the bits FFF8... on x86: document 01 wants 7FF8...
+        outv[i] = match r {
+            None => 0.0,
+            Some(x) if x.is_nan() => f64::from_bits(std::hint::black_box(crate::NAN_BITS)),
+            Some(x) => x,
+        };
+        outp[i] = r.is_some() as u8;
+    }
+    fn plan(x: &[f64], m: Option<&[u8]>, s: &[u32], e: &[u32], f: Figure, min: usize, ov: &mut [f64], op: &mut [u8], w: &mut [f64]) -> u32 {
+        let rows = s.iter().zip(e).map(|(a, b)| (*a as usize, *b as usize));
+        crate::model::plan_into(x, m, rows, f, min, w, |i, r| put(ov, op, i, r), |_, _| {});
+        0
+    }
+    fn fixed(x: &[f64], m: Option<&[u8]>, size: usize, c: bool, f: Figure, min: usize, ov: &mut [f64], op: &mut [u8], w: &mut [f64]) -> u32 {
+        let n = x.len();
+        let rows = (0..n).map(|i| crate::offsets(i, size, n, c));
+        crate::model::plan_into(x, m, rows, f, min, w, |i, r| put(ov, op, i, r), |_, _| {});
+        0
+    }
+    Impl { name: "demo", plan: Some(plan), fixed: Some(fixed), weighted: None, whole: None, range: None, root: None }
+}
+
+#[cfg(not(feature = "second"))]
+pub fn second() -> Option<Impl> {
+    None
+}
+
+/// The entries of libmoments.a: a slice passes as a pointer and a length, a number or a bool as itself, a state by value.
+#[cfg(feature = "second")]
+pub mod c {
+    macro_rules! states {
+        ($($t:ident, $n:literal: $($f:ident),*;)*) => {$(
+            #[repr(C)]
+            #[derive(Clone, Copy)]
+            pub struct $t { $(pub $f: f64),* }
+            impl $t {
+                pub fn of(v: &[f64]) -> Self {
+                    let [$($f),*] = v.try_into().unwrap();
+                    Self { $($f),* }
+                }
+                pub fn fields(self) -> Vec<f64> {
+                    vec![$(self.$f),*]
+                }
+            }
+        )*};
+    }
+    states! {
+        VarState, 3: weight, mean, dp;
+        CovState, 4: weight, mean_x, mean_y, dp_xy;
+        PearsonState, 6: weight, mean_x, mean_y, dp_xx, dp_xy, dp_yy;
+        SkewState, 4: weight, mean, m2, m3;
+        KurtosisState, 5: weight, mean, m2, m3, m4;
+    }
+    /// trace, has map, map, state
+    pub type One<const N: usize> = unsafe extern "C" fn(*const f64, usize, bool, *const u8, usize, *mut [f64; N]) -> u32;
+    /// x, has map, map, y, has map, map, state
+    pub type Two<const N: usize> = unsafe extern "C" fn(
+        *const f64, usize, bool, *const u8, usize, *const f64, usize, bool, *const u8, usize, *mut [f64; N],
+    ) -> u32;
+    /// trace, has map, map, start, length, state
+    pub type Part<const N: usize> =
+        unsafe extern "C" fn(*const f64, usize, bool, *const u8, usize, usize, usize, *mut [f64; N]) -> u32;
+    unsafe extern "C" {
+        pub fn moments_var(x: *const f64, n: usize, has_map: bool, map: *const u8, bytes: usize, state: *mut [f64; 3]) -> u32;
+        pub fn moments_skew(x: *const f64, n: usize, has_map: bool, map: *const u8, bytes: usize, state: *mut [f64; 4]) -> u32;
+        pub fn moments_kurtosis(x: *const f64, n: usize, has_map: bool, map: *const u8, bytes: usize, state: *mut [f64; 5]) -> u32;
+        pub fn moments_cov(
+            x: *const f64, n: usize, x_has_map: bool, x_map: *const u8, x_bytes: usize,
+            y: *const f64, m: usize, y_has_map: bool, y_map: *const u8, y_bytes: usize, state: *mut [f64; 4],
+        ) -> u32;
+        pub fn moments_pearson_corr(
+            x: *const f64, n: usize, x_has_map: bool, x_map: *const u8, x_bytes: usize,
+            y: *const f64, m: usize, y_has_map: bool, y_map: *const u8, y_bytes: usize, state: *mut [f64; 6],
+        ) -> u32;
+        pub fn moments_skew_range(
+            x: *const f64, n: usize, has_map: bool, map: *const u8, bytes: usize, start: usize, length: usize, state: *mut [f64; 4],
+        ) -> u32;
+        pub fn moments_kurtosis_range(
+            x: *const f64, n: usize, has_map: bool, map: *const u8, bytes: usize, start: usize, length: usize, state: *mut [f64; 5],
+        ) -> u32;
+
+        pub safe fn moments_var_insert_one(state: VarState, x: f64) -> VarState;
+        pub safe fn moments_cov_insert_one(state: CovState, x: f64, y: f64) -> CovState;
+        pub safe fn moments_pearson_insert_one(state: PearsonState, x: f64, y: f64) -> PearsonState;
+        pub safe fn moments_skew_insert_one(state: SkewState, x: f64) -> SkewState;
+        pub safe fn moments_kurtosis_insert_one(state: KurtosisState, x: f64) -> KurtosisState;
+        pub safe fn moments_var_combine(state: VarState, other: VarState) -> VarState;
+        pub safe fn moments_cov_combine(state: CovState, other: CovState) -> CovState;
+        pub safe fn moments_pearson_combine(state: PearsonState, other: PearsonState) -> PearsonState;
+        pub safe fn moments_skew_combine(state: SkewState, other: SkewState) -> SkewState;
+        pub safe fn moments_kurtosis_combine(state: KurtosisState, other: KurtosisState) -> KurtosisState;
+        pub safe fn moments_var_finalize(state: VarState, ddof: u8, figure: &mut f64) -> u8;
+        pub safe fn moments_cov_finalize(state: CovState, ddof: u8, figure: &mut f64) -> u8;
+        pub safe fn moments_skew_finalize(state: SkewState, bias: bool, figure: &mut f64) -> u8;
+        pub safe fn moments_kurtosis_finalize(state: KurtosisState, fisher: bool, bias: bool, figure: &mut f64) -> u8;
+        pub safe fn moments_pearson_finalize(state: PearsonState) -> f64;
+        pub safe fn moments_root(x: f64) -> f64;
+    }
+    #[cfg(feature = "rolling")]
+    unsafe extern "C" {
+        pub fn moments_plan_var(
+            trace: *const u8, bytes: usize, readings: *mut f64, readings_len: usize, has_map: bool, map: *const u8, map_bytes: usize,
+            starts: *const u32, starts_len: usize, ends: *const u32, ends_len: usize, min_periods: usize, ddof: u8,
+            work: *mut f64, work_len: usize, figures: *mut f64, figures_len: usize, present: *mut u8, present_len: usize,
+        ) -> u32;
+        pub fn moments_plan_skew(
+            trace: *const u8, bytes: usize, readings: *mut f64, readings_len: usize, has_map: bool, map: *const u8, map_bytes: usize,
+            starts: *const u32, starts_len: usize, ends: *const u32, ends_len: usize, min_periods: usize, bias: bool,
+            work: *mut f64, work_len: usize, figures: *mut f64, figures_len: usize, present: *mut u8, present_len: usize,
+        ) -> u32;
+        pub fn moments_plan_kurtosis(
+            trace: *const u8, bytes: usize, readings: *mut f64, readings_len: usize, has_map: bool, map: *const u8, map_bytes: usize,
+            starts: *const u32, starts_len: usize, ends: *const u32, ends_len: usize, min_periods: usize, fisher: bool, bias: bool,
+            work: *mut f64, work_len: usize, figures: *mut f64, figures_len: usize, present: *mut u8, present_len: usize,
+        ) -> u32;
+        pub fn moments_rolling_var(
+            trace: *const f64, n: usize, has_map: bool, map: *const u8, map_bytes: usize, window_size: usize, min_periods: usize,
+            center: bool, ddof: u8,
+            work: *mut f64, work_len: usize, figures: *mut f64, figures_len: usize, present: *mut u8, present_len: usize,
+        ) -> u32;
+        pub fn moments_rolling_skew(
+            trace: *const f64, n: usize, has_map: bool, map: *const u8, map_bytes: usize, window_size: usize, min_periods: usize,
+            center: bool, bias: bool,
+            work: *mut f64, work_len: usize, figures: *mut f64, figures_len: usize, present: *mut u8, present_len: usize,
+        ) -> u32;
+        pub fn moments_rolling_kurtosis(
+            trace: *const f64, n: usize, has_map: bool, map: *const u8, map_bytes: usize, window_size: usize, min_periods: usize,
+            center: bool, fisher: bool, bias: bool,
+            work: *mut f64, work_len: usize, figures: *mut f64, figures_len: usize, present: *mut u8, present_len: usize,
+        ) -> u32;
+        pub fn moments_rolling_var_weights(
+            trace: *const f64, n: usize, has_map: bool, map: *const u8, map_bytes: usize, window_size: usize, min_periods: usize,
+            center: bool, weights: *const f64, weights_len: usize, figures: *mut f64, figures_len: usize, present: *mut u8, present_len: usize,
+        ) -> u32;
+    }
+}
+
+#[cfg(feature = "second")]
+pub fn second() -> Option<Impl> {
+    use c::*;
+    extern "C" fn root(x: f64) -> f64 {
+        moments_root(x)
+    }
+    fn whole(k: &str, x: &[f64], xm: Option<&[u8]>, y: &[f64], ym: Option<&[u8]>, out: &mut [f64; 6]) -> u32 {
+        let (a, b) = (xm.unwrap_or(&[]), ym.unwrap_or(&[]));
+        let (x, xm, y, ym) = ((x.as_ptr(), x.len()), (xm.is_some(), a.as_ptr(), a.len()), (y.as_ptr(), y.len()), (ym.is_some(), b.as_ptr(), b.len()));
+        let state = out.as_mut_ptr();
+        unsafe {
+            match k {
+                "var" => moments_var(x.0, x.1, xm.0, xm.1, xm.2, state.cast()),
+                "skew" => moments_skew(x.0, x.1, xm.0, xm.1, xm.2, state.cast()),
+                "kurt" => moments_kurtosis(x.0, x.1, xm.0, xm.1, xm.2, state.cast()),
+                "cov" => moments_cov(x.0, x.1, xm.0, xm.1, xm.2, y.0, y.1, ym.0, ym.1, ym.2, state.cast()),
+                _ => moments_pearson_corr(x.0, x.1, xm.0, xm.1, xm.2, y.0, y.1, ym.0, ym.1, ym.2, state.cast()),
+            }
+        }
+    }
+    fn range(k: &str, x: &[f64], m: Option<&[u8]>, start: usize, length: usize, out: &mut [f64; 6]) -> u32 {
+        let b = m.unwrap_or(&[]);
+        let state = out.as_mut_ptr();
+        unsafe {
+            match k {
+                "skew" => moments_skew_range(x.as_ptr(), x.len(), m.is_some(), b.as_ptr(), b.len(), start, length, state.cast()),
+                _ => moments_kurtosis_range(x.as_ptr(), x.len(), m.is_some(), b.as_ptr(), b.len(), start, length, state.cast()),
+            }
+        }
+    }
+    let impl_ = Impl { name: "ours", plan: None, fixed: None, weighted: None, whole: Some(whole), range: Some(range), root: Some(root) };
+    #[cfg(feature = "rolling")]
+    let impl_ = Impl { plan: Some(rolling::plan), fixed: Some(rolling::fixed), weighted: Some(rolling::weighted), ..impl_ };
+    Some(impl_)
+}
+
+#[cfg(feature = "rolling")]
+mod rolling {
+    use super::c::*;
+    use crate::Figure;
+
+    #[rustfmt::skip]
+    pub fn plan(x: &[f64], m: Option<&[u8]>, s: &[u32], e: &[u32], f: Figure, min: usize, ov: &mut [f64], op: &mut [u8], w: &mut [f64]) -> u32 {
+        thread_local!(static READ: std::cell::RefCell<Vec<f64>> = const { std::cell::RefCell::new(Vec::new()) });
+        let b = m.unwrap_or(&[]);
+        READ.with(|r| {
+            let mut r = r.borrow_mut();
+            if r.len() < x.len() {
+                r.resize(x.len(), 0.0);
+            }
+            let (t, tn, rd, rn) = (x.as_ptr() as *const u8, x.len() * 8, r.as_mut_ptr(), x.len());
+            let (h, mp, mn) = (m.is_some(), b.as_ptr(), b.len());
+            let (sp, sn, ep, en) = (s.as_ptr(), s.len(), e.as_ptr(), e.len());
+            let (wp, wn, vp, vn, pp, pn) = (w.as_mut_ptr(), w.len(), ov.as_mut_ptr(), ov.len(), op.as_mut_ptr(), op.len());
+            unsafe {
+                match f {
+                    Figure::Var { ddof } => moments_plan_var(t, tn, rd, rn, h, mp, mn, sp, sn, ep, en, min, ddof, wp, wn, vp, vn, pp, pn),
+                    Figure::Skew { bias } => moments_plan_skew(t, tn, rd, rn, h, mp, mn, sp, sn, ep, en, min, bias, wp, wn, vp, vn, pp, pn),
+                    Figure::Kurt { fisher, bias } => moments_plan_kurtosis(t, tn, rd, rn, h, mp, mn, sp, sn, ep, en, min, fisher, bias, wp, wn, vp, vn, pp, pn),
+                }
+            }
+        })
+    }
+    #[rustfmt::skip]
+    pub fn fixed(x: &[f64], m: Option<&[u8]>, size: usize, c: bool, f: Figure, min: usize, ov: &mut [f64], op: &mut [u8], w: &mut [f64]) -> u32 {
+        let b = m.unwrap_or(&[]);
+        let (t, n, h, mp, mn) = (x.as_ptr(), x.len(), m.is_some(), b.as_ptr(), b.len());
+        let (wp, wn, vp, vn, pp, pn) = (w.as_mut_ptr(), w.len(), ov.as_mut_ptr(), ov.len(), op.as_mut_ptr(), op.len());
+        unsafe {
+            match f {
+                Figure::Var { ddof } => moments_rolling_var(t, n, h, mp, mn, size, min, c, ddof, wp, wn, vp, vn, pp, pn),
+                Figure::Skew { bias } => moments_rolling_skew(t, n, h, mp, mn, size, min, c, bias, wp, wn, vp, vn, pp, pn),
+                Figure::Kurt { fisher, bias } => moments_rolling_kurtosis(t, n, h, mp, mn, size, min, c, fisher, bias, wp, wn, vp, vn, pp, pn),
+            }
+        }
+    }
+    #[rustfmt::skip]
+    pub fn weighted(x: &[f64], size: usize, c: bool, w: &[f64], min: usize, ov: &mut [f64], op: &mut [u8]) -> u32 {
+        let none: &[u8] = &[];
+        unsafe {
+            moments_rolling_var_weights(x.as_ptr(), x.len(), false, none.as_ptr(), 0, size, min, c, w.as_ptr(), w.len(), ov.as_mut_ptr(), ov.len(), op.as_mut_ptr(), op.len())
+        }
+    }
+}
