@@ -4,3 +4,4 @@ pub mod Counts
 pub mod Signs
 pub mod Finiteness
 pub mod Patterns
+pub mod Decoding

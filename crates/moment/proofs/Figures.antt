@@ -15,7 +15,7 @@ use Rattle.moment.specs.declared.skew_state.SkewState.{SkewState}
 use Rattle.moment.specs.declared.kurtosis_state.KurtosisState.{KurtosisState}
 use Rattle.moment.specs.declared.Figure.{Figure}
 use Rattle.moment.specs.declared.Figure.the-variants.{Missing, Present}
-use Rattle.moment.specs.Var.{notNegative, varFinalize}
+use Rattle.moment.specs.Var.{notNegative, varFinalize, notBelowZero}
 use Rattle.moment.specs.Cov.{covFinalize}
 use Rattle.moment.specs.Skew.{skewBiased, skewCorrection, skewFinalize}
 use Rattle.moment.specs.Kurtosis.{kurtosisBiased, kurtosisUnbiased, lessThree, kurtosisFinalize}
@@ -60,22 +60,17 @@ module _ (n : ℕ) (h : n ≤ 2 ^ 53) where
 
   -- biased kurtosis where the count is 0, unbiased where it is at most 3
   pub kurtosis-biased-missing : (s : KurtosisState) (fisher : Bool) → s .weight ≡ count n
-      → kurtosisFinalize s fisher true ≡ cond (eqb n 0) Missing (Present (lessThree fisher (kurtosisBiased s)))
+      → kurtosisFinalize s fisher true ≡ cond (eqb n 0) Missing (Present (lessThree (kurtosisBiased s) fisher))
   unfolding kurtosisFinalize
   kurtosis-biased-missing s fisher e = rw (none (s .weight) e)
 
   pub kurtosis-unbiased-missing : (s : KurtosisState) (fisher : Bool) → s .weight ≡ count n
       → kurtosisFinalize s fisher false
-      ≡ cond (leb n 3) Missing (Present (lessThree fisher (kurtosisUnbiased (s .weight) (kurtosisBiased s))))
+      ≡ cond (leb n 3) Missing (Present (lessThree (kurtosisUnbiased (s .weight) (kurtosisBiased s)) fisher))
   unfolding kurtosisFinalize
   kurtosis-unbiased-missing s fisher e = rw (at-most (s .weight) three64 3 (omega arith) three-is e)
 
 -- ---- a variance
--- missing, NaN or at least zero
-unfoldable pub notBelowZero : Figure → Bool
-notBelowZero Missing = true
-notBelowZero (Present v) = isNan v || le zero64 v
-
 -- of any state, whatever its floats
 pub var-not-below-zero : (s : VarState) (ddof : ℕ) → T (notBelowZero (varFinalize s ddof))
 unfolding varFinalize notBelowZero

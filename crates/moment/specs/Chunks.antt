@@ -13,7 +13,7 @@ unfoldable pub chunks : {A : Type 0} → ℕ → List A → List (List A)
 chunks zero xs = []
 chunks (suc k) xs = take 128 xs ∷ chunks k (drop 128 xs)
 
--- the list in chunks of 128, the last shorter
+-- the list in chunks of 128, the last of which may be shorter
 unfoldable pub chunksOf : {A : Type 0} → List A → List (List A)
 chunksOf xs = chunks ((length xs + 127) / 128) xs
 

@@ -63,18 +63,18 @@ kurtosisMerge s o =
     let deltaW = delta ⊘ w in
     let mean = s .mean ⊕ o .weight ⊗ deltaW in
     let diff = s .weight ⊖ o .weight in
-    let so = s .weight ⊗ o .m2 in
-    let os = o .weight ⊗ s .m2 in
+    let selfOther = s .weight ⊗ o .m2 in
+    let otherSelf = o .weight ⊗ s .m2 in
     let update = o .weight ⊗ (o .mean ⊖ mean) ⊗ delta in
     kurtosisClear record {
       weight = w;
       mean = mean;
       m2 = s .m2 ⊕ o .m2 ⊕ update;
-      m3 = s .m3 ⊕ o .m3 ⊕ deltaW ⊗ (update ⊗ diff ⊕ three64 ⊗ (so ⊖ os));
+      m3 = s .m3 ⊕ o .m3 ⊕ deltaW ⊗ (update ⊗ diff ⊕ three64 ⊗ (selfOther ⊖ otherSelf));
       m4 =
           s .m4 ⊕ o .m4
           ⊕ deltaW
-          ⊗ (deltaW ⊗ (update ⊗ (s .weight ⊗ diff ⊕ o .weight ⊗ o .weight) ⊕ six64 ⊗ (s .weight ⊗ so ⊕ o .weight ⊗ os))
+          ⊗ (deltaW ⊗ (update ⊗ (s .weight ⊗ diff ⊕ o .weight ⊗ o .weight) ⊕ six64 ⊗ (s .weight ⊗ selfOther ⊕ o .weight ⊗ otherSelf))
           ⊕ four64 ⊗ (s .weight ⊗ o .m3 ⊖ o .weight ⊗ s .m3));
     }
 
@@ -89,7 +89,7 @@ kurtosisBiased s =
     let m2 = s .m2 ⊘ s .weight in
     cond (isZero m2 (s .mean)) nan (m4 ⊘ (m2 ⊗ m2))
 
--- `KurtosisState::finalize`, what it makes of biased_est where it is not biased
+-- `KurtosisState::finalize`: the unbiased estimate, from the weight and biased_est
 abbrev pub kurtosisUnbiased : Float → Float → Float
 kurtosisUnbiased n estimate =
     (n ⊖ one64) ⊘ (n ⊖ two64)
@@ -97,12 +97,12 @@ kurtosisUnbiased n estimate =
     ⊕ three64
 
 -- `KurtosisState::finalize`: "less three (`fisher`)"
-abbrev pub lessThree : Bool → Float → Float
-lessThree fisher out = cond fisher (out ⊖ three64) out
+abbrev pub lessThree : Float → Bool → Float
+lessThree out fisher = cond fisher (out ⊖ three64) out
 
 -- `KurtosisState::finalize`: "missing: .. biased .. when weight is 0; unbiased when weight .. ≤ 3"
 unfoldable pub kurtosisFinalize : KurtosisState → Bool → Bool → Figure
 kurtosisFinalize s fisher bias =
     let n = s .weight in
-    cond bias (cond (eq n zero64) Missing (Present (lessThree fisher (kurtosisBiased s))))
-    (cond (le n three64) Missing (Present (lessThree fisher (kurtosisUnbiased n (kurtosisBiased s)))))
+    cond bias (cond (eq n zero64) Missing (Present (lessThree (kurtosisBiased s) fisher)))
+    (cond (le n three64) Missing (Present (lessThree (kurtosisUnbiased n (kurtosisBiased s)) fisher)))

@@ -1,4 +1,4 @@
--- In document 01's order: figures, states, whole arrays and ranges.
+-- Figures, then the states in the source's order, then whole arrays and ranges.
 pub mod Figure
 pub mod Sums
 pub mod Var

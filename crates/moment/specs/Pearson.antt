@@ -7,7 +7,7 @@ use lib.ListN.{length}
 use lib.Ieee.{Float, nan, eq, lt}
 use Rattle.float.specs.Operators.{_⊕_, _⊖_, _⊗_, _⊘_, zero64, one64, count}
 use Rattle.root.specs.Root.{root}
-use Rattle.moment.specs.Sums.{sumOf, firstOf, secondOf, product}
+use Rattle.moment.specs.Sums.{sumOf, firstOf, secondOf, square, product}
 use Rattle.moment.specs.Cov.{pairMean}
 use Rattle.moment.specs.declared.pearson_state.PearsonState.{PearsonState}
 
@@ -25,10 +25,10 @@ pearsonEmpty =
 
 -- (x - mean_x) * (x - mean_x) of a pair, and likewise of its second member
 abbrev pub squareX : Float → Float × Float → Float
-squareX meanX p = (p .0 ⊖ meanX) ⊗ (p .0 ⊖ meanX)
+squareX meanX p = square meanX (p .0)
 
 abbrev pub squareY : Float → Float × Float → Float
-squareY meanY p = (p .1 ⊖ meanY) ⊗ (p .1 ⊖ meanY)
+squareY meanY p = square meanY (p .1)
 
 -- `PearsonState::new` of one or more pairs, about two means
 abbrev pub pearsonAbout : Float → Float → Float → List (Float × Float) → PearsonState

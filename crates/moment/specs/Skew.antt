@@ -53,12 +53,14 @@ skewMerge s o =
     let deltaW = delta ⊘ w in
     let mean = s .mean ⊕ o .weight ⊗ deltaW in
     let diff = s .weight ⊖ o .weight in
+    let selfOther = s .weight ⊗ o .m2 in
+    let otherSelf = o .weight ⊗ s .m2 in
     let update = o .weight ⊗ (o .mean ⊖ mean) ⊗ delta in
     skewClear record {
       weight = w;
       mean = mean;
       m2 = s .m2 ⊕ o .m2 ⊕ update;
-      m3 = s .m3 ⊕ o .m3 ⊕ deltaW ⊗ (update ⊗ diff ⊕ three64 ⊗ (s .weight ⊗ o .m2 ⊖ o .weight ⊗ s .m2));
+      m3 = s .m3 ⊕ o .m3 ⊕ deltaW ⊗ (update ⊗ diff ⊕ three64 ⊗ (selfOther ⊖ otherSelf));
     }
 
 -- `SkewState::combine`

@@ -1,11 +1,11 @@
 -- Document 01, States (000): `VarState`, every operation rounded once in the source's order. A state is any set of floats.
 -- Assumes nothing.
 use Prim.Native.Nat.{ℕ}
-use mathlib.Core.Bool.{cond}
+use mathlib.Core.Bool.{Bool, true, cond, _||_}
 use mathlib.Core.List.{List}
 use lib.Dec.{eqb}
 use lib.ListN.{length}
-use lib.Ieee.{Float, eq, lt, le}
+use lib.Ieee.{Float, isNan, eq, lt, le}
 use Rattle.float.specs.Operators.{_⊕_, _⊖_, _⊗_, _⊘_, zero64, one64, count}
 use Rattle.moment.specs.Sums.{sumOf, itself, square}
 use Rattle.moment.specs.declared.var_state.VarState.{VarState}
@@ -58,3 +58,8 @@ notNegative v = cond (lt v zero64) zero64 v
 -- `VarState::finalize`: "missing .. when weight ≤ ddof"
 unfoldable pub varFinalize : VarState → ℕ → Figure
 varFinalize s ddof = cond (le (s .weight) (count ddof)) Missing (Present (notNegative (s .dp ⊘ (s .weight ⊖ count ddof))))
+
+-- "variance is shown NaN or at least zero", where it is not missing
+unfoldable pub notBelowZero : Figure → Bool
+notBelowZero Missing = true
+notBelowZero (Present v) = isNan v || le zero64 v

@@ -32,6 +32,7 @@ impl CovState {
         self.weight
     }
 
+    // `new` after its test of the length, about the means.
     fn about(x: &[f64], y: &[f64], weight: f64, mean_x: f64, mean_y: f64) -> Self
         requires { ⌜ length (now x) ≡ length (now y) ⌝ }
         ensures { λ r. ⌜ r ≡ covAbout weight «mean_x» «mean_y» (zip (now (x .entry)) (now (y .entry))) ⌝ }
@@ -81,6 +82,7 @@ impl CovState {
         }
     }
 
+    // `combine` after its tests of weights.
     fn merged(self, other: CovState) -> Self
         ensures { λ r. ⌜ r ≡ covMerge self other ⌝ }
     {

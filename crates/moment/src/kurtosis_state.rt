@@ -32,6 +32,7 @@ impl KurtosisState {
         }
     }
 
+    // `from_valid` after its test of the count, about a mean.
     fn about(part: &[f64], has_map: bool, map: &[u8], start: usize, weight: f64, mean: f64) -> Self
         requires { ⌜ start + length (now part) < 2 ^ 64 ⌝ }
         ensures { λ r. ⌜ r ≡ kurtosisAbout weight mean (validFrom (validAt «has_map» (now (map .entry))) start (now (part .entry))) ⌝ }
@@ -123,6 +124,7 @@ impl KurtosisState {
         }.clear_zero_weight_nan()
     }
 
+    // `combine` after its tests of weights.
     fn merged(self, other: KurtosisState) -> Self
         ensures { λ r. ⌜ r ≡ kurtosisMerge self other ⌝ }
     {
@@ -191,7 +193,7 @@ impl KurtosisState {
     }
 
     fn less_three(out: f64, fisher: bool) -> f64
-        ensures { λ r. ⌜ r ≡ lessThree fisher out ⌝ }
+        ensures { λ r. ⌜ r ≡ lessThree out fisher ⌝ }
     {
         if fisher { out - 3.0 } else { out }
     }

@@ -29,7 +29,7 @@ pub enum Figure {
     Present(f64),
 }
 
-// Whether m2, already over the weight, is nothing beside the mean.
+// The source's is_zero: whether m2, already divided by the weight, is negligible beside the mean.
 fn is_zero(m2: f64, mean: f64) -> bool
     ensures { λ r. ⌜ r ≡ isZero m2 mean ⌝ }
 {

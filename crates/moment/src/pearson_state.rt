@@ -35,6 +35,7 @@ impl PearsonState {
         self.weight
     }
 
+    // `new` after its test of the length, about the means.
     fn about(x: &[f64], y: &[f64], weight: f64, mean_x: f64, mean_y: f64) -> Self
         requires { ⌜ length (now x) ≡ length (now y) ⌝ }
         ensures { λ r. ⌜ r ≡ pearsonAbout weight «mean_x» «mean_y» (zip (now (x .entry)) (now (y .entry))) ⌝ }
@@ -94,6 +95,7 @@ impl PearsonState {
         }
     }
 
+    // `combine` after its tests of weights.
     fn merged(self, other: PearsonState) -> Self
         ensures { λ r. ⌜ r ≡ pearsonMerge self other ⌝ }
     {

@@ -30,6 +30,7 @@ impl SkewState {
         }
     }
 
+    // `from_valid` after its test of the count, about a mean.
     fn about(part: &[f64], has_map: bool, map: &[u8], start: usize, weight: f64, mean: f64) -> Self
         requires { ⌜ start + length (now part) < 2 ^ 64 ⌝ }
         ensures { λ r. ⌜ r ≡ skewAbout weight mean (validFrom (validAt «has_map» (now (map .entry))) start (now (part .entry))) ⌝ }
@@ -109,6 +110,7 @@ impl SkewState {
         }.clear_zero_weight_nan()
     }
 
+    // `combine` after its tests of weights.
     fn merged(self, other: SkewState) -> Self
         ensures { λ r. ⌜ r ≡ skewMerge self other ⌝ }
     {

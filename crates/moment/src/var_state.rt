@@ -67,6 +67,7 @@ impl VarState {
         }.clear_zero_weight_nan()
     }
 
+    // `combine` after its tests of weights.
     fn merged(self, other: VarState) -> Self
         ensures { λ r. ⌜ r ≡ varMerge self other ⌝ }
     {

@@ -10,13 +10,14 @@ use Rattle.float.specs.Operators.{zero64, one64, count}
 use Rattle.root.specs.Root.{root}
 use Rattle.moment.specs.declared.var_state.VarState.{VarState}
 use Rattle.moment.specs.declared.Figure.{Figure}
-use Rattle.moment.specs.declared.Figure.the-variants.{Missing, Present}
+use Rattle.moment.specs.declared.Figure.the-variants.{Missing}
 use Rattle.moment.specs.declared.SkewAnswer.{SkewAnswer}
 use Rattle.moment.specs.declared.SkewAnswer.the-variants as skew
 use Rattle.moment.specs.declared.KurtosisAnswer.{KurtosisAnswer}
 use Rattle.moment.specs.declared.KurtosisAnswer.the-variants as kurtosis
 use Rattle.moment.specs.declared.PearsonAnswer.{PearsonAnswer}
 use Rattle.moment.specs.declared.PearsonAnswer.the-variants as pearson
+use Rattle.moment.specs.Figure.{doubleOf, byteOf}
 use Rattle.moment.specs.Var.{varEmpty, varInsert, varCombine, varFinalize}
 use Rattle.moment.specs.Pearson.{pearsonFinalize}
 use Rattle.moment.specs.Skew.{skewFinalize}
@@ -27,12 +28,13 @@ use Rattle.moment.specs.Arrays.{pearsonAnswer, skewRange, kurtosisRange}
 abbrev pub same : Float → Float → Bool
 same x y = eqb (toBits binary64 x) (toBits binary64 y)
 
--- both missing, or figures of the same bits
-abbrev pub alike : Figure → Figure → Bool
-alike Missing Missing = true
-alike Missing (Present y) = false
-alike (Present x) Missing = false
-alike (Present x) (Present y) = same x y
+-- a figure's byte and double in the paper's values
+abbrev pub gives : Figure → ℕ → Float → Bool
+gives figure byte x = eqb (byteOf figure) byte && same (doubleOf figure) x
+
+-- a reading that is a whole number
+abbrev pub reading : ℕ → Float
+reading n = count n
 
 unfoldable pub every : List Bool → Bool
 every [] = true
@@ -53,26 +55,27 @@ correlationOf (pearson.State s) = pearsonFinalize s
 correlationOf (pearson.Refused number) = zero64
 
 -- 2 and 4 inserted
-abbrev pub two : VarState
-two = foldl varInsert varEmpty (count 2 ∷ count 4 ∷ [])
+abbrev pub twoInserted : VarState
+twoInserted = foldl varInsert varEmpty (reading 2 ∷ count 4 ∷ [])
 
 -- P1 empty variance, ddof 0: missing. P2 insert 2, 4: ddof 0, 1, 2 gives 1, 2, missing. P3 empty combined with (weight 1,
 -- mean infinity, dp 0): NaN at ddof 0. P4 Pearson of (1,2),(3,4): 1; of one pair: NaN. P5 range 0,0,0,0,5, biased skewness:
 -- 1.5. P6 range 1,3, biased kurtosis: 1, less three (`fisher`) -2. P10 root of 2: 3FF6A09E667F3BCD; of 2^-1074: 2^-537.
 unfoldable pub cases : List Bool
 cases =
-    alike (varFinalize varEmpty 0) Missing
-    ∷ alike (varFinalize two 0) (Present (count 1))
-    ∷ alike (varFinalize two 1) (Present (count 2))
-    ∷ alike (varFinalize two 2) Missing
-    ∷ alike (varFinalize (varCombine varEmpty (record { weight = one64; mean = inf false; dp = zero64 })) 0) (Present nan)
-    ∷ same (correlationOf (pearsonAnswer (count 1 ∷ count 3 ∷ []) false [] (count 2 ∷ count 4 ∷ []) false [])) (count 1)
-    ∷ same (correlationOf (pearsonAnswer (count 1 ∷ []) false [] (count 2 ∷ []) false [])) nan
-    ∷ alike
-    (skewnessOf (skewRange (count 0 ∷ count 0 ∷ count 0 ∷ count 0 ∷ count 5 ∷ []) false [] 0 5))
-    (Present (ofBits binary64 0x3FF8000000000000))
-    ∷ alike (kurtosisOf false (kurtosisRange (count 1 ∷ count 3 ∷ []) false [] 0 2)) (Present (count 1))
-    ∷ alike (kurtosisOf true (kurtosisRange (count 1 ∷ count 3 ∷ []) false [] 0 2)) (Present (ofInt binary64 (negsuc 1)))
-    ∷ same (root (count 2)) (ofBits binary64 0x3FF6A09E667F3BCD)
+    gives (varFinalize varEmpty 0) 0 zero64
+    ∷ gives (varFinalize twoInserted 0) 1 (reading 1)
+    ∷ gives (varFinalize twoInserted 1) 1 (reading 2)
+    ∷ gives (varFinalize twoInserted 2) 0 zero64
+    ∷ gives (varFinalize (varCombine varEmpty (record { weight = one64; mean = inf false; dp = zero64 })) 0) 1 nan
+    ∷ same (correlationOf (pearsonAnswer (reading 1 ∷ reading 3 ∷ []) false [] (reading 2 ∷ reading 4 ∷ []) false [])) (reading 1)
+    ∷ same (correlationOf (pearsonAnswer (reading 1 ∷ []) false [] (reading 2 ∷ []) false [])) nan
+    ∷ gives
+    (skewnessOf (skewRange (reading 0 ∷ reading 0 ∷ reading 0 ∷ reading 0 ∷ reading 5 ∷ []) false [] 0 5))
+    1
+    (ofBits binary64 0x3FF8000000000000)
+    ∷ gives (kurtosisOf false (kurtosisRange (reading 1 ∷ reading 3 ∷ []) false [] 0 2)) 1 (reading 1)
+    ∷ gives (kurtosisOf true (kurtosisRange (reading 1 ∷ reading 3 ∷ []) false [] 0 2)) 1 (ofInt binary64 (negsuc 1))
+    ∷ same (root (reading 2)) (ofBits binary64 0x3FF6A09E667F3BCD)
     ∷ same (root (ofBits binary64 1)) (ofBits binary64 0x1E60000000000000)
     ∷ []

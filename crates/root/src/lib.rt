@@ -56,7 +56,7 @@ fn guess(bits: u64) -> u64
     }
 }
 
-// 1 where a is above b, and 0 otherwise: added without a branch, which at a root would be hard to foresee.
+// 1 where a is above b, else 0, as a number to add: the processor could not predict a branch here.
 fn exceeds(a: u64, b: u64) -> u64
     ensures { λ r. ⌜ (r ≤ 1) × (b < a → r ≡ 1) × (a ≤ b → r ≡ 0) ⌝ }
 {
@@ -116,7 +116,8 @@ fn nearest(x: u64, bits: u64) -> u64
     }
 }
 
-// The bits of the root of m * 2^j units. Half of an even exponent is the root's, so an odd one lends m a factor of 2.
+// The bits of the double whose size in units is nearest to the root of m * 2^j. An odd j lends m a factor of 2, so that half
+// of what is left is the root's exponent.
 fn assemble(m: u64, j: u64) -> u64
     requires { ⌜ (2 ^ 52 ≤ m) × (m < 2 ^ 53) × (1022 ≤ j) × (j ≤ 3119) ⌝ }
     ensures { λ r. ⌜ (r < 0x7ff0000000000000) × (ofBits binary64 r ≡ rootOfUnits (m * 2 ^ j)) ⌝ }

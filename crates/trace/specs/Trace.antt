@@ -1,6 +1,6 @@
 -- Document 01, "A plan call, from bytes to figures": which places of a trace are valid, and the readings there. Assumes nothing.
 use Prim.Native.Nat.{ℕ, suc, _/_, _%_, _^_}
-use mathlib.Core.Bool.{Bool, true, false, cond}
+use mathlib.Core.Bool.{Bool, true, cond, _&&_}
 use mathlib.Core.List.{List, [], _∷_, zip}
 use lib.Dec.{eqb}
 use lib.ListN.{getD}
@@ -12,7 +12,7 @@ validAt has map i = cond has (eqb (getD map (i / 8) 0 / 2 ^ (i % 8) % 2) 1) true
 
 -- "A pair is taken where both places are valid."
 unfoldable pub bothAt : Bool → List ℕ → Bool → List ℕ → ℕ → Bool
-bothAt has map has' map' i = cond (validAt has map i) (validAt has' map' i) false
+bothAt has map has' map' i = validAt has map i && validAt has' map' i
 
 -- the valid ones, in order, of entries that stand from place i on
 unfoldable pub validFrom : {A : Type 0} → (ℕ → Bool) → ℕ → List A → List A

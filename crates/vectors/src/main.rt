@@ -80,4 +80,3 @@ fn main() {
     replay(5, b"whole");
     replay(6, b"range");
 }
-// a

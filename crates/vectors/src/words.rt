@@ -1,11 +1,12 @@
 // A stored list is words of 16 hexadecimal digits, each followed by one byte, so word k stands at
 // byte 17 * k. A record is a part of a list, its words counted from 0. What lies past the end
 // reads as 0, so nothing is asked of a list.
+ghost use mathlib.Core.Path.{_≡_};
 ghost use Prim.Native.Nat.{_+_, _<_, _≤_};
 ghost use lib.ListN.{length};
 
 pub fn wide(x: u8) -> u64
-    ensures { λ r. ⌜ r ≤ x ⌝ }
+    ensures { λ r. ⌜ r ≡ x ⌝ }
 {
     x as u64
 }

@@ -79,12 +79,15 @@ loop-less c =
 loop-again : tie.Need-loop-again Inv-loop μ-loop
 loop-again c =
     let f = c .before .before .before .before .before .before in
-    let inv = f .before .before .before .before .loop .inv in
+    let head = f .before .before .before .before in
+    let inv = head .loop .inv in
+    let a = head .before .before .before .before .before .before .args in
+    let both = bothAt (a .x-has-map) (a .x-map .now) (a .y-has-map) (a .y-map .now) in
     let filled = f .fill-pairs .ensures in (
       f .fill-pairs .kept .1 .1 .1 .1 .1 .1 .1 .0 ∙ inv .0,
       f .fill-pairs .kept .1 .1 .1 .1 .1 .1 .1 .1 .0 ∙ inv .1,
       rw (c .combine .ensures, c .before .new .ensures)
-          (combined-pairs covNew covCombine covEmpty _ _ _ _ _ _ _ _ _ (filled .0) (filled .1) (none _) (inv .2)),
+          (combined-pairs covNew covCombine covEmpty both _ _ _ _ _ _ _ _ (filled .0) (filled .1) (none _) (inv .2)),
     )
 
 returns : tie.Need-returns Inv-loop μ-loop
