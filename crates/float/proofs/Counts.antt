@@ -1,7 +1,7 @@
 -- The float of a whole number up to 2 ^ 53 is that number: such floats add and compare as the numbers do. So a weight that
 -- starts at 0.0 and is raised by 1.0 counts exactly. Assumes nothing.
 use mathlib.Core.Path.{_≡_, refl, sym, ap, _∙_, subst}
-use mathlib.Core.Logic.{_⊎_, inl, inr}
+use mathlib.Core.Logic.{inl, inr}
 use Prim.Native.Nat.{ℕ, _+_, _*_, _^_, _≤_, _<_}
 use native.Mathlib.Nat.{eq-or-lt-of-le, mul-one, mul-comm, mul-assoc, add-mul, mul-pos, le-of-eq, eq-of-mul-eq-mul-right, mul-le-mul-right, mul-lt-mul-of-pos-right, not-le-of-lt, lt-of-not-le, zero-lt-suc}
 use native.Mathlib.Omega.{arith}

@@ -1,13 +1,13 @@
 -- Readings that are lent as bytes: eight bytes spell a number of 64 bits, and the reading is the float of these bits, which are
 -- unchanged but for a NaN's. Assumes nothing.
 use Prim.Native.Nat.{ℕ, _*_, _%_, _^_, _+_, _<_, _≤_}
-use mathlib.Core.Path.{_≡_, sym, subst}
+use mathlib.Core.Path.{_≡_, subst}
 use mathlib.Core.Bool.{Bool, not}
 use mathlib.Core.List.{List}
 use native.Mathlib.Omega.{arith}
 use lib.Dec.{T}
 use lib.ListN.{getD}
-use lib.Ieee.{nan, binary64, ofBits, toBits}
+use lib.Ieee.{nan, binary64, toBits}
 use lib.Ieee.Bits.{toBits-ofBits, nanBits-is}
 use Rattle.float.specs.Bytes.{le64, readingAt}
 use Rattle.float.proofs.Patterns.{pattern-nan, pattern-number}

@@ -1,13 +1,12 @@
 -- A state that is combined chunk by chunk: the state so far, with the chunks of what is left combined, is the whole. Over any
 -- state and entry. Each state gives one fact, that a chunk of nothing adds nothing. Assumes nothing.
-use Prim.Native.Nat.{ℕ, zero, suc, _+_, _-_, _/_, _<_, _≤_}
+use Prim.Native.Nat.{ℕ, suc, _+_, _-_, _/_, _<_, _≤_}
 use mathlib.Core.Path.{_≡_, refl, sym, ap, _∙_}
 use mathlib.Core.Bool.{Bool}
 use mathlib.Core.List.{List, [], _∷_, zip, zipWith}
 use native.Mathlib.Omega.{arith}
 use lib.ListN.{length, take, drop, length-drop}
 use lib.Ieee.{Float}
-use Rattle.trace.specs.Trace.{validFrom}
 use Rattle.moment.specs.Chunks.{chunks, chunksOf, foldChunks, inChunks, Filled}
 use Rattle.moment.proofs.Folds.{from-end}
 use Rattle.moment.proofs.Filling.{rest}

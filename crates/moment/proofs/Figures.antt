@@ -2,10 +2,10 @@
 -- missing, NaN or at least zero. Assumes nothing.
 use Prim.Native.Nat.{ℕ, _^_, _≤_, _<_}
 use mathlib.Core.Path.{_≡_, refl, ap, _∙_}
-use mathlib.Core.Bool.{Bool, true, false, cond, _||_}
+use mathlib.Core.Bool.{Bool, true, false, cond}
 use native.Mathlib.Omega.{arith}
 use lib.Dec.{T, eqb, leb}
-use lib.Ieee.{Float, isNan, eq, le, ofBits, ofInt}
+use lib.Ieee.{Float, eq, le, ofBits, ofInt}
 use Rattle.float.specs.Operators.{_⊖_, _⊗_, _⊘_, zero64, two64, three64, count}
 use Rattle.float.proofs.Counts.{count-zero}
 use Rattle.float.proofs.Signs.{nan-or-at-least-zero}
@@ -13,7 +13,6 @@ use Rattle.moment.specs.declared.var_state.VarState.{VarState}
 use Rattle.moment.specs.declared.cov_state.CovState.{CovState}
 use Rattle.moment.specs.declared.skew_state.SkewState.{SkewState}
 use Rattle.moment.specs.declared.kurtosis_state.KurtosisState.{KurtosisState}
-use Rattle.moment.specs.declared.Figure.{Figure}
 use Rattle.moment.specs.declared.Figure.the-variants.{Missing, Present}
 use Rattle.moment.specs.Var.{notNegative, varFinalize, notBelowZero}
 use Rattle.moment.specs.Cov.{covFinalize}

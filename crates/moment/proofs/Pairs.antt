@@ -1,6 +1,6 @@
 -- Two lists of one length as one list of pairs: parts, elements, sums of one member, and the valid ones. Assumes nothing.
 use Prim.Native.Nat.{ℕ, zero, suc, _+_, _<_, _≤_}
-use mathlib.Core.Path.{_≡_, refl, sym, ap, _∙_}
+use mathlib.Core.Path.{_≡_, refl, sym, ap}
 use mathlib.Core.Bool.{Bool, true, false, cond}
 use mathlib.Core.List.{List, [], _∷_, foldl, zip, zipWith}
 use native.Mathlib.Omega.{arith}

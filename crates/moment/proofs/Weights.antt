@@ -16,11 +16,11 @@ use Rattle.moment.specs.declared.cov_state.CovState.{CovState}
 use Rattle.moment.specs.declared.pearson_state.PearsonState.{PearsonState}
 use Rattle.moment.specs.declared.skew_state.SkewState.{SkewState}
 use Rattle.moment.specs.declared.kurtosis_state.KurtosisState.{KurtosisState}
-use Rattle.moment.specs.Var.{varEmpty, varClear, varInsert, varMerge, varCombine}
+use Rattle.moment.specs.Var.{varClear, varInsert, varMerge, varCombine}
 use Rattle.moment.specs.Cov.{covInsert, covMerge, covCombine}
 use Rattle.moment.specs.Pearson.{pearsonInsert, pearsonMerge, pearsonCombine}
-use Rattle.moment.specs.Skew.{skewEmpty, skewClear, skewInsert, skewMerge, skewCombine}
-use Rattle.moment.specs.Kurtosis.{kurtosisEmpty, kurtosisClear, kurtosisInsert, kurtosisMerge, kurtosisCombine}
+use Rattle.moment.specs.Skew.{skewClear, skewInsert, skewMerge, skewCombine}
+use Rattle.moment.specs.Kurtosis.{kurtosisClear, kurtosisInsert, kurtosisMerge, kurtosisCombine}
 
 -- ---- the law
 module _ {S A : Type 0} (weight : S → Float) (insert : S → A → S) (raises : (s : S) (x : A) → weight (insert s x) ≡ weight s ⊕ one64) where

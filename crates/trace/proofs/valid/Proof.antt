@@ -1,6 +1,6 @@
 -- By the flag and by the length of the map. Assumes nothing.
 use native.Mathlib.Nat.{zero-div}
-use Prim.Native.Nat.{ℕ, _/_}
+use Prim.Native.Nat.{ℕ}
 use borrow.Author.Tests.{not-true, not-false}
 use lib.ListN.{List·getD-eq-default}
 use Rattle.trace.specs.Trace.{validAt}

@@ -1,5 +1,4 @@
 -- By the test of the weight. Assumes nothing.
-use borrow.Author.Needs.{needs}
 use Rattle.moment.proofs.kurtosis_state.KurtosisState.clear_zero_weight_nan.Statement.{statement}
 use Rattle.moment.proofs.kurtosis_state.KurtosisState.clear_zero_weight_nan.Tie as tie
 use Rattle.moment.specs.Kurtosis.{kurtosisClear}

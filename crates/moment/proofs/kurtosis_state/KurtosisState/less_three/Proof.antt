@@ -1,5 +1,4 @@
 -- By the flag. Assumes nothing.
-use borrow.Author.Needs.{needs}
 use Rattle.moment.proofs.kurtosis_state.KurtosisState.less_three.Statement.{statement}
 use Rattle.moment.proofs.kurtosis_state.KurtosisState.less_three.Tie as tie
 

@@ -1,7 +1,7 @@
 -- A fold over the pairs for each sum. Assumes nothing.
-use Prim.Native.Nat.{ℕ, _-_}
-use mathlib.Core.Path.{_≡_, refl, sym}
-use mathlib.Core.List.{List, zip}
+use Prim.Native.Nat.{_-_}
+use mathlib.Core.Path.{refl}
+use mathlib.Core.List.{zip}
 use native.Mathlib.Omega.{arith}
 use lib.ListN.{length}
 use Rattle.float.specs.Operators.{_⊕_, zero64}
