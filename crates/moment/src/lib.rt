@@ -36,8 +36,8 @@ fn is_zero(m2: f64, mean: f64) -> bool
     m2 <= EPSILON * mean * (EPSILON * mean)
 }
 
-// Whole arrays: the valid readings in chunks of 128, each made a state by `new` and combined in order. A refusal is document 01's
-// number.
+// Whole arrays: the valid readings in chunks of 128, each made a state by `new` and combined in order. A refusal is document
+// 01's number.
 pub enum VarAnswer {
     State(VarState),
     Refused(u32),

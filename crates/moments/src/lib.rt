@@ -1,5 +1,6 @@
-// The library's face to other languages: each entry of docs/ABI.md, with the whole contract of what stands behind it. Nothing
-// is required of a caller. A figure that is NaN has the bits 7FF8000000000000; a member of a state may be any NaN.
+// The library's face to other languages: each entry of docs/ABI.md on whole arrays, ranges and states, with the whole contract
+// of what stands behind it. Nothing is required of a caller. A figure that is NaN has the bits 7FF8000000000000; a member of a
+// state may be any NaN.
 ghost use mathlib.Core.Path.{_≡_};
 ghost use Rattle.root.specs.Root.{root as rootOf};
 ghost use Rattle.moment.specs.Var.{varInsert, varCombine, varFinalize};
