@@ -56,7 +56,8 @@ impl SkewState {
         }
     }
 
-    // The source's `from_iter`: one state, unchunked, of the valid readings of a part that starts at place `start` of its trace.
+    // The source's `from_iter`: one state, unchunked, of the valid readings of a part that starts at place `start` of its
+    // trace.
     fn from_valid(part: &[f64], has_map: bool, map: &[u8], start: usize) -> Self
         requires { ⌜ start + length (now part) < 2 ^ 64 ⌝ }
         ensures { λ r. ⌜ r ≡ skewNew (validFrom (validAt «has_map» (now (map .entry))) start (now (part .entry))) ⌝ }

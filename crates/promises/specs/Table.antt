@@ -1,5 +1,5 @@
--- Document 01, "Figures to reproduce": the cases marked P, in one table. Each case is a test that its figure, or its missing, is
--- what the public definitions give; `every` says that all hold. Assumes nothing.
+-- Document 01, "Figures to reproduce": the cases marked P, in one table. Each case is a test that its figure, or its
+-- missing, is what the public definitions give; `every` says that all hold. Assumes nothing.
 use Prim.Native.Nat.{ℕ}
 use mathlib.Core.Bool.{Bool, true, false, _&&_}
 use mathlib.Core.List.{List, [], _∷_, foldl}

@@ -1,4 +1,5 @@
--- Document 01, "A plan call, from bytes to figures": which places of a trace are valid, and the readings there. Assumes nothing.
+-- Document 01, "A plan call, from bytes to figures": which places of a trace are valid, and the readings there. Assumes
+-- nothing.
 use Prim.Native.Nat.{ℕ, suc, _/_, _%_, _^_}
 use mathlib.Core.Bool.{Bool, true, cond, _&&_}
 use mathlib.Core.List.{List, [], _∷_, zip}
