@@ -16,7 +16,7 @@ use Rattle.moment.proofs.Pairs.{take-zip, drop-zip, zip-valid}
 fewer : (n : ℕ) → 0 < n → (n + 127) / 128 ≡ suc ((n - 128 + 127) / 128)
 fewer n h = omega arith
 
-chunks-cons : {A : Type 0} (xs : List A) → 0 < length xs → chunksOf xs ≡ take 128 xs ∷ chunksOf (drop 128 xs)
+pub chunks-cons : {A : Type 0} (xs : List A) → 0 < length xs → chunksOf xs ≡ take 128 xs ∷ chunksOf (drop 128 xs)
 unfolding chunks chunksOf
 chunks-cons xs h = rw (fewer (length xs) h, length-drop)
 
