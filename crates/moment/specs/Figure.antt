@@ -1,5 +1,5 @@
--- Document 01, "A plan call, from bytes to figures": what the two cases of the enum `Figure` are in the paper's values.
--- Assumes nothing.
+-- Document 01, "A plan call, from bytes to figures": what the two cases of the enum `Figure` are in the paper's values. A figure is
+-- its term for what `finalize` gives of a state. Assumes nothing.
 use Prim.Native.Nat.{ℕ}
 use lib.Ieee.{Float}
 use Rattle.float.specs.Operators.{zero64}

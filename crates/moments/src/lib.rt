@@ -9,7 +9,7 @@ ghost use Rattle.moment.specs.Pearson.{pearsonInsert, pearsonCombine, pearsonFi
 ghost use Rattle.moment.specs.Skew.{skewInsert, skewCombine, skewFinalize};
 ghost use Rattle.moment.specs.Kurtosis.{kurtosisInsert, kurtosisCombine, kurtosisFinalize};
 ghost use Rattle.moment.specs.Arrays.{varAnswer, varNumber, varMembers, covAnswer, covNumber, covMembers, pearsonAnswer, pearsonNumber, pearsonMembers, skewAnswer, skewRange, skewNumber, skewMembers, kurtosisAnswer, kurtosisRange, kurtosisNumber, kurtosisMembers};
-ghost use Rattle.moments.specs.Handed.{Handed, Written};
+ghost use Rattle.moments.specs.Results.{StateResult, FigureResult};
 use moment::CovAnswer;
 use moment::CovState;
 use moment::Figure;
@@ -23,8 +23,8 @@ use moment::VarAnswer;
 use moment::VarState;
 
 // Whole arrays and ranges: 0 and the state's members, or a refusal's number and the state as it was.
-fn hand_var(answer: VarAnswer, state: &mut [f64; 3]) -> u32
-    ensures { λ r. ⌜ Handed varNumber varMembers answer (now (state .entry)) r (now (state .exit)) ⌝ }
+fn store_var(answer: VarAnswer, state: &mut [f64; 3]) -> u32
+    ensures { λ r. ⌜ StateResult varNumber varMembers answer (now (state .entry)) r (now (state .exit)) ⌝ }
 {
     match answer {
         VarAnswer::State(s) => {
@@ -37,13 +37,13 @@ fn hand_var(answer: VarAnswer, state: &mut [f64; 3]) -> u32
 
 #[no_mangle]
 pub extern "C" fn moments_var(trace: &[f64], has_map: bool, map: &[u8], state: &mut [f64; 3]) -> u32
-    ensures { λ r. ⌜ Handed varNumber varMembers (varAnswer (now (trace .entry)) «has_map» (now (map .entry))) (now (state .entry)) r (now (state .exit)) ⌝ }
+    ensures { λ r. ⌜ StateResult varNumber varMembers (varAnswer (now (trace .entry)) «has_map» (now (map .entry))) (now (state .entry)) r (now (state .exit)) ⌝ }
 {
-    hand_var(moment::var(trace, has_map, map), state)
+    store_var(moment::var(trace, has_map, map), state)
 }
 
-fn hand_skew(answer: SkewAnswer, state: &mut [f64; 4]) -> u32
-    ensures { λ r. ⌜ Handed skewNumber skewMembers answer (now (state .entry)) r (now (state .exit)) ⌝ }
+fn store_skew(answer: SkewAnswer, state: &mut [f64; 4]) -> u32
+    ensures { λ r. ⌜ StateResult skewNumber skewMembers answer (now (state .entry)) r (now (state .exit)) ⌝ }
 {
     match answer {
         SkewAnswer::State(s) => {
@@ -61,9 +61,9 @@ pub extern "C" fn moments_skew(
     map: &[u8],
     state: &mut [f64; 4],
 ) -> u32
-    ensures { λ r. ⌜ Handed skewNumber skewMembers (skewAnswer (now (trace .entry)) «has_map» (now (map .entry))) (now (state .entry)) r (now (state .exit)) ⌝ }
+    ensures { λ r. ⌜ StateResult skewNumber skewMembers (skewAnswer (now (trace .entry)) «has_map» (now (map .entry))) (now (state .entry)) r (now (state .exit)) ⌝ }
 {
-    hand_skew(moment::skew(trace, has_map, map), state)
+    store_skew(moment::skew(trace, has_map, map), state)
 }
 
 #[no_mangle]
@@ -75,16 +75,16 @@ pub extern "C" fn moments_skew_range(
     length: usize,
     state: &mut [f64; 4],
 ) -> u32
-    ensures { λ r. ⌜ Handed skewNumber skewMembers (skewRange (now (trace .entry)) «has_map» (now (map .entry)) start length) (now (state .entry)) r (now (state .exit)) ⌝ }
+    ensures { λ r. ⌜ StateResult skewNumber skewMembers (skewRange (now (trace .entry)) «has_map» (now (map .entry)) start length) (now (state .entry)) r (now (state .exit)) ⌝ }
 {
-    hand_skew(
+    store_skew(
         SkewState::from_array(trace, has_map, map, start, length),
         state,
     )
 }
 
-fn hand_kurtosis(answer: KurtosisAnswer, state: &mut [f64; 5]) -> u32
-    ensures { λ r. ⌜ Handed kurtosisNumber kurtosisMembers answer (now (state .entry)) r (now (state .exit)) ⌝ }
+fn store_kurtosis(answer: KurtosisAnswer, state: &mut [f64; 5]) -> u32
+    ensures { λ r. ⌜ StateResult kurtosisNumber kurtosisMembers answer (now (state .entry)) r (now (state .exit)) ⌝ }
 {
     match answer {
         KurtosisAnswer::State(s) => {
@@ -102,9 +102,9 @@ pub extern "C" fn moments_kurtosis(
     map: &[u8],
     state: &mut [f64; 5],
 ) -> u32
-    ensures { λ r. ⌜ Handed kurtosisNumber kurtosisMembers (kurtosisAnswer (now (trace .entry)) «has_map» (now (map .entry))) (now (state .entry)) r (now (state .exit)) ⌝ }
+    ensures { λ r. ⌜ StateResult kurtosisNumber kurtosisMembers (kurtosisAnswer (now (trace .entry)) «has_map» (now (map .entry))) (now (state .entry)) r (now (state .exit)) ⌝ }
 {
-    hand_kurtosis(moment::kurtosis(trace, has_map, map), state)
+    store_kurtosis(moment::kurtosis(trace, has_map, map), state)
 }
 
 #[no_mangle]
@@ -116,16 +116,16 @@ pub extern "C" fn moments_kurtosis_range(
     length: usize,
     state: &mut [f64; 5],
 ) -> u32
-    ensures { λ r. ⌜ Handed kurtosisNumber kurtosisMembers (kurtosisRange (now (trace .entry)) «has_map» (now (map .entry)) start length) (now (state .entry)) r (now (state .exit)) ⌝ }
+    ensures { λ r. ⌜ StateResult kurtosisNumber kurtosisMembers (kurtosisRange (now (trace .entry)) «has_map» (now (map .entry)) start length) (now (state .entry)) r (now (state .exit)) ⌝ }
 {
-    hand_kurtosis(
+    store_kurtosis(
         KurtosisState::from_array(trace, has_map, map, start, length),
         state,
     )
 }
 
-fn hand_cov(answer: CovAnswer, state: &mut [f64; 4]) -> u32
-    ensures { λ r. ⌜ Handed covNumber covMembers answer (now (state .entry)) r (now (state .exit)) ⌝ }
+fn store_cov(answer: CovAnswer, state: &mut [f64; 4]) -> u32
+    ensures { λ r. ⌜ StateResult covNumber covMembers answer (now (state .entry)) r (now (state .exit)) ⌝ }
 {
     match answer {
         CovAnswer::State(s) => {
@@ -146,13 +146,13 @@ pub extern "C" fn moments_cov(
     y_map: &[u8],
     state: &mut [f64; 4],
 ) -> u32
-    ensures { λ r. ⌜ Handed covNumber covMembers (covAnswer (now (x .entry)) «x_has_map» (now («x_map» .entry)) (now (y .entry)) «y_has_map» (now («y_map» .entry))) (now (state .entry)) r (now (state .exit)) ⌝ }
+    ensures { λ r. ⌜ StateResult covNumber covMembers (covAnswer (now (x .entry)) «x_has_map» (now («x_map» .entry)) (now (y .entry)) «y_has_map» (now («y_map» .entry))) (now (state .entry)) r (now (state .exit)) ⌝ }
 {
-    hand_cov(moment::cov(x, x_has_map, x_map, y, y_has_map, y_map), state)
+    store_cov(moment::cov(x, x_has_map, x_map, y, y_has_map, y_map), state)
 }
 
-fn hand_pearson(answer: PearsonAnswer, state: &mut [f64; 6]) -> u32
-    ensures { λ r. ⌜ Handed pearsonNumber pearsonMembers answer (now (state .entry)) r (now (state .exit)) ⌝ }
+fn store_pearson(answer: PearsonAnswer, state: &mut [f64; 6]) -> u32
+    ensures { λ r. ⌜ StateResult pearsonNumber pearsonMembers answer (now (state .entry)) r (now (state .exit)) ⌝ }
 {
     match answer {
         PearsonAnswer::State(s) => {
@@ -173,9 +173,9 @@ pub extern "C" fn moments_pearson_corr(
     y_map: &[u8],
     state: &mut [f64; 6],
 ) -> u32
-    ensures { λ r. ⌜ Handed pearsonNumber pearsonMembers (pearsonAnswer (now (x .entry)) «x_has_map» (now («x_map» .entry)) (now (y .entry)) «y_has_map» (now («y_map» .entry))) (now (state .entry)) r (now (state .exit)) ⌝ }
+    ensures { λ r. ⌜ StateResult pearsonNumber pearsonMembers (pearsonAnswer (now (x .entry)) «x_has_map» (now («x_map» .entry)) (now (y .entry)) «y_has_map» (now («y_map» .entry))) (now (state .entry)) r (now (state .exit)) ⌝ }
 {
-    hand_pearson(
+    store_pearson(
         moment::pearson_corr(x, x_has_map, x_map, y, y_has_map, y_map),
         state,
     )
@@ -256,8 +256,8 @@ pub extern "C" fn moments_pearson_combine(state: PearsonState, other: PearsonSta
 }
 
 // Writes a figure's double and answers its byte.
-fn write(answer: Figure, figure: &mut f64) -> u8
-    ensures { λ r. ⌜ Written answer r (now (figure .exit)) ⌝ }
+fn store_figure(answer: Figure, figure: &mut f64) -> u8
+    ensures { λ r. ⌜ FigureResult answer r (now (figure .exit)) ⌝ }
 {
     let Figure::Present(v) = answer else {
         *figure = 0.0;
@@ -269,23 +269,23 @@ fn write(answer: Figure, figure: &mut f64) -> u8
 
 #[no_mangle]
 pub extern "C" fn moments_var_finalize(state: VarState, ddof: u8, figure: &mut f64) -> u8
-    ensures { λ r. ⌜ Written (varFinalize state ddof) r (now (figure .exit)) ⌝ }
+    ensures { λ r. ⌜ FigureResult (varFinalize state ddof) r (now (figure .exit)) ⌝ }
 {
-    write(VarState::finalize(state, ddof), figure)
+    store_figure(VarState::finalize(state, ddof), figure)
 }
 
 #[no_mangle]
 pub extern "C" fn moments_cov_finalize(state: CovState, ddof: u8, figure: &mut f64) -> u8
-    ensures { λ r. ⌜ Written (covFinalize state ddof) r (now (figure .exit)) ⌝ }
+    ensures { λ r. ⌜ FigureResult (covFinalize state ddof) r (now (figure .exit)) ⌝ }
 {
-    write(CovState::finalize(state, ddof), figure)
+    store_figure(CovState::finalize(state, ddof), figure)
 }
 
 #[no_mangle]
 pub extern "C" fn moments_skew_finalize(state: SkewState, bias: bool, figure: &mut f64) -> u8
-    ensures { λ r. ⌜ Written (skewFinalize state bias) r (now (figure .exit)) ⌝ }
+    ensures { λ r. ⌜ FigureResult (skewFinalize state bias) r (now (figure .exit)) ⌝ }
 {
-    write(SkewState::finalize(state, bias), figure)
+    store_figure(SkewState::finalize(state, bias), figure)
 }
 
 #[no_mangle]
@@ -295,9 +295,9 @@ pub extern "C" fn moments_kurtosis_finalize(
     bias: bool,
     figure: &mut f64,
 ) -> u8
-    ensures { λ r. ⌜ Written (kurtosisFinalize state fisher bias) r (now (figure .exit)) ⌝ }
+    ensures { λ r. ⌜ FigureResult (kurtosisFinalize state fisher bias) r (now (figure .exit)) ⌝ }
 {
-    write(KurtosisState::finalize(state, fisher, bias), figure)
+    store_figure(KurtosisState::finalize(state, fisher, bias), figure)
 }
 
 #[no_mangle]

@@ -1,5 +1,5 @@
--- Document 01, "Who can cause a refusal": the numbers that whole arrays and ranges can answer, and their order. A call that
--- is accepted has the number 0. Assumes nothing.
+-- Document 01, "Who can cause a refusal": the numbers that whole arrays and ranges can answer, and their order. A refusal is its
+-- term for an error, answered as a number; a call that is accepted has the number 0. Assumes nothing.
 use Prim.Native.Nat.{ℕ, _+_, _/_}
 use mathlib.Core.Bool.{Bool, false, cond, not, _||_}
 use mathlib.Core.List.{List}

@@ -1,5 +1,5 @@
--- Document 01, "A plan call, from bytes to figures": which places of a trace are valid, and the readings there. Assumes
--- nothing.
+-- Document 01, "A plan call, from bytes to figures": which places of a trace are valid, and the readings there. Its terms: a trace
+-- is a series of n doubles, a reading one of them, a place an index; a place that is not valid is missing. Assumes nothing.
 use Prim.Native.Nat.{ℕ, suc, _/_, _%_, _^_}
 use mathlib.Core.Bool.{Bool, true, cond, _&&_}
 use mathlib.Core.List.{List, [], _∷_, zip}

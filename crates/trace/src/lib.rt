@@ -8,7 +8,7 @@ ghost use Rattle.trace.specs.Trace.{validAt, bothAt};
 ghost use Rattle.trace.specs.Refusals.{refusal, _orElse_, wrongMap, arrayRefusal, pairRefusal, rangeRefusal};
 
 // The most readings that a trace may have.
-pub const MOST: usize = 16777216;
+pub const MAX_READINGS: usize = 16777216;
 
 // Whether place i is valid. A place past the map's end reads as missing.
 pub fn valid(has_map: bool, map: &[u8], i: usize) -> bool
@@ -66,7 +66,10 @@ pub fn wrong_map(n: usize, has_map: bool, map: &[u8]) -> bool
 pub fn array_refusal(n: usize, has_map: bool, map: &[u8]) -> u32
     ensures { λ r. ⌜ r ≡ arrayRefusal n «has_map» (now (map .entry)) ⌝ }
 {
-    first(refuse(1, n > MOST), refuse(3, wrong_map(n, has_map, map)))
+    first(
+        refuse(1, n > MAX_READINGS),
+        refuse(3, wrong_map(n, has_map, map)),
+    )
 }
 
 pub fn pair_refusal(
@@ -80,7 +83,7 @@ pub fn pair_refusal(
     ensures { λ r. ⌜ r ≡ pairRefusal «x_len» «x_has_map» (now («x_map» .entry)) «y_len» «y_has_map» (now («y_map» .entry)) ⌝ }
 {
     let counts = first(
-        refuse(1, either(x_len > MOST, y_len > MOST)),
+        refuse(1, either(x_len > MAX_READINGS, y_len > MAX_READINGS)),
         refuse(2, x_len != y_len),
     );
     let maps = either(

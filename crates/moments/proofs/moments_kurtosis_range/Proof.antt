@@ -6,11 +6,11 @@ use Rattle.moments.proofs.moments_kurtosis_range.Tie as tie
 from-array-requires : tie.Need-from-array-requires
 from-array-requires c κs = search needs
 
-hand-kurtosis-requires : tie.Need-hand-kurtosis-requires
-hand-kurtosis-requires c κs = search needs
+store-kurtosis-requires : tie.Need-store-kurtosis-requires
+store-kurtosis-requires c κs = search needs
 
 returns : tie.Need-returns
-returns c = rw (← c .before .before .from-array .ensures) (c .hand-kurtosis .ensures)
+returns c = rw (← c .before .before .from-array .ensures) (c .store-kurtosis .ensures)
 
 pub moments-kurtosis-range-spec : {M : Type 1} → statement M
-moments-kurtosis-range-spec = tie.close (tie.spec from-array-requires hand-kurtosis-requires returns)
+moments-kurtosis-range-spec = tie.close (tie.spec from-array-requires store-kurtosis-requires returns)

@@ -6,11 +6,11 @@ use Rattle.moments.proofs.moments_skew.Tie as tie
 skew-requires : tie.Need-skew-requires
 skew-requires c κs = search needs
 
-hand-skew-requires : tie.Need-hand-skew-requires
-hand-skew-requires c κs = search needs
+store-skew-requires : tie.Need-store-skew-requires
+store-skew-requires c κs = search needs
 
 returns : tie.Need-returns
-returns c = rw (← c .before .before .skew .ensures) (c .hand-skew .ensures)
+returns c = rw (← c .before .before .skew .ensures) (c .store-skew .ensures)
 
 pub moments-skew-spec : {M : Type 1} → statement M
-moments-skew-spec = tie.close (tie.spec skew-requires hand-skew-requires returns)
+moments-skew-spec = tie.close (tie.spec skew-requires store-skew-requires returns)

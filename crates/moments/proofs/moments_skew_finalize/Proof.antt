@@ -6,11 +6,11 @@ use Rattle.moments.proofs.moments_skew_finalize.Tie as tie
 finalize-requires : tie.Need-finalize-requires
 finalize-requires c κs = search needs
 
-write-requires : tie.Need-write-requires
-write-requires c κs = search needs
+store-figure-requires : tie.Need-store-figure-requires
+store-figure-requires c κs = search needs
 
 returns : tie.Need-returns
-returns c = rw (← c .before .before .finalize .ensures) (c .write .ensures)
+returns c = rw (← c .before .before .finalize .ensures) (c .store-figure .ensures)
 
 pub moments-skew-finalize-spec : {M : Type 1} → statement M
-moments-skew-finalize-spec = tie.close (tie.spec finalize-requires write-requires returns)
+moments-skew-finalize-spec = tie.close (tie.spec finalize-requires store-figure-requires returns)

@@ -6,11 +6,11 @@ use Rattle.moments.proofs.moments_skew_range.Tie as tie
 from-array-requires : tie.Need-from-array-requires
 from-array-requires c κs = search needs
 
-hand-skew-requires : tie.Need-hand-skew-requires
-hand-skew-requires c κs = search needs
+store-skew-requires : tie.Need-store-skew-requires
+store-skew-requires c κs = search needs
 
 returns : tie.Need-returns
-returns c = rw (← c .before .before .from-array .ensures) (c .hand-skew .ensures)
+returns c = rw (← c .before .before .from-array .ensures) (c .store-skew .ensures)
 
 pub moments-skew-range-spec : {M : Type 1} → statement M
-moments-skew-range-spec = tie.close (tie.spec from-array-requires hand-skew-requires returns)
+moments-skew-range-spec = tie.close (tie.spec from-array-requires store-skew-requires returns)

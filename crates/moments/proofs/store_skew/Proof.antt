@@ -1,8 +1,8 @@
 -- By the two cases of the answer. Assumes nothing.
 use borrow.Author.Needs.{needs}
 use mathlib.Core.Path.{refl}
-use Rattle.moments.proofs.hand_pearson.Statement.{statement}
-use Rattle.moments.proofs.hand_pearson.Tie as tie
+use Rattle.moments.proofs.store_skew.Statement.{statement}
+use Rattle.moments.proofs.store_skew.Tie as tie
 
 enum-known-answer : tie.Need-enum-known-answer
 enum-known-answer c = search needs
@@ -16,5 +16,5 @@ returns c = rw (c .before .before .answer .given .1) record { number = refl; sta
 returns-2 : tie.Need-returns-2
 returns-2 c = rw (c .before .answer2 .given .1) record { number = refl; state = refl }
 
-pub hand-pearson-spec : {M : Type 1} → statement M
-hand-pearson-spec = tie.close (tie.spec enum-known-answer enum-known-answer-2 returns returns-2)
+pub store-skew-spec : {M : Type 1} → statement M
+store-skew-spec = tie.close (tie.spec enum-known-answer enum-known-answer-2 returns returns-2)

@@ -1,8 +1,8 @@
 -- By the two cases of the answer. Assumes nothing.
 use borrow.Author.Needs.{needs}
 use mathlib.Core.Path.{refl}
-use Rattle.moments.proofs.hand_kurtosis.Statement.{statement}
-use Rattle.moments.proofs.hand_kurtosis.Tie as tie
+use Rattle.moments.proofs.store_var.Statement.{statement}
+use Rattle.moments.proofs.store_var.Tie as tie
 
 enum-known-answer : tie.Need-enum-known-answer
 enum-known-answer c = search needs
@@ -16,5 +16,5 @@ returns c = rw (c .before .before .answer .given .1) record { number = refl; sta
 returns-2 : tie.Need-returns-2
 returns-2 c = rw (c .before .answer2 .given .1) record { number = refl; state = refl }
 
-pub hand-kurtosis-spec : {M : Type 1} → statement M
-hand-kurtosis-spec = tie.close (tie.spec enum-known-answer enum-known-answer-2 returns returns-2)
+pub store-var-spec : {M : Type 1} → statement M
+store-var-spec = tie.close (tie.spec enum-known-answer enum-known-answer-2 returns returns-2)

@@ -9,11 +9,11 @@ use Rattle.moment.specs.declared.Figure.{Figure}
 
 -- A call that hands out a state, for an answer and its definitions of number and members: r is what it returns, and `before`
 -- and `after` are what the lent state holds.
-pub record Handed {R : Type 0} (numberOf : R → ℕ) (membersOf : R → List Float → List Float) (answer : R) (before : List Float) (r : ℕ) (after : List Float) : Type 0 where
+pub record StateResult {R : Type 0} (numberOf : R → ℕ) (membersOf : R → List Float → List Float) (answer : R) (before : List Float) (r : ℕ) (after : List Float) : Type 0 where
   pub number : r ≡ numberOf answer
   pub state : after ≡ membersOf answer before
 
 -- A call that hands out a figure: "one double and one byte (1 present, 0 missing)"
-pub record Written (figure : Figure) (r : ℕ) (after : Float) : Type 0 where
+pub record FigureResult (figure : Figure) (r : ℕ) (after : Float) : Type 0 where
   pub present : r ≡ byteOf figure
   pub double : after ≡ doubleOf figure
