@@ -37,11 +37,16 @@ pub from-end : {A : Type 0} (valid : ℕ → Bool) (xs : List A) (p i : ℕ) →
 unfolding validFrom
 from-end valid xs p i h = rw (drop-of-length-le xs h)
 
--- without a map every reading is valid
+-- where every place is valid the valid ones are all
+pub none-missing : {A : Type 0} (valid : ℕ → Bool) → ((i : ℕ) → valid i ≡ true) → (i : ℕ) (xs : List A) → validFrom valid i xs ≡ xs
+unfolding validFrom
+none-missing valid v i [] = refl
+none-missing valid v i (x ∷ xs) = rw (v i, none-missing valid v (suc i) xs)
+
+-- as without a map
 pub all-valid : {A : Type 0} (map : List ℕ) (i : ℕ) (xs : List A) → validFrom (validAt false map) i xs ≡ xs
-unfolding validFrom validAt
-all-valid map i [] = refl
-all-valid map i (x ∷ xs) = rw (all-valid map (suc i) xs)
+unfolding validAt
+all-valid map i xs = none-missing (validAt false map) (λ i. refl) i xs
 
 -- the list starts at place s of its trace
 module _ {B : Type 0} (f : B → Float → B) (b : B) (valid : ℕ → Bool) (s : ℕ) (xs : List Float) where

@@ -1,6 +1,6 @@
 -- The source's driver gives the state of our definitions, over any state and kind of entry: with part of a chunk held, what it
 -- gives of the values left is the fold over the chunks of both. Assumes nothing.
-use Prim.Native.Nat.{ℕ, suc, _+_, _<_, _≤_}
+use Prim.Native.Nat.{ℕ, _+_, _<_, _≤_}
 use mathlib.Core.Path.{_≡_, refl, sym, ap, _∙_}
 use mathlib.Core.Bool.{Bool, true, false, not, cond}
 use mathlib.Core.List.{List, [], _∷_, _++_, foldl, append-assoc, append-nil}
@@ -11,6 +11,7 @@ use lib.ListN.{length, length-append, drop-of-length-le}
 use lib.Seq.{take-at, drop-at, take-all}
 use Rattle.trace.specs.Trace.{validFrom}
 use Rattle.moment.specs.Chunks.{chunks, chunksOf, foldChunks, inChunks}
+use Rattle.moment.proofs.Folds.{none-missing}
 use Rattle.moment.proofs.Chunked.{chunks-cons}
 use Rattle.promises.specs.Source.{stored, flushed, chunkAsFloat, combineNew, NoneMissing}
 
@@ -56,7 +57,5 @@ module _ {A S : Type 0} (new : List A → S) (combine : S → S → S) where
   source-in-chunks empty xs = held xs [] empty (omega arith)
 
 -- where no place is missing the readings are the trace itself, map or no map
-pub none-missing : {A : Type 0} (valid : ℕ → Bool) → NoneMissing valid → (i : ℕ) (xs : List A) → validFrom valid i xs ≡ xs
-unfolding validFrom
-none-missing valid v i [] = refl
-none-missing valid v i (x ∷ xs) = rw (v i, none-missing valid v (suc i) xs)
+pub no-nulls : {A : Type 0} (valid : ℕ → Bool) → NoneMissing valid → (i : ℕ) (xs : List A) → validFrom valid i xs ≡ xs
+no-nulls = none-missing
