@@ -48,6 +48,10 @@ pub all-valid : {A : Type 0} (map : List ℕ) (i : ℕ) (xs : List A) → validF
 unfolding validAt
 all-valid map i xs = none-missing (validAt false map) (λ i. refl) i xs
 
+-- so what is made of a list is made of its valid ones
+pub unmapped : {A S : Type 0} (new : List A → S) (has : Bool) (map : List ℕ) (i : ℕ) (xs : List A) → has ≡ false → new xs ≡ new (validFrom (validAt has map) i xs)
+unmapped new has map i xs e = ap new (sym (ap (λ (h : Bool). validFrom (validAt h map) i xs) e ∙ all-valid map i xs))
+
 -- the list starts at place s of its trace
 module _ {B : Type 0} (f : B → Float → B) (b : B) (valid : ℕ → Bool) (s : ℕ) (xs : List Float) where
   abbrev pub ValidFolded : B → ℕ → Type 0

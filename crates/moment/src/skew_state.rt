@@ -31,7 +31,14 @@ impl SkewState {
     }
 
     // `from_valid` after its test of the count, about a mean.
-    fn about(part: &[f64], has_map: bool, map: &[u8], start: usize, weight: f64, mean: f64) -> Self
+    fn about_valid(
+        part: &[f64],
+        has_map: bool,
+        map: &[u8],
+        start: usize,
+        weight: f64,
+        mean: f64,
+    ) -> Self
         requires { ⌜ start + length (now part) < 2 ^ 64 ⌝ }
         ensures { λ r. ⌜ r ≡ skewAbout weight mean (validFrom (validAt «has_map» (now (map .entry))) start (now (part .entry))) ⌝ }
     {
@@ -69,13 +76,41 @@ impl SkewState {
         }
         let weight = std::num::nearest_u64_to_f64(count as u64);
         let mean = total.sum / weight;
-        SkewState::about(part, has_map, map, start, weight, mean)
+        SkewState::about_valid(part, has_map, map, start, weight, mean)
+    }
+
+    // `new` after its test of the length, about a mean. A loop of its own: beside the test of a map the compiler makes a slower one.
+    fn about(x: &[f64], weight: f64, mean: f64) -> Self
+        ensures { λ r. ⌜ r ≡ skewAbout weight mean (now (x .entry)) ⌝ }
+    {
+        let mut m2 = 0.0;
+        let mut m3 = 0.0;
+        let mut i = 0;
+        while i < x.len() {
+            let d = x[i] - mean;
+            let d2 = d * d;
+            let d3 = d * d2;
+            m2 = m2 + d2;
+            m3 = m3 + d3;
+            i += 1;
+        }
+        SkewState {
+            weight,
+            mean,
+            m2,
+            m3,
+        }
     }
 
     pub fn new(x: &[f64]) -> Self
         ensures { λ r. ⌜ r ≡ skewNew (now (x .entry)) ⌝ }
     {
-        SkewState::from_valid(x, false, b"", 0)
+        if x.len() == 0 {
+            return SkewState::default();
+        }
+        let weight = std::num::nearest_u64_to_f64(x.len() as u64);
+        let mean = sums::sum(x) / weight;
+        SkewState::about(x, weight, mean)
     }
 
     fn clear_zero_weight_nan(self) -> Self
@@ -196,6 +231,10 @@ impl SkewState {
             return SkewAnswer::Refused(number);
         }
         let end = start + length;
-        SkewAnswer::State(SkewState::from_valid(&values[start..end], has_map, map, start))
+        let part = &values[start..end];
+        if has_map {
+            return SkewAnswer::State(SkewState::from_valid(part, has_map, map, start));
+        }
+        SkewAnswer::State(SkewState::new(part))
     }
 }

@@ -56,7 +56,7 @@ correlationOf (pearson.Refused number) = zero64
 
 -- 2 and 4 inserted
 abbrev pub twoInserted : VarState
-twoInserted = foldl varInsert varEmpty (reading 2 ∷ count 4 ∷ [])
+twoInserted = foldl varInsert varEmpty (reading 2 ∷ reading 4 ∷ [])
 
 -- P1 empty variance, ddof 0: missing. P2 insert 2, 4: ddof 0, 1, 2 gives 1, 2, missing. P3 empty combined with (weight 1,
 -- mean infinity, dp 0): NaN at ddof 0. P4 Pearson of (1,2),(3,4): 1; of one pair: NaN. P5 range 0,0,0,0,5, biased skewness:

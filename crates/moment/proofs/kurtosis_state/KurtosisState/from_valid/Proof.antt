@@ -19,14 +19,14 @@ returns c = rw (eq-eqb _ _ (sym (c .before .before .valid-total .ensures .0) ∙
 nearest-u64-to-f64-requires : tie.Need-nearest-u64-to-f64-requires
 nearest-u64-to-f64-requires c κs = search needs
 
-about-requires : tie.Need-about-requires
-about-requires c κs = search needs
+about-valid-requires : tie.Need-about-valid-requires
+about-valid-requires c κs = search needs
 
 returns-2 : tie.Need-returns-2
 unfolding kurtosisNew
 returns-2 c =
     let t = c .before .before .before .before .valid-total .ensures in
-    rw (ne-eqb _ _ (λ z. c .before .before .before .if1 .left (t .0 ∙ z)), c .about .ensures, c .before .before .nearest-u64-to-f64 .ensures, t .0, t .1)
+    rw (ne-eqb _ _ (λ z. c .before .before .before .if1 .left (t .0 ∙ z)), c .about-valid .ensures, c .before .before .nearest-u64-to-f64 .ensures, t .0, t .1)
 
 pub from-valid-spec : {M : Type 1} → statement M
 from-valid-spec =
@@ -36,5 +36,5 @@ from-valid-spec =
     default-requires
     returns
     nearest-u64-to-f64-requires
-    about-requires
+    about-valid-requires
     returns-2)

@@ -1,18 +1,31 @@
--- Without a map every reading is valid. Assumes nothing.
+-- From the sum and the moments about the mean. Assumes nothing.
 use borrow.Author.Needs.{needs}
-use native.Mathlib.Omega.{arith}
-use Rattle.moment.proofs.Folds.{all-valid}
+use borrow.Author.Tests.{eq-eqb, ne-eqb}
+use Rattle.moment.specs.Kurtosis.{kurtosisNew}
 use Rattle.moment.proofs.kurtosis_state.KurtosisState.new.Statement.{statement}
 use Rattle.moment.proofs.kurtosis_state.KurtosisState.new.Tie as tie
 
-slice-aggregate-from-valid : tie.Need-slice-aggregate-from-valid
-slice-aggregate-from-valid c = search needs
-
-from-valid-requires : tie.Need-from-valid-requires
-from-valid-requires c κs = omega arith
+default-requires : tie.Need-default-requires
+default-requires c κs = search needs
 
 returns : tie.Need-returns
-returns c = rw all-valid at (c .from-valid .ensures)
+unfolding kurtosisNew
+returns c = rw (eq-eqb _ _ (c .before .if1 .taken)) (c .default .ensures)
+
+nearest-u64-to-f64-requires : tie.Need-nearest-u64-to-f64-requires
+nearest-u64-to-f64-requires c κs = search needs
+
+sum-requires : tie.Need-sum-requires
+sum-requires c κs = search needs
+
+about-requires : tie.Need-about-requires
+about-requires c κs = search needs
+
+returns-2 : tie.Need-returns-2
+unfolding kurtosisNew
+returns-2 c =
+    rw (ne-eqb _ _ (c .before .before .before .if1 .left), c .about .ensures, c .before .sum .ensures, c .before .before .nearest-u64-to-f64 .ensures)
 
 pub new-spec : {M : Type 1} → statement M
-new-spec = tie.close (tie.spec slice-aggregate-from-valid from-valid-requires returns)
+new-spec =
+    tie.close (tie.spec default-requires returns nearest-u64-to-f64-requires sum-requires about-requires returns-2)

@@ -1,32 +1,24 @@
--- A fold over the valid ones for each moment. Assumes nothing.
-use borrow.Author.Needs.{needs}
+-- A fold for each moment. Assumes nothing.
 use Prim.Native.Nat.{_-_}
-use mathlib.Core.Logic.{⊎-elim}
+use mathlib.Core.Path.{refl}
 use native.Mathlib.Omega.{arith}
 use lib.ListN.{length}
-use Rattle.trace.specs.Trace.{validAt}
 use Rattle.float.specs.Operators.{_⊕_, zero64}
-use Rattle.moment.proofs.Folds.{ValidFolded, valid-start, valid-step, missing-step, valid-end}
 use Rattle.moment.specs.Sums.{square, cube}
+use Rattle.moment.proofs.Folds.{Folded, fold-step, fold-end}
 use Rattle.moment.proofs.skew_state.SkewState.about.Statement.{statement}
 use Rattle.moment.proofs.skew_state.SkewState.about.Tie as tie
 
 abbrev Inv-loop : tie.InvT-loop
-Inv-loop part has-map map start weight mean m2₀ m3₀ i₀ m2 m3 i =
-    let valid = validAt has-map map in
-    ValidFolded (λ t x. t ⊕ square mean x) zero64 valid start part m2 i × ValidFolded (λ t x. t ⊕ cube mean x) zero64 valid start part m3 i
+Inv-loop xs weight mean m2₀ m3₀ i₀ m2 m3 i =
+    Folded (λ t x. t ⊕ square mean x) zero64 xs m2 i
+    × Folded (λ t x. t ⊕ cube mean x) zero64 xs m3 i
 
 abbrev μ-loop : tie.MeasureT-loop
-μ-loop part has-map map start weight mean m2₀ m3₀ i₀ m2 m3 i = length part - i
+μ-loop xs weight mean m2₀ m3₀ i₀ m2 m3 i = length xs - i
 
 loop-holds : tie.Need-loop-holds Inv-loop μ-loop
-loop-holds c = (valid-start _ zero64 _ _ _, valid-start _ zero64 _ _ _)
-
-add-valid : tie.Need-add-valid Inv-loop μ-loop
-add-valid c = omega arith
-
-valid-requires : tie.Need-valid-requires Inv-loop μ-loop
-valid-requires c κs = search needs
+loop-holds c = (refl, refl)
 
 mul-d : tie.Need-mul-d Inv-loop μ-loop
 mul-d c = omega arith
@@ -42,36 +34,15 @@ loop-less c = omega arith
 
 loop-again : tie.Need-loop-again Inv-loop μ-loop
 loop-again c =
-    let inv = c .before .before .before .loop .inv in
-    let h = c .before .before .loop-test .taken in
-    let v = c .before .valid .ensures in
-    ⊎-elim
-    (λ w.
-    let t = w .0 .taken in
-    rw (w .2, w .3) (valid-step _ zero64 _ _ _ _ _ h v t (inv .0), valid-step _ zero64 _ _ _ _ _ h v t (inv .1)))
-    (λ w.
-    let t = w .0 .left in
-    rw (w .1, w .2) (missing-step _ zero64 _ _ _ _ _ h v t (inv .0), missing-step _ zero64 _ _ _ _ _ h v t (inv .1)))
-    (c .if1 .came)
+    let inv = c .before .before .loop .inv in
+    let h = c .before .loop-test .taken in
+    (fold-step _ zero64 _ _ _ _ h (inv .0), fold-step _ zero64 _ _ _ _ h (inv .1))
 
 returns : tie.Need-returns Inv-loop μ-loop
 returns c =
     let inv = c .before .loop .inv in
     let h = c .loop-test .left in
-    rw (valid-end _ zero64 _ _ _ _ _ h (inv .0), valid-end _ zero64 _ _ _ _ _ h (inv .1))
+    rw (fold-end _ zero64 _ _ _ h (inv .0), fold-end _ zero64 _ _ _ h (inv .1))
 
 pub about-spec : {M : Type 1} → statement M
-about-spec =
-    tie.close
-    (tie.spec
-    Inv-loop
-    μ-loop
-    loop-holds
-    add-valid
-    valid-requires
-    mul-d
-    shared-slice-read-d
-    add-i
-    loop-less
-    loop-again
-    returns)
+about-spec = tie.close (tie.spec Inv-loop μ-loop loop-holds mul-d shared-slice-read-d add-i loop-less loop-again returns)

@@ -1,11 +1,13 @@
--- By the refusal number; a range that is accepted lies inside the trace. Assumes nothing.
+-- By the refusal number and the flag; a range that is accepted lies inside the trace. Assumes nothing.
 use borrow.Author.Needs.{needs}
 use Prim.Native.Nat.{_+_, _-_, _≤_}
-use mathlib.Core.Path.{_≡_}
+use mathlib.Core.Path.{_≡_, _∙_}
 use native.Mathlib.Omega.{arith}
 use lib.ListN.{length, length-take, length-drop}
 use Rattle.trace.specs.Refusals.{rangeRefusal}
 use Rattle.trace.proofs.Accepted.{range-fits}
+use Rattle.moment.specs.Skew.{skewNew}
+use Rattle.moment.proofs.Folds.{unmapped}
 use Rattle.moment.proofs.Answers.{answer-refused, answer-state}
 use Rattle.moment.proofs.skew_state.SkewState.from_array.Statement.{statement}
 use Rattle.moment.proofs.skew_state.SkewState.from_array.Tie as tie
@@ -24,28 +26,40 @@ inside c =
 add-end : tie.Need-add-end
 add-end c = omega (arith, inside c)
 
-mul-from-valid : tie.Need-mul-from-valid
-mul-from-valid c = omega (arith, inside c)
+mul-part : tie.Need-mul-part
+mul-part c = omega (arith, inside c)
 
-sub-from-valid : tie.Need-sub-from-valid
-sub-from-valid c = search needs
+sub-part : tie.Need-sub-part
+sub-part c = search needs
 
-part-from-valid-start : tie.Need-part-from-valid-start
-part-from-valid-start c = search needs
+part-part-start : tie.Need-part-part-start
+part-part-start c = search needs
 
-part-from-valid-end : tie.Need-part-from-valid-end
-part-from-valid-end c = omega (arith, inside c)
+part-part-end : tie.Need-part-part-end
+part-part-end c = omega (arith, inside c)
 
 from-valid-requires : tie.Need-from-valid-requires
-from-valid-requires c κs = let h = inside (c .before) in simp (length-take, length-drop) (omega arith)
+from-valid-requires c κs = let h = inside (c .before .before) in simp (length-take, length-drop) (omega arith)
 
 returns-2 : tie.Need-returns-2
 returns-2 c =
-    let e = c .before .before in
+    let e = c .before .before .before in
     let a = e .before .before .before .before .args in
     let whole : a .start + a .length - a .start ≡ a .length = omega arith in
     let number = rangeRefusal (length (a .values .now)) (a .has-map) (a .map .now) (a .start) (a .length) in
     answer-state _ _ number _ (e .before .range-refusal .ensures) _ _ (e .if1 .left) (rw whole at (c .from-valid .ensures))
+
+new-requires : tie.Need-new-requires
+new-requires c κs = search needs
+
+returns-3 : tie.Need-returns-3
+returns-3 c =
+    let e = c .before .before .before in
+    let a = e .before .before .before .before .args in
+    let whole : a .start + a .length - a .start ≡ a .length = omega arith in
+    let number = rangeRefusal (length (a .values .now)) (a .has-map) (a .map .now) (a .start) (a .length) in
+    answer-state _ _ number _ (e .before .range-refusal .ensures) _ _ (e .if1 .left)
+    ((rw whole at (c .new .ensures)) ∙ unmapped skewNew (a .has-map) (a .map .now) (a .start) _ (c .before .if2 .left))
 
 pub from-array-spec : {M : Type 1} → statement M
 from-array-spec =
@@ -54,9 +68,11 @@ from-array-spec =
     range-refusal-requires
     returns
     add-end
-    mul-from-valid
-    sub-from-valid
-    part-from-valid-start
-    part-from-valid-end
+    mul-part
+    sub-part
+    part-part-start
+    part-part-end
     from-valid-requires
-    returns-2)
+    returns-2
+    new-requires
+    returns-3)
