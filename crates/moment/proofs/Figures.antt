@@ -5,9 +5,8 @@ use mathlib.Core.Path.{_≡_, refl, ap, _∙_}
 use mathlib.Core.Bool.{Bool, true, false, cond}
 use native.Mathlib.Omega.{arith}
 use lib.Dec.{T, eqb, leb}
-use lib.Ieee.{Float, eq, le, ofBits, ofInt}
-use Rattle.float.specs.Operators.{_⊖_, _⊗_, _⊘_, zero64, two64, three64, count}
-use Rattle.float.proofs.Counts.{count-zero}
+use lib.Ieee.{Float, le, ofBits, ofInt}
+use Rattle.float.specs.Operators.{_⊖_, _⊗_, _⊘_, two64, three64, count}
 use Rattle.float.proofs.Signs.{nan-or-at-least-zero}
 use Rattle.moment.specs.declared.var_state.VarState.{VarState}
 use Rattle.moment.specs.declared.cov_state.CovState.{CovState}
@@ -18,7 +17,7 @@ use Rattle.moment.specs.Var.{notNegative, varFinalize, notBelowZero}
 use Rattle.moment.specs.Cov.{covFinalize}
 use Rattle.moment.specs.Skew.{skewBiased, skewCorrection, skewFinalize}
 use Rattle.moment.specs.Kurtosis.{kurtosisBiased, kurtosisUnbiased, lessThree, kurtosisFinalize}
-use Rattle.moment.proofs.Weights.{at-most-ddof}
+use Rattle.moment.proofs.Weights.{at-zero, at-most-ddof}
 
 -- ---- missing exactly where the count says so
 two-is : two64 ≡ count 2
@@ -30,9 +29,6 @@ unfolding ofBits ofInt
 three-is = refl
 
 module _ (n : ℕ) (h : n ≤ 2 ^ 53) where
-  none : (w : Float) → w ≡ count n → eq w zero64 ≡ eqb n 0
-  none w e = ap (λ (w : Float). eq w zero64) e ∙ count-zero n h
-
   at-most : (w m : Float) (k : ℕ) → k < 256 → m ≡ count k → w ≡ count n → le w m ≡ leb n k
   at-most w m k l f e = ap (λ (m : Float). le w m) f ∙ at-most-ddof w n k h l e
 
@@ -50,7 +46,7 @@ module _ (n : ℕ) (h : n ≤ 2 ^ 53) where
   -- biased skewness where the count is 0, unbiased where it is at most 2
   pub skew-biased-missing : (s : SkewState) → s .weight ≡ count n → skewFinalize s true ≡ cond (eqb n 0) Missing (Present (skewBiased s))
   unfolding skewFinalize
-  skew-biased-missing s e = rw (none (s .weight) e)
+  skew-biased-missing s e = rw (at-zero (s .weight) n h e)
 
   pub skew-unbiased-missing : (s : SkewState) → s .weight ≡ count n
       → skewFinalize s false ≡ cond (leb n 2) Missing (Present (skewCorrection (s .weight) ⊗ skewBiased s))
@@ -61,7 +57,7 @@ module _ (n : ℕ) (h : n ≤ 2 ^ 53) where
   pub kurtosis-biased-missing : (s : KurtosisState) (fisher : Bool) → s .weight ≡ count n
       → kurtosisFinalize s fisher true ≡ cond (eqb n 0) Missing (Present (lessThree (kurtosisBiased s) fisher))
   unfolding kurtosisFinalize
-  kurtosis-biased-missing s fisher e = rw (none (s .weight) e)
+  kurtosis-biased-missing s fisher e = rw (at-zero (s .weight) n h e)
 
   pub kurtosis-unbiased-missing : (s : KurtosisState) (fisher : Bool) → s .weight ≡ count n
       → kurtosisFinalize s fisher false

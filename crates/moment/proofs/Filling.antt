@@ -64,6 +64,6 @@ module _ (valid : ℕ → Bool) (trace : List Float) (i : ℕ) (chunk : List Flo
         further = λ k. omega arith;
       }
 
--- the part of a chunk that is filled, where a callee kept the chunk as long as it was
-pub part-long : {k : ℕ} (n : ℕ) (chunk : List Float) → length chunk ≡ k → k ≡ 128 → n ≤ 128 → n ≡ length (take n chunk)
-part-long n chunk e l h = let m : n ≤ length chunk = omega arith in sym (length-take-le n chunk m)
+-- the first n of an array of m, where a callee kept it as long as it was
+pub part-long : {A : Type 0} {k : ℕ} (m n : ℕ) (l : List A) → length l ≡ k → k ≡ m → n ≤ m → n ≡ length (take n l)
+part-long m n l e long h = let g : n ≤ length l = omega arith in sym (length-take-le n l g)

@@ -1,4 +1,4 @@
--- Laws by subject. The crates above cite Folds, Chunked, Weights and Figures.
+-- Laws by subject. The crates above cite Folds, Filling, Chunked, Weights and Figures.
 pub mod Folds
 pub mod Pairs
 pub mod Filling

@@ -22,6 +22,15 @@ use Rattle.moment.specs.Pearson.{pearsonInsert, pearsonMerge, pearsonCom
 use Rattle.moment.specs.Skew.{skewClear, skewInsert, skewMerge, skewCombine}
 use Rattle.moment.specs.Kurtosis.{kurtosisClear, kurtosisInsert, kurtosisMerge, kurtosisCombine}
 
+-- ---- a weight that is the float of a count, compared
+-- it is zero exactly where the count is
+pub at-zero : (w : Float) (n : ℕ) → n ≤ 2 ^ 53 → w ≡ count n → eq w zero64 ≡ eqb n 0
+at-zero w n h e = ap (λ (w : Float). eq w zero64) e ∙ count-zero n h
+
+-- it is at most ddof exactly where the count is
+pub at-most-ddof : (w : Float) (n ddof : ℕ) → n ≤ 2 ^ 53 → ddof < 256 → w ≡ count n → le w (count ddof) ≡ leb n ddof
+at-most-ddof w n ddof h k e = ap (λ (w : Float). le w (count ddof)) e ∙ count-le n ddof h (omega arith)
+
 -- ---- the law
 module _ {S A : Type 0} (weight : S → Float) (insert : S → A → S) (raises : (s : S) (x : A) → weight (insert s x) ≡ weight s ⊕ one64) where
   -- n entries put into a state of weight a give one of weight a + n
@@ -33,9 +42,6 @@ module _ {S A : Type 0} (weight : S → Float) (insert : S → A → S) (raises 
 
 -- what `combine` answers: the first where the other's weight is zero, the other where its own is zero, else the two merged
 module _ {S : Type 0} (weight : S → Float) (s o m : S) (a b : ℕ) (h : a ≤ 2 ^ 53) (k : b ≤ 2 ^ 53) (p : weight s ≡ count a) (q : weight o ≡ count b) (adds : weight m ≡ weight s ⊕ weight o) where
-  zero-test : (v : S) (n : ℕ) → n ≤ 2 ^ 53 → weight v ≡ count n → eq (weight v) zero64 ≡ eqb n 0
-  zero-test v n l e = ap (λ (w : Float). eq w zero64) e ∙ count-zero n l
-
   merged : weight m ≡ count (a + b)
   merged = adds ∙ ap (λ (w : Float). w ⊕ weight o) p ∙ ap (λ (w : Float). count a ⊕ w) q ∙ count-add a b h k
 
@@ -55,15 +61,11 @@ module _ {S : Type 0} (weight : S → Float) (s o m : S) (a b : ℕ) (h : a ≤ 
 
   -- variance's combine, which does not test its own weight
   pub merged-count : weight (cond (eq (weight o) zero64) s m) ≡ count (a + b)
-  merged-count = other-tested _ m (zero-test o b k q) merged
+  merged-count = other-tested _ m (at-zero (weight o) b k q) merged
 
   -- the other states' combine
   pub combined-count : weight (cond (eq (weight o) zero64) s (cond (eq (weight s) zero64) o m)) ≡ count (a + b)
-  combined-count = other-tested _ _ (zero-test o b k q) (own-tested _ (zero-test s a h p))
-
--- a weight is at most ddof exactly where the count is
-pub at-most-ddof : (w : Float) (n ddof : ℕ) → n ≤ 2 ^ 53 → ddof < 256 → w ≡ count n → le w (count ddof) ≡ leb n ddof
-at-most-ddof w n ddof h k e = ap (λ (w : Float). le w (count ddof)) e ∙ count-le n ddof h (omega arith)
+  combined-count = other-tested _ _ (at-zero (weight o) b k q) (own-tested _ (at-zero (weight s) a h p))
 
 -- clearing keeps the weight
 cleared : {S : Type 0} (weight : S → Float) (t : Bool) (s z : S) → weight z ≡ weight s → weight (cond t z s) ≡ weight s

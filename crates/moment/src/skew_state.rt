@@ -79,7 +79,8 @@ impl SkewState {
         SkewState::about_valid(part, has_map, map, start, weight, mean)
     }
 
-    // `new` after its test of the length, about a mean. A loop of its own: beside the test of a map the compiler makes a slower one.
+    // `new` after its test of the length, about a mean. A loop of its own: beside the test of a map the compiler makes a
+    // slower one.
     fn about(x: &[f64], weight: f64, mean: f64) -> Self
         ensures { λ r. ⌜ r ≡ skewAbout weight mean (now (x .entry)) ⌝ }
     {

@@ -51,7 +51,7 @@ array-share-prefix-x-chunk c = search needs
 slice-aggregate-new : tie.Need-slice-aggregate-new Inv-loop μ-loop
 slice-aggregate-new c =
     let f = c .before .before .before in
-    part-long _ _ (f .fill-pairs .kept .1 .1 .1 .1 .1 .1 .1 .0) (f .before .before .before .before .loop .inv .0) (f .fill-pairs .ensures .0 .within)
+    part-long 128 _ _ (f .fill-pairs .kept .1 .1 .1 .1 .1 .1 .1 .0) (f .before .before .before .before .loop .inv .0) (f .fill-pairs .ensures .0 .within)
 
 array-share-prefix-y-chunk : tie.Need-array-share-prefix-y-chunk Inv-loop μ-loop
 array-share-prefix-y-chunk c = search needs
@@ -59,14 +59,14 @@ array-share-prefix-y-chunk c = search needs
 slice-aggregate-new-2 : tie.Need-slice-aggregate-new-2 Inv-loop μ-loop
 slice-aggregate-new-2 c =
     let f = c .before .before .before .before in
-    part-long _ _ (f .fill-pairs .kept .1 .1 .1 .1 .1 .1 .1 .1 .0) (f .before .before .before .before .loop .inv .1) (f .fill-pairs .ensures .1 .within)
+    part-long 128 _ _ (f .fill-pairs .kept .1 .1 .1 .1 .1 .1 .1 .1 .0) (f .before .before .before .before .loop .inv .1) (f .fill-pairs .ensures .1 .within)
 
 new-requires : tie.Need-new-requires Inv-loop μ-loop
 new-requires c κs =
     let f = c .before .before .before .before in
     let inv = f .before .before .before .before .loop .inv in
-    sym (part-long _ _ (f .fill-pairs .kept .1 .1 .1 .1 .1 .1 .1 .0) (inv .0) (f .fill-pairs .ensures .0 .within))
-    ∙ part-long _ _ (f .fill-pairs .kept .1 .1 .1 .1 .1 .1 .1 .1 .0) (inv .1) (f .fill-pairs .ensures .1 .within)
+    sym (part-long 128 _ _ (f .fill-pairs .kept .1 .1 .1 .1 .1 .1 .1 .0) (inv .0) (f .fill-pairs .ensures .0 .within))
+    ∙ part-long 128 _ _ (f .fill-pairs .kept .1 .1 .1 .1 .1 .1 .1 .1 .0) (inv .1) (f .fill-pairs .ensures .1 .within)
 
 combine-requires : tie.Need-combine-requires Inv-loop μ-loop
 combine-requires c κs = search needs

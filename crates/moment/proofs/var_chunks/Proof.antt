@@ -44,7 +44,7 @@ array-share-prefix-chunk c = search needs
 slice-aggregate-new : tie.Need-slice-aggregate-new Inv-loop μ-loop
 slice-aggregate-new c =
     let f = c .before .before .fill in
-    part-long _ _ (f .kept .1 .1 .1 .1 .0) (c .before .before .before .before .before .loop .inv .0) (f .ensures .within)
+    part-long 128 _ _ (f .kept .1 .1 .1 .1 .0) (c .before .before .before .before .before .loop .inv .0) (f .ensures .within)
 
 new-requires : tie.Need-new-requires Inv-loop μ-loop
 new-requires c κs = search needs

@@ -1,7 +1,7 @@
 -- `vectors::arrays::agrees` is safe: what is lent of the arrays is at most 1024 long. Assumes nothing.
 use borrow.Author.Needs.{needs}
 use mathlib.Core.Path.{refl}
-use Rattle.vectors.proofs.Part.{part}
+use Rattle.moment.proofs.Filling.{part-long}
 use Rattle.vectors.proofs.arrays.agrees.Statement.{statement}
 use Rattle.vectors.proofs.arrays.agrees.Tie as tie
 
@@ -30,7 +30,7 @@ array-share-prefix-x : tie.Need-array-share-prefix-x
 array-share-prefix-x c = search needs
 
 slice-aggregate-first : tie.Need-slice-aggregate-first
-slice-aggregate-first c = part _ _ (c .before .before .before .before .before .before .doubles .kept .1 .1 .1 .0) refl (c .before .before .before .before .before .before .before .before .count .ensures)
+slice-aggregate-first c = part-long 1024 _ _ (c .before .before .before .before .before .before .doubles .kept .1 .1 .1 .0) refl (c .before .before .before .before .before .before .before .before .count .ensures)
 
 flag-requires : tie.Need-flag-requires
 flag-requires c κs = search needs
@@ -39,7 +39,7 @@ array-share-prefix-map : tie.Need-array-share-prefix-map
 array-share-prefix-map c = search needs
 
 slice-aggregate-first-2 : tie.Need-slice-aggregate-first-2
-slice-aggregate-first-2 c = part _ _ (c .before .before .before .before .bytes .kept .1 .1 .1 .0) refl (c .before .before .before .before .before .before .count2 .ensures)
+slice-aggregate-first-2 c = part-long 1024 _ _ (c .before .before .before .before .bytes .kept .1 .1 .1 .0) refl (c .before .before .before .before .before .before .count2 .ensures)
 
 add-first : tie.Need-add-first
 add-first c = search needs

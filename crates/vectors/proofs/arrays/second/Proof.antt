@@ -1,7 +1,7 @@
 -- `vectors::arrays::second` is safe: what is lent of the arrays is at most 1024 long. Assumes nothing.
 use borrow.Author.Needs.{needs}
 use mathlib.Core.Path.{refl}
-use Rattle.vectors.proofs.Part.{part}
+use Rattle.moment.proofs.Filling.{part-long}
 use Rattle.vectors.proofs.arrays.second.Statement.{statement}
 use Rattle.vectors.proofs.arrays.second.Tie as tie
 
@@ -30,13 +30,13 @@ array-share-prefix-y : tie.Need-array-share-prefix-y
 array-share-prefix-y c = search needs
 
 slice-aggregate-pairs : tie.Need-slice-aggregate-pairs
-slice-aggregate-pairs c = part _ _ (c .before .before .before .before .before .before .before .doubles .kept .1 .1 .1 .0) refl (c .before .before .before .before .before .before .before .before .before .count .ensures)
+slice-aggregate-pairs c = part-long 1024 _ _ (c .before .before .before .before .before .before .before .doubles .kept .1 .1 .1 .0) refl (c .before .before .before .before .before .before .before .before .before .count .ensures)
 
 array-share-prefix-y-map : tie.Need-array-share-prefix-y-map
 array-share-prefix-y-map c = search needs
 
 slice-aggregate-pairs-2 : tie.Need-slice-aggregate-pairs-2
-slice-aggregate-pairs-2 c = part _ _ (c .before .before .before .bytes .kept .1 .1 .1 .0) refl (c .before .before .before .before .before .before .count2 .ensures)
+slice-aggregate-pairs-2 c = part-long 1024 _ _ (c .before .before .before .bytes .kept .1 .1 .1 .0) refl (c .before .before .before .before .before .before .count2 .ensures)
 
 pairs-requires : tie.Need-pairs-requires
 pairs-requires c κs = search needs
