@@ -1,0 +1,1 @@
+// Figures over moving windows.

@@ -1,0 +1,7 @@
+-- In document 01's order: places, the window, rows, refusals; last what the code's own invariants say of memory.
+pub mod Places
+pub mod Window
+pub mod Readings
+pub mod Rows
+pub mod Refusals
+pub mod Stacks

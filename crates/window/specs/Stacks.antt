@@ -1,0 +1,82 @@
+-- The two stacks in the work slice, as the private contracts of crate `rolling` state them: what a window's numbers, its state and
+-- the work slice say of the split account. No promise rests on this file. Assumes nothing.
+use Prim.Native.Nat.{ℕ, _+_, _-_, _*_, _≤_, _<_}
+use mathlib.Core.Path.{_≡_}
+use mathlib.Core.Bool.{Bool, true, cond}
+use mathlib.Core.List.{List, [], _∷_, _++_}
+use lib.Dec.{eqb, leb}
+use lib.ListN.{length, take, drop}
+use lib.Ieee.{Float}
+use Rattle.window.specs.Places.{Series, entries, validCount, badCount}
+use Rattle.window.specs.Window.{Account, Layout, Moment, restarted, left, front, back, rising, falling}
+use Rattle.window.specs.Rows.{Plan, rows, rowStart, rowEnd}
+use Rattle.window.specs.declared.Window.{Window}
+
+-- values one behind another
+unfoldable pub inMemory : {A : Type 0} → Layout A → List A → List Float
+inMemory L [] = []
+inMemory L (x ∷ l) = L .store x ++ inMemory L l
+
+-- the front stack of a list of entries, its bottom first: the state of the last entry alone, .., on the top that of all
+unfoldable pub frontStack : (M : Moment) → List (M .Entry) → List (M .State)
+frontStack M [] = []
+frontStack M (x ∷ l) = frontStack M l ++ (M .insert (falling M l) x ∷ [])
+
+abbrev pub account : Window → Account
+account w = record { start = w .start; end = w .end; split = w .split }
+
+-- the numbers of a window count what they should
+pub record Counted {A : Type 0} (t : Series A) (w : Window) : Type 0 where
+  pub start-le : w .start ≤ w .end
+  pub split-le : w .split ≤ w .end
+  pub front-is : w .front ≡ length (front t (account w))
+  pub back-is : w .back ≡ length (back t (account w))
+  pub bad-is : w .bad ≡ badCount t (w .start) (w .end)
+
+-- the window w' that is left of w when the places below s are gone: `flips` says that the back stack went to the front first
+pub record Left {A : Type 0} (t : Series A) (w : Window) (s : ℕ) (w' : Window) (flips : Bool) : Type 0 where
+  pub to : account w' ≡ left (t .valid) (restarted (account w) s) s
+  pub numbers : Counted t w'
+  pub flip-is : cond flips (w .back) 0 ≡ cond (leb (w .end) s) 0 (cond (leb (validCount t (w .start) s) (w .front)) 0 (w .back))
+  pub emptied : flips ≡ true → w' .back ≡ 0
+
+-- a window with its state and its stacks: the front stack at the beginning of the work slice, the back stack from base on
+pub record Held (M : Moment) (t : Series (M .Entry)) (base : ℕ) (w : Window) (agg : M .State) (work : List Float) : Type 0 where
+  pub numbers : Counted t w
+  pub agg-is : agg ≡ rising M (M .empty) (back t (account w))
+  pub front-at : take (M .inFront .width * w .front) work ≡ inMemory (M .inFront) (frontStack M (front t (account w)))
+  pub back-at : take (M .inBack .width * w .back) (drop base work) ≡ inMemory (M .inBack) (back t (account w))
+
+-- The entries of the places from a up to e, written behind the n that stand in the list l₀ and inserted into the state s₀, leave
+-- l, `many` entries, `bad` that are not finite, and the state s
+pub record Pushed (M : Moment) (t : Series (M .Entry)) (l₀ : List Float) (n bad₀ : ℕ) (s₀ : M .State) (a e : ℕ)
+    (l : List Float) (many bad : ℕ) (s : M .State) : Type 0 where
+  pub list-is : l
+      ≡ take (M .inBack .width * n) l₀ ++ inMemory (M .inBack) (entries (t .valid) (t .entry) a e)
+      ++ drop (M .inBack .width * (n + validCount t a e)) l₀
+  pub many-is : many ≡ n + validCount t a e
+  pub bad-is : bad ≡ bad₀ + badCount t a e
+  pub agg-is : s ≡ rising M s₀ (entries (t .valid) (t .entry) a e)
+
+-- the state that is kept with n entries in the back stack
+unfoldable pub keptOf : (M : Moment) → M .State → ℕ → M .State
+keptOf M agg n = cond (eqb n 0) (M .empty) agg
+
+-- the state on the top of the front stack's n, or the empty one
+unfoldable pub topOf : (M : Moment) → List Float → ℕ → M .State
+topOf M work n = cond (eqb n 0) (M .empty) (M .inFront .load (drop (M .inFront .width * (n - 1)) work))
+
+-- a window over n places can move to the row from s up to e, and neither is wider than `widest`
+pub record Ready (w : Window) (s e n widest : ℕ) : Type 0 where
+  pub starts : w .start ≤ s
+  pub row : s ≤ e
+  pub ends : w .end ≤ e
+  pub within : e ≤ n
+  pub old : w .end ≤ w .start + widest
+  pub new : e ≤ s + widest
+
+-- an accepted plan over n places, with no window wider than `widest`
+pub record Planned (n widest : ℕ) (p : Plan) : Type 0 where
+  pub same : length (p .starts) ≡ length (p .ends)
+  pub row : (k : ℕ) → k < rows p → (rowStart p k ≤ rowEnd p k) × (rowEnd p k ≤ n) × (rowEnd p k ≤ rowStart p k + widest)
+  pub rising : (j k : ℕ) → j ≤ k → k < rows p → (rowStart p j ≤ rowStart p k) × (rowEnd p j ≤ rowEnd p k)
