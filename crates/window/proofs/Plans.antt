@@ -1,0 +1,168 @@
+-- An accepted plan is in order: its rows lie in the series and rise, and none is wider than the widest. The first refusal of the
+-- rows is found by testing them in turn. Assumes nothing.
+use Prim.Native.Nat.{ℕ, zero, suc, _+_, _-_, _*_, _≤_, _<_, max}
+use mathlib.Core.Path.{_≡_, refl, sym, ap, _∙_, subst}
+use mathlib.Core.Bool.{Bool, true, false, cond, _||_}
+use mathlib.Core.List.{List}
+use native.Mathlib.Nat.{add-zero, add-suc, le-refl, le-trans}
+use native.Mathlib.Numerals.{add-one}
+use native.Mathlib.Omega.{arith}
+use borrow.Author.Tests.{eq-eqb, ne-eqb, ltb-false, eqb-true, not-false}
+use lib.Dec.{lit≤}
+use lib.ListN.{length, getD}
+use Rattle.trace.specs.Refusals.{_orElse_}
+use Rattle.trace.proofs.Accepted.{none-of, not-refused}
+use Rattle.window.specs.Rows.{Plan, rows, rowStart, rowEnd}
+use Rattle.window.specs.Refusals.{rowRefusal, before, rowsRefusal, widest, needed, planRefusal}
+use Rattle.window.specs.Stacks.{Planned}
+use Rattle.window.proofs.Places.{Or, here, there, order}
+
+pub neither : (a b : Bool) → (a || b) ≡ false → (a ≡ false) × (b ≡ false)
+neither true b e = absurd (let z : _≡_ {A = ℕ} 0 1 = cc in omega arith)
+neither false b e = (refl, e)
+
+-- a number that refuses stands, whatever is tested after it
+pub first-stands : (a b : ℕ) → (a ≡ 0 → ⊥) → a orElse b ≡ a
+unfolding _orElse_
+first-stands a b h = rw (ne-eqb a 0 h)
+
+pub none-then : (a b : ℕ) → a ≡ 0 → a orElse b ≡ b
+unfolding _orElse_
+none-then a b h = rw (eq-eqb a 0 h)
+
+module _ (n : ℕ) (p : Plan) where
+  -- row k's own number
+  abbrev pub Row : ℕ → ℕ
+  Row k = rowRefusal n (before (p .starts) k) (before (p .ends) k) (rowStart p k) (rowEnd p k)
+
+  -- a row that is not refused
+  record Good (k : ℕ) : Type 0 where
+    row : rowStart p k ≤ rowEnd p k
+    within : rowEnd p k ≤ n
+    starts : before (p .starts) k ≤ rowStart p k
+    ends : before (p .ends) k ≤ rowEnd p k
+
+  good : (k : ℕ) → Row k ≡ 0 → Good k
+  unfolding rowRefusal
+  good k e =
+      let a = none-of _ _ e in
+      let b = none-of _ _ (a .0) in
+      let o = neither _ _ (not-refused 7 _ (lit≤ tt) (a .1)) in
+      record {
+        row = ltb-false _ _ (not-refused 5 _ (lit≤ tt) (b .0));
+        within = ltb-false _ _ (not-refused 6 _ (lit≤ tt) (b .1));
+        starts = ltb-false _ _ (o .0);
+        ends = ltb-false _ _ (o .1);
+      }
+
+  rows-more : (k : ℕ) → rowsRefusal n p k ≡ 0 → rowsRefusal n p (suc k) ≡ Row k
+  unfolding rowsRefusal
+  rows-more k e = none-then _ _ e
+
+  rows-stay : (k j : ℕ) → (rowsRefusal n p k ≡ 0 → ⊥) → rowsRefusal n p (k + j) ≡ rowsRefusal n p k
+  unfolding rowsRefusal
+  rows-stay k zero h = rw add-zero
+  rows-stay k (suc j) h = let i = rows-stay k j h in rw add-suc (first-stands _ _ (λ z. h (sym i ∙ z)) ∙ i)
+
+  rows-before : (k : ℕ) → rowsRefusal n p (suc k) ≡ 0 → (rowsRefusal n p k ≡ 0) × (Row k ≡ 0)
+  unfolding rowsRefusal
+  rows-before k e = none-of _ _ e
+
+  last-or : (m k : ℕ) → k < suc m → Good m → (k < m → Good k) → Good k
+  last-or m k h g f = go (order m k)
+    where
+      go : Or (m ≤ k) (k < m) → Good k
+      go (here l) = let z : m ≡ k = omega arith in subst Good z g
+      go (there l) = f l
+
+  all-good : (m k : ℕ) → rowsRefusal n p m ≡ 0 → k < m → Good k
+  all-good zero k e h = absurd (omega arith)
+  all-good (suc m) k e h = last-or m k h (good m (rows-before m e .1)) (λ l. all-good m k (rows-before m e .0) l)
+
+  wide-all : (m k : ℕ) → k < m → rowEnd p k - rowStart p k ≤ widest p m
+  unfolding widest
+  wide-all zero k h = absurd (omega arith)
+  wide-all (suc m) k h = go (order m k) (λ l. wide-all m k l)
+    where
+      go : Or (m ≤ k) (k < m) → (k < m → rowEnd p k - rowStart p k ≤ widest p m) → rowEnd p k - rowStart p k ≤ max (widest p m) (rowEnd p m - rowStart p m)
+      go (here l) f = let z : m ≡ k = omega arith in rw z (omega arith)
+      go (there l) f = let q = f l in omega arith
+
+  module _ (m : ℕ) (e : rowsRefusal n p m ≡ 0) where
+    climb : (j d : ℕ) → j + d < m → (rowStart p j ≤ rowStart p (j + d)) × (rowEnd p j ≤ rowEnd p (j + d))
+    climb j zero h = rw add-zero (le-refl _, le-refl _)
+    climb j (suc d) h =
+        let i = climb j d (omega arith) in
+        let z : j + suc d ≡ suc (j + d) = add-suc j d in
+        let g = subst Good z (all-good m (j + suc d) e h) in
+        rw z (le-trans (i .0) (g .starts), le-trans (i .1) (g .ends))
+
+  pub planned : length (p .starts) ≡ length (p .ends) → rowsRefusal n p (rows p) ≡ 0 → Planned n (widest p (rows p)) p
+  planned l e =
+      record {
+        same = l;
+        row = λ k h.
+            let g = all-good (rows p) k e h in
+            let w = wide-all (rows p) k h in
+            let r = g .row in
+            (r, g .within, omega arith);
+        rising = λ j k o h.
+            let z : j + (k - j) ≡ k = omega arith in
+            rw z at (climb (rows p) e j (k - j) (rw z h));
+      }
+
+  -- no window is wider than the series
+  pub widest-le : (m : ℕ) → rowsRefusal n p m ≡ 0 → widest p m ≤ n
+  unfolding widest
+  widest-le zero e = omega arith
+  widest-le (suc m) e =
+      let i = widest-le m (rows-before m e .0) in
+      let g = good m (rows-before m e .1) in
+      let w = g .within in
+      omega arith
+
+  -- ---- the loop over the rows
+  pub scan-stop : (k c : ℕ) → k < rows p → rowsRefusal n p k ≡ 0 → c ≡ Row k → (c ≡ 0 → ⊥) → c ≡ rowsRefusal n p (rows p)
+  scan-stop k c h e f g =
+      let i : rowsRefusal n p (suc k) ≡ c = rows-more k e ∙ sym f in
+      let q : suc k + (rows p - suc k) ≡ rows p = omega arith in
+      sym i ∙ sym (rows-stay (suc k) (rows p - suc k) (λ z. g (sym i ∙ z))) ∙ ap (rowsRefusal n p) q
+
+  pub scan-row : (k c : ℕ) → rowsRefusal n p k ≡ 0 → c ≡ Row k → c ≡ 0 → rowsRefusal n p (k + 1) ≡ 0
+  scan-row k c e f g = rw add-one (rows-more k e ∙ sym f ∙ g)
+
+  pub scan-wide : (k w x : ℕ) → w ≡ widest p k → x ≡ max w (rowEnd p k - rowStart p k) → x ≡ widest p (k + 1)
+  unfolding widest
+  scan-wide k w x e f = f ∙ rw (add-one, e)
+
+-- what is known of an accepted call
+pub record Taken (each n : ℕ) (p : Plan) (short : Bool) (figures present work : ℕ) : Type 0 where
+  pub few : n ≤ 16777216
+  pub plan : Planned n (widest p (rows p)) p
+  pub narrow : widest p (rows p) ≤ n
+  pub readings-fit : short ≡ false
+  pub figures-fit : rows p ≤ figures
+  pub present-fit : rows p ≤ present
+  pub work-fits : needed each p ≤ work
+
+pub taken : (each n : ℕ) (has : Bool) (map : List ℕ) (p : Plan) (short : Bool) (figures present work : ℕ) →
+    planRefusal each n has map p short figures present work ≡ 0 → Taken each n p short figures present work
+unfolding planRefusal
+taken each n has map p short figures present work e =
+    let a = none-of _ _ e in
+    let b = none-of _ _ (a .0) in
+    let c = none-of _ _ (b .0) in
+    let d = none-of _ _ (c .0) in
+    let one = none-of _ _ (d .0) in
+    let lists = neither _ _ (not-refused 4 _ (lit≤ tt) (d .1)) in
+    let rest = neither _ _ (not-refused 12 _ (lit≤ tt) (b .1)) in
+    let outputs = neither _ _ (rest .1) in
+    record {
+      few = ltb-false _ _ (not-refused 1 _ (lit≤ tt) (one .0));
+      plan = planned n p (eqb-true _ _ (not-false _ (lists .0))) (c .1);
+      narrow = widest-le n p (rows p) (c .1);
+      readings-fit = rest .0;
+      figures-fit = ltb-false _ _ (outputs .0);
+      present-fit = ltb-false _ _ (outputs .1);
+      work-fits = ltb-false _ _ (not-refused 13 _ (lit≤ tt) (a .1));
+    }
