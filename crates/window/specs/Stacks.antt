@@ -2,9 +2,9 @@
 -- the work slice say of the split account. No promise rests on this file. Assumes nothing.
 use Prim.Native.Nat.{ℕ, _+_, _-_, _*_, _≤_, _<_}
 use mathlib.Core.Path.{_≡_}
-use mathlib.Core.Bool.{Bool, true, cond}
+use mathlib.Core.Bool.{Bool, false, cond}
 use mathlib.Core.List.{List, [], _∷_, _++_}
-use lib.Dec.{eqb, leb}
+use lib.Dec.{eqb, leb, ltb}
 use lib.ListN.{length, take, drop}
 use lib.Ieee.{Float}
 use Rattle.window.specs.Places.{Series, entries, validCount, badCount}
@@ -33,12 +33,12 @@ pub record Counted {A : Type 0} (t : Series A) (w : Window) : Type 0 where
   pub back-is : w .back ≡ length (back t (account w))
   pub bad-is : w .bad ≡ badCount t (w .start) (w .end)
 
--- the window w' that is left of w when the places below s are gone: `flips` says that the back stack went to the front first
+-- The window w' that is left of w when the places below s are gone. `flips` says that the back stack went to the front: the window
+-- does not start anew, and more valid places leave than the front stack holds
 pub record Left {A : Type 0} (t : Series A) (w : Window) (s : ℕ) (w' : Window) (flips : Bool) : Type 0 where
   pub to : account w' ≡ left (t .valid) (restarted (account w) s) s
   pub numbers : Counted t w'
-  pub flip-is : cond flips (w .back) 0 ≡ cond (leb (w .end) s) 0 (cond (leb (validCount t (w .start) s) (w .front)) 0 (w .back))
-  pub emptied : flips ≡ true → w' .back ≡ 0
+  pub flips-is : flips ≡ cond (leb (w .end) s) false (ltb (w .front) (validCount t (w .start) s))
 
 -- a window with its state and its stacks: the front stack at the beginning of the work slice, the back stack from base on
 pub record Held (M : Moment) (t : Series (M .Entry)) (base : ℕ) (w : Window) (agg : M .State) (work : List Float) : Type 0 where

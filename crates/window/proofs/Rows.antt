@@ -1,0 +1,228 @@
+-- The rows of a plan, for any moment: with the window of the account after k rows, the next row's step and figure are the
+-- account's; so the outputs are its answers, row after row. Assumes nothing.
+use Prim.Native.Nat.{ℕ, zero, suc, _+_, _-_, _*_, _≤_, _<_}
+use mathlib.Core.Path.{_≡_, refl, sym, ap, _∙_, subst}
+use mathlib.Core.Bool.{Bool, true, false, cond, _||_}
+use mathlib.Core.List.{List, [], _∷_, _++_, append-assoc}
+use native.Mathlib.Nat.{mul-zero}
+use native.Mathlib.Numerals.{add-one}
+use native.Mathlib.Omega.{arith}
+use borrow.Author.Tests.{ne-eqb, le-leb, lt-leb}
+use lib.Dec.{leb, eqb}
+use lib.ListN.{length, take, drop, set, length-append, length-set, take-append-drop}
+use lib.Seq.{drop-at}
+use lib.Ieee.{Float}
+use Rattle.moment.specs.Figure.{doubleOf, byteOf}
+use Rattle.moment.specs.declared.Figure.{Figure}
+use Rattle.moment.specs.declared.Figure.the-variants.{Missing}
+use Rattle.window.specs.Places.{Series, validCount}
+use Rattle.window.specs.Window.{Account, Moment, front, moved, falling, spoilt, figureOf}
+use Rattle.window.specs.Rows.{Plan, rows, rowStart, rowEnd, moves, stepped, accountAt, counted, answerOf, answerAt, table}
+use Rattle.window.specs.Stacks.{inMemory, frontStack, account, Held, topOf, Ready, Planned}
+use Rattle.window.specs.declared.Window.{Window}
+use Rattle.window.proofs.Places.{two-counts, entries-self}
+use Rattle.window.proofs.Stacks.{memory-append, front-length}
+use Rattle.window.proofs.Tables.{table-more}
+
+module _ (M : Moment) where
+  -- the state on the front stack's top
+  top-of : (l : List (M .Entry)) (rest : List Float) → topOf M (inMemory (M .inFront) (frontStack M l) ++ rest) (length l) ≡ falling M l
+  unfolding topOf frontStack inMemory
+  top-of [] rest = refl
+  top-of (x ∷ l) rest =
+      let n : suc (length l) - 1 ≡ length l = omega arith in
+      let s = M .insert (falling M l) x in
+      rw (
+        ne-eqb (suc (length l)) 0 (λ z. omega arith),
+        n,
+        memory-append (M .inFront) (frontStack M l) (s ∷ []),
+        append-assoc,
+        append-assoc,
+        drop-at (inMemory (M .inFront) (frontStack M l)) (M .inFront .store s ++ ([] ++ rest)) (M .inFront .width * length l) (front-length M l),
+      )
+      (M .inFront .loaded s rest)
+
+  module _ (final : M .State → Figure) (t : Series (M .Entry)) (base : ℕ) (w : Window) (agg : M .State) (work : List Float) (held : Held M t base w agg work) where
+    pub figure-is : spoilt (w .bad) (final (M .combine agg (topOf M work (w .front)))) ≡ figureOf M final t (account w)
+    unfolding figureOf
+    figure-is =
+        let c = held .numbers in
+        let p : work ≡ inMemory (M .inFront) (frontStack M (front t (account w))) ++ drop (M .inFront .width * w .front) work =
+        sym (take-append-drop (M .inFront .width * w .front) work)
+        ∙ ap (λ (y : List Float). y ++ drop (M .inFront .width * w .front) work) (held .front-at) in
+        let q : topOf M work (w .front) ≡ falling M (front t (account w)) =
+        ap (λ (y : List Float). topOf M y (w .front)) p
+        ∙ rw (c .front-is) (top-of (front t (account w)) (drop (M .inFront .width * length (front t (account w))) work)) in
+        rw (q, c .bad-is, held .agg-is)
+
+    -- the answer, by the test that the code makes
+    module _ (least s e : ℕ) (h : t .mapped ≡ true → (w .start ≡ s) × (w .end ≡ e)) (u : Bool) (q : u ≡ leb least (cond (t .mapped) (w .front + w .back) (e - s))) where
+      counted-is : cond (t .mapped) (w .front + w .back) (e - s) ≡ counted t s e
+      counted-is = go (t .mapped) h
+        where
+          go : (b : Bool) → (b ≡ true → (w .start ≡ s) × (w .end ≡ e)) → cond b (w .front + w .back) (e - s) ≡ cond b (validCount t s e) (e - s)
+          go false g = refl
+          go true g =
+              let c = held .numbers in
+              rw (← g refl .0, ← g refl .1, c .front-is, c .back-is) (two-counts (t .valid) (t .entry) (w .start) (w .split) (w .end) (c .start-le) (c .split-le))
+
+      test : u ≡ leb least (counted t s e)
+      test = q ∙ ap (leb least) counted-is
+
+      pub answer-yes : u ≡ true → (f : Figure) → f ≡ figureOf M final t (account w) → f ≡ answerOf M final t least s e (account w)
+      unfolding answerOf
+      answer-yes p f g = g ∙ rw (sym test ∙ p)
+
+      pub answer-no : u ≡ false → Missing ≡ answerOf M final t least s e (account w)
+      unfolding answerOf
+      answer-no p = rw (sym test ∙ p)
+
+-- ---- the rows of a plan: the turns of the loop
+module _ (M : Moment) (final : M .State → Figure) (t : Series (M .Entry)) (least n widest : ℕ) (p : Plan) where
+  abbrev Answer : ℕ → Figure
+  Answer k = answerAt M final t least p k
+
+  -- before row k: w, agg and work are the window, out and pr the outputs; work₀, out₀ and pr₀ are where the loop began, and of the
+  -- work slice the first `need` doubles are its own
+  pub record Row (work₀ out₀ : List Float) (pr₀ : List ℕ) (need : ℕ) (work out : List Float) (pr : List ℕ) (w : Window) (agg : M .State) (k : ℕ) : Type 0 where
+    pub upto : k ≤ rows p
+    pub held : Held M t (M .inFront .width * widest) w agg work
+    pub at : account w ≡ accountAt (t .valid) (t .mapped) least p k
+    pub wide : w .end ≤ w .start + widest
+    pub inside : w .end ≤ n
+    pub ahead : (j : ℕ) → k ≤ j → j < rows p → (w .start ≤ rowStart p j) × (w .end ≤ rowEnd p j)
+    pub work-same : length work ≡ length work₀
+    pub work-rest : drop need work ≡ drop need work₀
+    pub out-same : length out ≡ length out₀
+    pub out-is : out ≡ table (λ j. doubleOf (Answer j)) k ++ drop k out₀
+    pub pr-same : length pr ≡ length pr₀
+    pub pr-is : pr ≡ table (λ j. byteOf (Answer j)) k ++ drop k pr₀
+
+  pub row-start : (work₀ out₀ : List Float) (pr₀ : List ℕ) (need : ℕ) (agg : M .State) → agg ≡ M .empty →
+      Row work₀ out₀ pr₀ need work₀ out₀ pr₀ (record { start = 0; end = 0; split = 0; front = 0; back = 0; bad = 0 }) agg 0
+  unfolding table accountAt inMemory frontStack
+  row-start work₀ out₀ pr₀ need agg e =
+      let z = entries-self (t .valid) (t .entry) 0 in
+      let y = entries-self (t .bad) (t .entry) 0 in
+      record {
+        upto = omega arith;
+        held = record {
+          numbers = record { start-le = omega arith; split-le = omega arith; front-is = rw z; back-is = rw z; bad-is = rw y };
+          agg-is = rw z e;
+          front-at = rw (mul-zero, z);
+          back-at = rw (mul-zero, z);
+        };
+        at = refl;
+        wide = omega arith;
+        inside = omega arith;
+        ahead = λ j g h. (omega arith, omega arith);
+        work-same = refl;
+        work-rest = refl;
+        out-same = refl;
+        out-is = refl;
+        pr-same = refl;
+        pr-is = refl;
+      }
+
+  -- what is known of the window after row k's step
+  pub record Stepped (w : Window) (k : ℕ) : Type 0 where
+    pub wide : w .end ≤ w .start + widest
+    pub inside : w .end ≤ n
+    pub ahead : (j : ℕ) → k + 1 ≤ j → j < rows p → (w .start ≤ rowStart p j) × (w .end ≤ rowEnd p j)
+    pub mapped : t .mapped ≡ true → (w .start ≡ rowStart p k) × (w .end ≡ rowEnd p k)
+
+  module _ (plan : Planned n widest p) {work₀ out₀ : List Float} {pr₀ : List ℕ} {need : ℕ} {work out : List Float} {pr : List ℕ} {w : Window} {agg : M .State} {k : ℕ}
+      (row : Row work₀ out₀ pr₀ need work out pr w agg k) (more : k < rows p) where
+    pub row-ready : Ready w (rowStart p k) (rowEnd p k) n widest
+    row-ready =
+        let q = plan .row k more in
+        let a = row .ahead k (omega arith) more in
+        let i = row .wide in
+        record { starts = a .0; row = q .0; ends = a .1; within = q .1; old = i; new = q .2 }
+
+    -- the account after the row's step
+    abbrev Moved : Window → Type 0
+    Moved w' = account w' ≡ stepped (t .valid) (t .mapped) least k (rowStart p k) (rowEnd p k) (account w)
+
+    pub row-stepped : (w' : Window) → Moved w' → Stepped w' k
+    row-stepped w' e = go (moves (t .mapped) least k (rowStart p k) (rowEnd p k)) refl
+      where
+        here-now : account w' ≡ moved (t .valid) (account w) (rowStart p k) (rowEnd p k) → Stepped w' k
+        here-now f =
+            let x : w' .start ≡ rowStart p k = ap (λ (a : Account). a .start) f in
+            let y : w' .end ≡ rowEnd p k = ap (λ (a : Account). a .end) f in
+            let q = plan .row k more in
+            record {
+              wide = omega arith;
+              inside = omega arith;
+              ahead = λ j g h. (rw x (plan .rising k j (omega arith) h .0), rw y (plan .rising k j (omega arith) h .1));
+              mapped = λ _. (x, y);
+            }
+
+        as-before : account w' ≡ account w → (t .mapped ≡ true → ⊥) → Stepped w' k
+        as-before f q =
+            let x : w' .start ≡ w .start = ap (λ (a : Account). a .start) f in
+            let y : w' .end ≡ w .end = ap (λ (a : Account). a .end) f in
+            let i = row .wide in
+            let o = row .inside in
+            record {
+              wide = omega arith;
+              inside = omega arith;
+              ahead = λ j g h. (rw x (row .ahead j (omega arith) h .0), rw y (row .ahead j (omega arith) h .1));
+              mapped = λ z. absurd (q z);
+            }
+
+        no-map : (b u : Bool) → (b || u) ≡ false → b ≡ true → ⊥
+        no-map true u f q = let z : _≡_ {A = ℕ} 0 1 = cc in omega arith
+        no-map false u f q = let z : _≡_ {A = ℕ} 0 1 = cc in omega arith
+
+        go : (u : Bool) → moves (t .mapped) least k (rowStart p k) (rowEnd p k) ≡ u → Stepped w' k
+        go true u = here-now (e ∙ rw u)
+        go false u = as-before (e ∙ rw u) (no-map (t .mapped) _ u)
+
+    pub row-next : {w' : Window} {agg' : M .State} {work' out' : List Float} {pr' : List ℕ} {f : Figure} →
+        Moved w' → Held M t (M .inFront .width * widest) w' agg' work' → length work' ≡ length work → drop need work' ≡ drop need work →
+        f ≡ answerOf M final t least (rowStart p k) (rowEnd p k) (account w') →
+        rows p ≤ length out₀ → rows p ≤ length pr₀ → out' ≡ set out k (doubleOf f) → pr' ≡ set pr k (byteOf f) →
+        Row work₀ out₀ pr₀ need work' out' pr' w' agg' (k + 1)
+    unfolding accountAt answerAt
+    row-next {w'} {agg'} {work'} {out'} {pr'} {f} y held len rest g ho hp o q =
+        let s = row-stepped w' y in
+        let a : account w' ≡ accountAt (t .valid) (t .mapped) least p (suc k) = y ∙ rw (row .at) in
+        let h : f ≡ Answer k = g ∙ ap (answerOf M final t least (rowStart p k) (rowEnd p k)) a in
+        record {
+          upto = omega arith;
+          held = held;
+          at = rw add-one a;
+          wide = s .wide;
+          inside = s .inside;
+          ahead = s .ahead;
+          work-same = len ∙ row .work-same;
+          work-rest = rest ∙ row .work-rest;
+          out-same = ap length o ∙ simp length-set (row .out-same);
+          out-is = o ∙ rw (row .out-is) (table-more (λ j. doubleOf (Answer j)) out₀ k (doubleOf f) (ap doubleOf h) (omega arith));
+          pr-same = ap length q ∙ simp length-set (row .pr-same);
+          pr-is = q ∙ rw (row .pr-is) (table-more (λ j. byteOf (Answer j)) pr₀ k (byteOf f) (ap byteOf h) (omega arith));
+        }
+
+  pub row-done : {work₀ out₀ : List Float} {pr₀ : List ℕ} {need : ℕ} {work out : List Float} {pr : List ℕ} {w : Window} {agg : M .State} {k : ℕ} →
+      Row work₀ out₀ pr₀ need work out pr w agg k → rows p ≤ k →
+      (out ≡ table (λ j. doubleOf (Answer j)) (rows p) ++ drop (rows p) out₀)
+      × (pr ≡ table (λ j. byteOf (Answer j)) (rows p) ++ drop (rows p) pr₀) × (drop need work ≡ drop need work₀)
+  row-done {k = k} row h = let u = row .upto in let e : k ≡ rows p = omega arith in rw (← e) (row .out-is, row .pr-is, row .work-rest)
+
+-- whether a row moves the window, by the tests in the code's order
+pub moves-long : (mapped : Bool) (least k s e : ℕ) → least ≤ e - s → true ≡ moves mapped least k s e
+moves-long mapped least k s e h = rw (le-leb least (e - s) h) (go mapped (eqb k 0))
+  where
+    go : (b u : Bool) → true ≡ (b || (u || true))
+    go true u = refl
+    go false true = refl
+    go false false = refl
+
+pub moves-first : (mapped : Bool) (least k s e : ℕ) → e - s < least → mapped ≡ false → eqb k 0 ≡ moves mapped least k s e
+moves-first mapped least k s e h z = rw (z, lt-leb least (e - s) h) (go (eqb k 0))
+  where
+    go : (u : Bool) → u ≡ (u || false)
+    go true = refl
+    go false = refl

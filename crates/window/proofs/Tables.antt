@@ -1,0 +1,33 @@
+-- A table's length, its places, and one more value of it written over a list. Assumes nothing.
+use Prim.Native.Nat.{ℕ, zero, suc, _+_, _≤_, _<_}
+use mathlib.Core.Path.{_≡_, refl, sym, ap, _∙_}
+use mathlib.Core.List.{List, [], _∷_, _++_, append-assoc}
+use native.Mathlib.Numerals.{add-one}
+use native.Mathlib.Omega.{arith}
+use lib.ListN.{length, drop, set, getD, length-append}
+use lib.Seq.{drop-cons, set-at, getD-append-seam}
+use Rattle.window.specs.Rows.{table}
+use Rattle.window.proofs.Places.{Or, here, there, order}
+
+module _ {A : Type 0} (f : ℕ → A) where
+  pub table-length : (n : ℕ) → length (table f n) ≡ n
+  unfolding table
+  table-length zero = refl
+  table-length (suc n) = length-append (table f n) (f n ∷ []) ∙ rw (table-length n) (add-one n)
+
+  pub table-at : (n k : ℕ) (l : List A) (d : A) → k < n → getD (table f n ++ l) k d ≡ f k
+  unfolding table
+  table-at zero k l d h = absurd (omega arith)
+  table-at (suc n) k l d h = go (order n k) (λ p. table-at n k (f n ∷ l) d p)
+    where
+      go : Or (n ≤ k) (k < n) → (k < n → getD (table f n ++ (f n ∷ l)) k d ≡ f k) → getD ((table f n ++ (f n ∷ [])) ++ l) k d ≡ f k
+      go (here p) i =
+          let e : k ≡ n = omega arith in
+          rw (append-assoc, e) (ap (λ (i : ℕ). getD (table f n ++ (f n ∷ l)) i d) (sym (table-length n)) ∙ getD-append-seam (table f n) (f n) l d)
+      go (there p) i = rw append-assoc (i p)
+
+  pub table-more : (l : List A) (k : ℕ) (x : A) → x ≡ f k → k < length l → set (table f k ++ drop k l) k x ≡ table f (k + 1) ++ drop (k + 1) l
+  unfolding table
+  table-more l k x e h =
+      rw (e, add-one, drop-cons l k (f k))
+      (set-at (table f k) (getD l k (f k)) (drop (suc k) l) (f k) k (table-length k) ∙ simp append-assoc)
