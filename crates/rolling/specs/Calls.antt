@@ -35,6 +35,18 @@ pub record Lent : Type 0 where
   pub present : List ℕ
   pub work : List Float
 
+abbrev pub planOf : List ℕ → List ℕ → Plan
+planOf starts ends = record { starts = starts; ends = ends }
+
+abbrev pub ask : List ℕ → List ℕ → ℕ → Asked → Ask
+ask starts ends least figure = record { plan = planOf starts ends; least = least; figure = figure }
+
+abbrev pub lent : List Float → List ℕ → List Float → Lent
+lent figures present work = record { figures = figures; present = present; work = work }
+
+abbrev pub traceOf : List Float → Bool → List ℕ → Trace
+traceOf readings has map = record { readings = readings; mapped = has; map = map }
+
 -- Work slice: "for variance 4, skewness 5, kurtosis 6 doubles", a state of the front stack and a reading of the back stack
 abbrev pub each : Asked → ℕ
 each asked = momentOf asked .inFront .width + momentOf asked .inBack .width

@@ -1,1 +1,113 @@
-// Figures over moving windows.
+// Figures over moving windows: document 01's 001, 002 and 003, driven by a plan. A public function takes any lists; what is
+// below it is kept inside the crate.
+ghost use mathlib.Core.Path.{_≡_};
+ghost use lib.ListN.{length};
+ghost use Rattle.rolling.specs.Moments.{Asked, Variance, Skewness, Kurtosis};
+ghost use Rattle.rolling.specs.Calls.{ask, lent, traceOf, Called, CalledBytes};
+use crate::variance::VarianceMoment;
+
+mod leaving;
+mod plan;
+mod row;
+mod variance;
+
+// Rolling variance over a plan.
+pub fn plan_var(
+    values: &[f64],
+    has_map: bool,
+    map: &[u8],
+    starts: &[u32],
+    ends: &[u32],
+    min_periods: usize,
+    ddof: u8,
+    work: &mut [f64],
+    figures: &mut [f64],
+    present: &mut [u8],
+) -> u32
+    ensures { λ r. ⌜ Called (ask (now (starts .entry)) (now (ends .entry)) «min_periods» (Variance ddof)) (traceOf (now (values .entry)) «has_map» (now (map .entry)))
+        (lent (now (figures .entry)) (now (present .entry)) (now (work .entry))) (lent (now (figures .exit)) (now (present .exit)) (now (work .exit))) r ⌝ }
+{
+    let checked = plan::judge(
+        VarianceMoment::PLACE,
+        values.len(),
+        has_map,
+        map,
+        starts,
+        ends,
+        false,
+        figures.len(),
+        present.len(),
+        work.len(),
+    );
+    if checked.number != 0 {
+        return checked.number;
+    }
+    let moment = VarianceMoment { ddof };
+    moment.rows(
+        values,
+        has_map,
+        map,
+        starts,
+        ends,
+        min_periods,
+        checked.widest,
+        work,
+        figures,
+        present,
+    );
+    0
+}
+
+// The same for a trace as little-endian bytes, decoded into `readings`.
+pub fn plan_var_bytes(
+    trace: &[u8],
+    readings: &mut [f64],
+    has_map: bool,
+    map: &[u8],
+    starts: &[u32],
+    ends: &[u32],
+    min_periods: usize,
+    ddof: u8,
+    work: &mut [f64],
+    figures: &mut [f64],
+    present: &mut [u8],
+) -> u32
+    ensures { λ r. ⌜ CalledBytes (ask (now (starts .entry)) (now (ends .entry)) «min_periods» (Variance ddof)) (now (trace .entry)) «has_map» (now (map .entry))
+        (now (readings .entry)) (now (readings .exit)) (lent (now (figures .entry)) (now (present .entry)) (now (work .entry)))
+        (lent (now (figures .exit)) (now (present .exit)) (now (work .exit))) r ⌝ }
+{
+    if trace.len() % 8 != 0 {
+        return 14;
+    }
+    let n = trace.len() / 8;
+    let checked = plan::judge(
+        VarianceMoment::PLACE,
+        n,
+        has_map,
+        map,
+        starts,
+        ends,
+        readings.len() < n,
+        figures.len(),
+        present.len(),
+        work.len(),
+    );
+    if checked.number != 0 {
+        return checked.number;
+    }
+    plan::decode(trace, readings, n);
+    let moment = VarianceMoment { ddof };
+    moment.rows(
+        &readings[..n],
+        has_map,
+        map,
+        starts,
+        ends,
+        min_periods,
+        checked.widest,
+        work,
+        figures,
+        present,
+    );
+    0
+}

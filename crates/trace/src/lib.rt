@@ -47,7 +47,7 @@ pub fn first(a: u32, b: u32) -> u32
     if a == 0 { b } else { a }
 }
 
-fn either(a: bool, b: bool) -> bool
+pub fn either(a: bool, b: bool) -> bool
     ensures { λ r. ⌜ r ≡ (a || b) ⌝ }
 {
     if a { true } else { b }

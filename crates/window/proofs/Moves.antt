@@ -14,14 +14,14 @@ use lib.Seq.{take-all, take-add, drop-drop, drop-append-add, take-take, take-app
 use lib.Ieee.{Float}
 use Rattle.window.specs.Places.{Series, entries, validCount, badCount}
 use Rattle.window.specs.Window.{Account, Moment, restarted, left, front, back, rising}
-use Rattle.window.specs.Stacks.{inMemory, frontStack, account, Counted, Left, Held, Pushed, keptOf}
+use Rattle.window.specs.Stacks.{inMemory, frontStack, account, Counted, Leaves, Held, Pushed, keptOf}
 use Rattle.window.specs.declared.Window.{Window}
 use Rattle.window.proofs.Places.{Or, here, there, order, entries-self, entries-split, split-end, split-law, two-counts, stay-front, stay-back, flip-front, count-le, count-up, none-part}
 use Rattle.window.proofs.Stacks.{memory-length, memory-append, front-length, front-drop}
 
 -- ---- places leave: the numbers
 module _ {A : Type 0} (t : Series A) (w : Window) (s : ℕ) where
-  pub leave-reset : w .end ≤ s → Left t w s (record { start = s; end = s; split = s; front = 0; back = 0; bad = 0 }) false
+  pub leave-reset : w .end ≤ s → Leaves t w s (record { start = s; end = s; split = s; front = 0; back = 0; bad = 0 }) false
   leave-reset h =
       let m : max s s ≡ s = omega arith in
       record {
@@ -61,7 +61,7 @@ module _ {A : Type 0} (t : Series A) (w : Window) (s : ℕ) where
           omega arith
 
       pub leave-stay : n ≤ w .front →
-          Left t w s (record { start = s; end = w .end; split = w .split; front = w .front - n; back = w .back; bad = w .bad - m }) false
+          Leaves t w s (record { start = s; end = w .end; split = w .split; front = w .front - n; back = w .back; bad = w .bad - m }) false
       leave-stay o =
           let l : s ≤ w .end = omega arith in
           let f = c .front-is in
@@ -81,7 +81,7 @@ module _ {A : Type 0} (t : Series A) (w : Window) (s : ℕ) where
           }
 
       pub leave-flip : w .front < n →
-          Left t w s (record { start = s; end = w .end; split = w .end; front = w .front + w .back - n; back = 0; bad = w .bad - m }) true
+          Leaves t w s (record { start = s; end = w .end; split = w .end; front = w .front + w .back - n; back = 0; bad = w .bad - m }) true
       leave-flip o =
           let l : s ≤ w .end = omega arith in
           let f = c .front-is in
@@ -128,7 +128,7 @@ module _ (M : Moment) where
   kept-more agg n h = rw (ne-eqb n 0 h)
 
   module _ (t : Series (M .Entry)) (base s : ℕ) (w w' : Window) (flips : Bool) (agg : M .State) (work : List Float)
-      (held : Held M t base w agg work) (gone : Left t w s w' flips) (h : w .start ≤ s) where
+      (held : Held M t base w agg work) (gone : Leaves t w s w' flips) (h : w .start ≤ s) where
     abbrev F : List (M .Entry)
     F = front t (account w)
 

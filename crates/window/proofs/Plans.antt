@@ -4,17 +4,17 @@ use Prim.Native.Nat.{ℕ, zero, suc, _+_, _-_, _*_, _≤_, _<_, max}
 use mathlib.Core.Path.{_≡_, refl, sym, ap, _∙_, subst}
 use mathlib.Core.Bool.{Bool, true, false, cond, _||_}
 use mathlib.Core.List.{List}
-use native.Mathlib.Nat.{add-zero, add-suc, le-refl, le-trans}
+use native.Mathlib.Nat.{add-zero, add-suc, le-refl, le-trans, mul-le-mul-left, mul-le-mul-right}
 use native.Mathlib.Numerals.{add-one}
 use native.Mathlib.Omega.{arith}
-use borrow.Author.Tests.{eq-eqb, ne-eqb, ltb-false, eqb-true, not-false}
-use lib.Dec.{lit≤}
+use borrow.Author.Tests.{eq-eqb, ne-eqb, ltb-false, eqb-true, eqb-false, not-false}
+use lib.Dec.{ltb, eqb, lit≤}
 use lib.ListN.{length, getD}
-use Rattle.trace.specs.Refusals.{_orElse_}
+use Rattle.trace.specs.Refusals.{refusal, _orElse_, arrayRefusal}
 use Rattle.trace.proofs.Accepted.{none-of, not-refused}
 use Rattle.window.specs.Rows.{Plan, rows, rowStart, rowEnd}
-use Rattle.window.specs.Refusals.{rowRefusal, before, rowsRefusal, widest, needed, planRefusal}
-use Rattle.window.specs.Stacks.{Planned}
+use Rattle.window.specs.Refusals.{badLists, rowRefusal, before, rowsRefusal, widest, planRefusal}
+use Rattle.window.specs.Stacks.{Planned, Accepted}
 use Rattle.window.proofs.Places.{Or, here, there, order}
 
 pub neither : (a b : Bool) → (a || b) ≡ false → (a ≡ false) × (b ≡ false)
@@ -35,14 +35,18 @@ module _ (n : ℕ) (p : Plan) where
   abbrev pub Row : ℕ → ℕ
   Row k = rowRefusal n (before (p .starts) k) (before (p .ends) k) (rowStart p k) (rowEnd p k)
 
-  -- a row that is not refused
-  record Good (k : ℕ) : Type 0 where
-    row : rowStart p k ≤ rowEnd p k
-    within : rowEnd p k ≤ n
-    starts : before (p .starts) k ≤ rowStart p k
-    ends : before (p .ends) k ≤ rowEnd p k
+  -- the same, by what a loop holds of the row before and of this one
+  pub own : (k c s' e' s e : ℕ) → s' ≡ before (p .starts) k → e' ≡ before (p .ends) k → s ≡ rowStart p k → e ≡ rowEnd p k → c ≡ rowRefusal n s' e' s e → c ≡ Row k
+  own k c s' e' s e a b f g h = h ∙ rw (a, b, f, g)
 
-  good : (k : ℕ) → Row k ≡ 0 → Good k
+  -- a row that is not refused
+  pub record Good (k : ℕ) : Type 0 where
+    pub row : rowStart p k ≤ rowEnd p k
+    pub within : rowEnd p k ≤ n
+    pub starts : before (p .starts) k ≤ rowStart p k
+    pub ends : before (p .ends) k ≤ rowEnd p k
+
+  pub good : (k : ℕ) → Row k ≡ 0 → Good k
   unfolding rowRefusal
   good k e =
       let a = none-of _ _ e in
@@ -135,18 +139,8 @@ module _ (n : ℕ) (p : Plan) where
   unfolding widest
   scan-wide k w x e f = f ∙ rw (add-one, e)
 
--- what is known of an accepted call
-pub record Taken (each n : ℕ) (p : Plan) (short : Bool) (figures present work : ℕ) : Type 0 where
-  pub few : n ≤ 16777216
-  pub plan : Planned n (widest p (rows p)) p
-  pub narrow : widest p (rows p) ≤ n
-  pub readings-fit : short ≡ false
-  pub figures-fit : rows p ≤ figures
-  pub present-fit : rows p ≤ present
-  pub work-fits : needed each p ≤ work
-
 pub taken : (each n : ℕ) (has : Bool) (map : List ℕ) (p : Plan) (short : Bool) (figures present work : ℕ) →
-    planRefusal each n has map p short figures present work ≡ 0 → Taken each n p short figures present work
+    planRefusal each n has map p short figures present work ≡ 0 → Accepted each n p short figures present work (widest p (rows p))
 unfolding planRefusal
 taken each n has map p short figures present work e =
     let a = none-of _ _ e in
@@ -159,6 +153,7 @@ taken each n has map p short figures present work e =
     let outputs = neither _ _ (rest .1) in
     record {
       few = ltb-false _ _ (not-refused 1 _ (lit≤ tt) (one .0));
+      wide-is = refl;
       plan = planned n p (eqb-true _ _ (not-false _ (lists .0))) (c .1);
       narrow = widest-le n p (rows p) (c .1);
       readings-fit = rest .0;
@@ -166,3 +161,45 @@ taken each n has map p short figures present work e =
       present-fit = ltb-false _ _ (outputs .1);
       work-fits = ltb-false _ _ (not-refused 13 _ (lit≤ tt) (a .1));
     }
+
+-- ---- a call's number, as it is put together
+pub both-same : {a b x y : ℕ} → a ≡ x → b ≡ y → a orElse b ≡ x orElse y
+both-same e f = rw (e, f)
+
+module _ (each n : ℕ) (has : Bool) (map : List ℕ) (p : Plan) (short : Bool) (figures present work first : ℕ)
+    (first-is : first ≡ arrayRefusal n has map orElse refusal 4 (badLists p)) where
+  abbrev Number : ℕ
+  Number = planRefusal each n has map p short figures present work
+
+  pub judged-first : (first ≡ 0 → ⊥) → first ≡ Number
+  unfolding planRefusal
+  judged-first h = rw (← first-is, first-stands first _ h, first-stands first _ h, first-stands first _ h)
+
+  pub same-lists : first ≡ 0 → length (p .starts) ≡ length (p .ends)
+  same-lists z = eqb-true _ _ (not-false _ (neither _ _ (not-refused 4 _ (lit≤ tt) (none-of _ _ (sym first-is ∙ z) .1)) .0))
+
+  -- the work that is needed can be told in a usize
+  pub needed-fits : each ≤ 6 → first ≡ 0 → (wide : ℕ) → wide ≤ n → each * wide ≤ 100663296
+  needed-fits h z wide w =
+      let a = none-of _ _ (none-of _ _ (sym first-is ∙ z) .0) in
+      let f = ltb-false _ _ (not-refused 1 _ (lit≤ tt) (a .0)) in
+      le-trans (mul-le-mul-left each (le-trans w f)) (mul-le-mul-right 16777216 h)
+
+  module _ (z : first ≡ 0) (found wide : ℕ) (found-is : found ≡ rowsRefusal n p (rows p)) (wide-is : found ≡ 0 → wide ≡ widest p (rows p)) (number : ℕ)
+      (number-is : number ≡ found orElse refusal 12 (short || (ltb figures (rows p) || ltb present (rows p))) orElse refusal 13 (ltb work (each * wide))) where
+    abbrev Twelve : ℕ
+    Twelve = refusal 12 (short || (ltb figures (rows p) || ltb present (rows p)))
+
+    by-found : (b : Bool) → eqb found 0 ≡ b →
+        found orElse Twelve orElse refusal 13 (ltb work (each * wide)) ≡ found orElse Twelve orElse refusal 13 (ltb work (each * widest p (rows p)))
+    by-found true e = rw (wide-is (eqb-true found 0 e))
+    by-found false e = let h = eqb-false found 0 e in rw (first-stands found Twelve h, first-stands found _ h, first-stands found _ h)
+
+    pub judged : number ≡ Number
+    unfolding planRefusal
+    judged = number-is ∙ by-found (eqb found 0) refl ∙ rw (← first-is, none-then first _ z, found-is)
+
+    pub judged-accepted : number ≡ 0 → Accepted each n p short figures present work wide
+    judged-accepted e =
+        let q = none-of _ _ (none-of _ _ (sym number-is ∙ e) .0) .0 in
+        rw (wide-is q) (taken each n has map p short figures present work (sym judged ∙ e))

@@ -1,23 +1,25 @@
 -- Moments whose entries are single readings: a reading in the back stack is one double, so the laws of the stacks are cited with the
--- code's own reads and writes; and what is inserted at a place, by the tests that the code makes. Assumes nothing.
+-- code's own reads, writes and tests. Assumes nothing.
 use Prim.Native.Nat.{ℕ, _+_, _-_, _*_, _≤_, _<_}
 use mathlib.Core.Path.{_≡_, refl, sym, ap, _∙_, subst}
 use mathlib.Core.Bool.{Bool, true, false, _&&_, not}
+use mir.Val.{boolByte}
 use mathlib.Core.List.{List, [], _∷_, _++_}
 use native.Mathlib.Nat.{one-mul, add-zero}
 use native.Mathlib.Omega.{arith}
-use lib.ListN.{length, take, drop, getD, length-take, length-drop}
+use lib.ListN.{length, take, drop, set, getD, length-take, length-drop}
 use lib.Seq.{sets, getD-drop}
 use lib.Ieee.{Float, nan}
 use lib.Ieee.Scale.{finite}
 use Rattle.float.specs.Operators.{zero64}
 use Rattle.trace.specs.Trace.{validAt}
-use Rattle.window.specs.Places.{Series}
+use Rattle.window.specs.Places.{Series, validCount}
 use Rattle.window.specs.Window.{back}
-use Rattle.window.specs.Readings.{reading, ReadingMoment, ofReadings, readingOf, insertedAt, badAt}
-use Rattle.window.specs.Stacks.{inMemory, frontStack, account, Held}
+use Rattle.window.specs.Readings.{reading, series, ReadingMoment, ofReadings, readingOf, insertedAt, badAt}
+use Rattle.window.specs.Stacks.{inMemory, frontStack, account, Leaves, Held, Pushed}
 use Rattle.window.specs.declared.Window.{Window}
-use Rattle.window.proofs.Stacks.{Flip, flip-start, flip-turn, flip-done}
+use Rattle.window.proofs.Moves.{out-flipped}
+use Rattle.window.proofs.Stacks.{Flip, flip-start, flip-turn, flip-done, Push, push-start, push-room, push-bad-le, push-hit, push-miss, push-done}
 
 -- readings in memory are themselves
 pub flat : (l : List Float) → inMemory reading l ≡ l
@@ -55,27 +57,56 @@ module _ (m : ReadingMoment) (l₀ : List Float) (base n : ℕ) where
         l ≡ inMemory (m .inFront) (frontStack (ofReadings m) B) ++ drop (m .inFront .width * n) l₀
     flipping-done f h = flip-done (ofReadings m) l₀ base n B many room fits′ standing f h
 
--- the readings of the back stack are what stands there
-pub standing-back : (m : ReadingMoment) (t : Series Float) (base : ℕ) (w : Window) (agg : m .State) (work : List Float) →
-    Held (ofReadings m) t base w agg work → take (w .back) (drop base work) ≡ back t (account w)
-standing-back m t base w agg work held =
-    ap (λ (k : ℕ). take k (drop base work)) (sym (one-mul (w .back))) ∙ held .back-at ∙ flat (back t (account w))
+-- what a flip of the readings that stand in the back stack leaves of a window
+pub flipped-out : (m : ReadingMoment) (t : Series Float) (base s : ℕ) (w w' : Window) (flips : Bool) (agg : m .State) (work : List Float) →
+    Held (ofReadings m) t base w agg work → Leaves t w s w' flips → w .start ≤ s → m .inFront .width * w .back ≤ base → base + w .back ≤ length work →
+    flips ≡ true → (work' : List Float) →
+    work' ≡ inMemory (m .inFront) (frontStack (ofReadings m) (take (w .back) (drop base work))) ++ drop (m .inFront .width * w .back) work →
+    (agg' : m .State) → agg' ≡ m .empty → Held (ofReadings m) t base w' agg' work' × (drop base work' ≡ drop base work)
+flipped-out m t base s w w' flips agg work held gone h room fits z work' f agg' e =
+    let b : take (w .back) (drop base work) ≡ back t (account w) =
+    ap (λ (k : ℕ). take k (drop base work)) (sym (one-mul (w .back))) ∙ held .back-at ∙ flat (back t (account w)) in
+    let i : base + 1 * w .back ≤ length work = rw one-mul fits in
+    out-flipped (ofReadings m) t base s w w' flips agg work held gone h room i z work' (rw b at f) agg' e
 
--- ---- a place: what is inserted there, and whether it is bad
-module _ (has : Bool) (map : List ℕ) (values : List Float) (i : ℕ) where
-  pub inserted-finite : finite (readingOf values i) ≡ true → readingOf values i ≡ insertedAt values i
-  unfolding insertedAt
-  inserted-finite e = rw e
+-- ---- readings pushed
+module _ (m : ReadingMoment) (has : Bool) (map : List ℕ) (values l₀ : List Float) (n bad₀ : ℕ) (s₀ : m .State) (a e : ℕ) where
+  abbrev pub Pushing : List Float → ℕ → ℕ → m .State → ℕ → Type 0
+  Pushing l at bad s i = Push (ofReadings m) (series has map values) l₀ n bad₀ s₀ a e l at bad s i
 
-  pub inserted-zero : finite (readingOf values i) ≡ false → zero64 ≡ insertedAt values i
-  unfolding insertedAt
-  inserted-zero e = rw e
+  pub pushing-start : a ≤ e → Pushing l₀ n bad₀ s₀ a
+  pushing-start h = push-start (ofReadings m) (series has map values) l₀ n bad₀ s₀ a e h
 
-  -- by whether the place is valid
-  pub bad-valid : validAt has map i ≡ true → (b : Bool) → finite (readingOf values i) ≡ b → not b ≡ badAt has map values i
-  unfolding badAt
-  bad-valid v b e = rw (v, e)
+  module _ {l : List Float} {at bad : ℕ} {s : m .State} {i : ℕ} (p : Pushing l at bad s i) (more : i < e)
+      (room : 1 * (n + validCount (series has map values) a e) ≤ length l₀) where
+    pub pushing-room : validAt has map i ≡ true → at < length l
+    pushing-room v =
+        let h = push-room (ofReadings m) (series has map values) l₀ n bad₀ s₀ a e p more room v in
+        omega arith
 
-  pub bad-missing : validAt has map i ≡ false → badAt has map values i ≡ false
-  unfolding badAt
-  bad-missing v = rw v
+    pub pushing-bad : bad ≤ bad₀ + (i - a)
+    pushing-bad = push-bad-le (ofReadings m) (series has map values) l₀ n bad₀ s₀ a e p more room
+
+    hit : validAt has map i ≡ true → (x : Float) → x ≡ insertedAt values i → (u : m .State) → u ≡ m .insert s x → (b : Bool) → finite (readingOf values i) ≡ b →
+        (k : ℕ) → k ≡ bad + boolByte (not b) → Pushing (set l at x) (at + 1) k u (i + 1)
+    unfolding badAt
+    hit v x f u g b c k d =
+        push-hit (ofReadings m) (series has map values) l₀ n bad₀ s₀ a e p more room v at (sym (one-mul at)) x f u g (not b) (rw (v, c)) k d
+
+    pub pushing-finite : validAt has map i ≡ true → finite (readingOf values i) ≡ true → (u : m .State) → u ≡ m .insert s (readingOf values i) →
+        Pushing (set l at (readingOf values i)) (at + 1) bad u (i + 1)
+    unfolding insertedAt
+    pushing-finite v f u g = hit v (readingOf values i) (rw f) u g true f bad (sym (add-zero bad))
+
+    pub pushing-zero : validAt has map i ≡ true → finite (readingOf values i) ≡ false → (u : m .State) → u ≡ m .insert s zero64 →
+        Pushing (set l at zero64) (at + 1) (bad + 1) u (i + 1)
+    unfolding insertedAt
+    pushing-zero v f u g = hit v zero64 (rw f) u g false f (bad + 1) refl
+
+    pub pushing-missing : validAt has map i ≡ false → Pushing l at bad s (i + 1)
+    unfolding badAt
+    pushing-missing v = push-miss (ofReadings m) (series has map values) l₀ n bad₀ s₀ a e p more room v (rw v)
+
+  pub pushing-done : {l : List Float} {at bad : ℕ} {s : m .State} {i : ℕ} → Pushing l at bad s i → e ≤ i →
+      Pushed (ofReadings m) (series has map values) l₀ n bad₀ s₀ a e l at bad s
+  pushing-done p h = push-done (ofReadings m) (series has map values) l₀ n bad₀ s₀ a e p h

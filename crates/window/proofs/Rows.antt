@@ -4,7 +4,7 @@ use Prim.Native.Nat.{ℕ, zero, suc, _+_, _-_, _*_, _≤_, _<_}
 use mathlib.Core.Path.{_≡_, refl, sym, ap, _∙_, subst}
 use mathlib.Core.Bool.{Bool, true, false, cond, _||_}
 use mathlib.Core.List.{List, [], _∷_, _++_, append-assoc}
-use native.Mathlib.Nat.{mul-zero}
+use native.Mathlib.Nat.{mul-zero, mul-le-mul-left, le-trans}
 use native.Mathlib.Numerals.{add-one}
 use native.Mathlib.Omega.{arith}
 use borrow.Author.Tests.{ne-eqb, le-leb, lt-leb}
@@ -18,10 +18,11 @@ use Rattle.moment.specs.declared.Figure.the-variants.{Missing}
 use Rattle.window.specs.Places.{Series, validCount}
 use Rattle.window.specs.Window.{Account, Moment, front, moved, falling, spoilt, figureOf}
 use Rattle.window.specs.Rows.{Plan, rows, rowStart, rowEnd, moves, stepped, accountAt, counted, answerOf, answerAt, table}
-use Rattle.window.specs.Stacks.{inMemory, frontStack, account, Held, topOf, Ready, Planned}
+use Rattle.window.specs.Stacks.{inMemory, frontStack, account, Held, topOf, answerBy, Ready, Planned}
 use Rattle.window.specs.declared.Window.{Window}
 use Rattle.window.proofs.Places.{two-counts, entries-self}
 use Rattle.window.proofs.Stacks.{memory-append, front-length}
+use Rattle.window.proofs.Moves.{held-counts}
 use Rattle.window.proofs.Tables.{table-more}
 
 module _ (M : Moment) where
@@ -55,8 +56,8 @@ module _ (M : Moment) where
         ∙ rw (c .front-is) (top-of (front t (account w)) (drop (M .inFront .width * length (front t (account w))) work)) in
         rw (q, c .bad-is, held .agg-is)
 
-    -- the answer, by the test that the code makes
-    module _ (least s e : ℕ) (h : t .mapped ≡ true → (w .start ≡ s) × (w .end ≡ e)) (u : Bool) (q : u ≡ leb least (cond (t .mapped) (w .front + w .back) (e - s))) where
+    -- the answer, by the window's numbers
+    module _ (least s e : ℕ) (h : t .mapped ≡ true → (w .start ≡ s) × (w .end ≡ e)) where
       counted-is : cond (t .mapped) (w .front + w .back) (e - s) ≡ counted t s e
       counted-is = go (t .mapped) h
         where
@@ -66,16 +67,9 @@ module _ (M : Moment) where
               let c = held .numbers in
               rw (← g refl .0, ← g refl .1, c .front-is, c .back-is) (two-counts (t .valid) (t .entry) (w .start) (w .split) (w .end) (c .start-le) (c .split-le))
 
-      test : u ≡ leb least (counted t s e)
-      test = q ∙ ap (leb least) counted-is
-
-      pub answer-yes : u ≡ true → (f : Figure) → f ≡ figureOf M final t (account w) → f ≡ answerOf M final t least s e (account w)
+      pub answer-is : answerBy M final (t .mapped) least s e w agg work ≡ answerOf M final t least s e (account w)
       unfolding answerOf
-      answer-yes p f g = g ∙ rw (sym test ∙ p)
-
-      pub answer-no : u ≡ false → Missing ≡ answerOf M final t least s e (account w)
-      unfolding answerOf
-      answer-no p = rw (sym test ∙ p)
+      answer-is = rw (counted-is, figure-is)
 
 -- ---- the rows of a plan: the turns of the loop
 module _ (M : Moment) (final : M .State → Figure) (t : Series (M .Entry)) (least n widest : ℕ) (p : Plan) where
@@ -132,43 +126,47 @@ module _ (M : Moment) (final : M .State → Figure) (t : Series (M .Entry)) (lea
     pub mapped : t .mapped ≡ true → (w .start ≡ rowStart p k) × (w .end ≡ rowEnd p k)
 
   module _ (plan : Planned n widest p) {work₀ out₀ : List Float} {pr₀ : List ℕ} {need : ℕ} {work out : List Float} {pr : List ℕ} {w : Window} {agg : M .State} {k : ℕ}
-      (row : Row work₀ out₀ pr₀ need work out pr w agg k) (more : k < rows p) where
-    pub row-ready : Ready w (rowStart p k) (rowEnd p k) n widest
+      (row : Row work₀ out₀ pr₀ need work out pr w agg k) (more : k < rows p) (s e : ℕ) (s-is : s ≡ rowStart p k) (e-is : e ≡ rowEnd p k) where
+    pub row-ready : Ready w s e n widest
     row-ready =
-        let q = plan .row k more in
+        rw (s-is, e-is)
+        (let q = plan .row k more in
         let a = row .ahead k (omega arith) more in
         let i = row .wide in
-        record { starts = a .0; row = q .0; ends = a .1; within = q .1; old = i; new = q .2 }
+        record { starts = a .0; row = q .0; ends = a .1; within = q .1; old = i; new = q .2 })
 
     -- the account after the row's step
-    abbrev Moved : Window → Type 0
-    Moved w' = account w' ≡ stepped (t .valid) (t .mapped) least k (rowStart p k) (rowEnd p k) (account w)
+    abbrev Moved : Window → ℕ → ℕ → Type 0
+    Moved w' x y = account w' ≡ stepped (t .valid) (t .mapped) least k x y (account w)
 
-    pub row-stepped : (w' : Window) → Moved w' → Stepped w' k
-    row-stepped w' e = go (moves (t .mapped) least k (rowStart p k) (rowEnd p k)) refl
+    as-listed : (w' : Window) → Moved w' s e → Moved w' (rowStart p k) (rowEnd p k)
+    as-listed w' f = subst (λ (y : ℕ). Moved w' (rowStart p k) y) e-is (subst (λ (x : ℕ). Moved w' x e) s-is f)
+
+    row-stepped : (w' : Window) → Moved w' s e → Stepped w' k
+    row-stepped w' f = go (moves (t .mapped) least k (rowStart p k) (rowEnd p k)) refl
       where
         here-now : account w' ≡ moved (t .valid) (account w) (rowStart p k) (rowEnd p k) → Stepped w' k
-        here-now f =
-            let x : w' .start ≡ rowStart p k = ap (λ (a : Account). a .start) f in
-            let y : w' .end ≡ rowEnd p k = ap (λ (a : Account). a .end) f in
+        here-now g =
+            let x : w' .start ≡ rowStart p k = ap (λ (a : Account). a .start) g in
+            let y : w' .end ≡ rowEnd p k = ap (λ (a : Account). a .end) g in
             let q = plan .row k more in
             record {
               wide = omega arith;
               inside = omega arith;
-              ahead = λ j g h. (rw x (plan .rising k j (omega arith) h .0), rw y (plan .rising k j (omega arith) h .1));
+              ahead = λ j i h. (rw x (plan .rising k j (omega arith) h .0), rw y (plan .rising k j (omega arith) h .1));
               mapped = λ _. (x, y);
             }
 
         as-before : account w' ≡ account w → (t .mapped ≡ true → ⊥) → Stepped w' k
-        as-before f q =
-            let x : w' .start ≡ w .start = ap (λ (a : Account). a .start) f in
-            let y : w' .end ≡ w .end = ap (λ (a : Account). a .end) f in
+        as-before g q =
+            let x : w' .start ≡ w .start = ap (λ (a : Account). a .start) g in
+            let y : w' .end ≡ w .end = ap (λ (a : Account). a .end) g in
             let i = row .wide in
             let o = row .inside in
             record {
               wide = omega arith;
               inside = omega arith;
-              ahead = λ j g h. (rw x (row .ahead j (omega arith) h .0), rw y (row .ahead j (omega arith) h .1));
+              ahead = λ j i h. (rw x (row .ahead j (omega arith) h .0), rw y (row .ahead j (omega arith) h .1));
               mapped = λ z. absurd (q z);
             }
 
@@ -177,26 +175,39 @@ module _ (M : Moment) (final : M .State → Figure) (t : Series (M .Entry)) (lea
         no-map false u f q = let z : _≡_ {A = ℕ} 0 1 = cc in omega arith
 
         go : (u : Bool) → moves (t .mapped) least k (rowStart p k) (rowEnd p k) ≡ u → Stepped w' k
-        go true u = here-now (e ∙ rw u)
-        go false u = as-before (e ∙ rw u) (no-map (t .mapped) _ u)
+        go true u = here-now (as-listed w' f ∙ rw u)
+        go false u = as-before (as-listed w' f ∙ rw u) (no-map (t .mapped) _ u)
+
+    -- the window after the step lies in the work slice
+    pub row-fits : (w' : Window) (agg' : M .State) (work' : List Float) → Moved w' s e → Held M t (M .inFront .width * widest) w' agg' work' →
+        M .inFront .width * widest ≤ length work' → (M .inFront .width * w' .front ≤ length work') × (w' .front + w' .back ≤ w' .end) × (s ≤ e)
+    row-fits w' agg' work' y held room =
+        let c = held-counts M t (M .inFront .width * widest) w' agg' work' held in
+        let i = row-stepped w' y .wide in
+        let o : w' .front ≤ widest = omega arith in
+        let r = row-ready .row in
+        (le-trans (mul-le-mul-left (M .inFront .width) o) room, omega arith, r)
 
     pub row-next : {w' : Window} {agg' : M .State} {work' out' : List Float} {pr' : List ℕ} {f : Figure} →
-        Moved w' → Held M t (M .inFront .width * widest) w' agg' work' → length work' ≡ length work → drop need work' ≡ drop need work →
-        f ≡ answerOf M final t least (rowStart p k) (rowEnd p k) (account w') →
+        Moved w' s e → Held M t (M .inFront .width * widest) w' agg' work' → length work' ≡ length work → drop need work' ≡ drop need work →
+        f ≡ answerBy M final (t .mapped) least s e w' agg' work' →
         rows p ≤ length out₀ → rows p ≤ length pr₀ → out' ≡ set out k (doubleOf f) → pr' ≡ set pr k (byteOf f) →
         Row work₀ out₀ pr₀ need work' out' pr' w' agg' (k + 1)
     unfolding accountAt answerAt
     row-next {w'} {agg'} {work'} {out'} {pr'} {f} y held len rest g ho hp o q =
-        let s = row-stepped w' y in
-        let a : account w' ≡ accountAt (t .valid) (t .mapped) least p (suc k) = y ∙ rw (row .at) in
-        let h : f ≡ Answer k = g ∙ ap (answerOf M final t least (rowStart p k) (rowEnd p k)) a in
+        let u = row-stepped w' y in
+        let a : account w' ≡ accountAt (t .valid) (t .mapped) least p (suc k) = as-listed w' y ∙ rw (row .at) in
+        let m : t .mapped ≡ true → (w' .start ≡ s) × (w' .end ≡ e) = λ z. (u .mapped z .0 ∙ sym s-is, u .mapped z .1 ∙ sym e-is) in
+        let h : f ≡ Answer k =
+        g ∙ answer-is M final t (M .inFront .width * widest) w' agg' work' held least s e m
+        ∙ rw (s-is, e-is) (ap (answerOf M final t least (rowStart p k) (rowEnd p k)) a) in
         record {
           upto = omega arith;
           held = held;
           at = rw add-one a;
-          wide = s .wide;
-          inside = s .inside;
-          ahead = s .ahead;
+          wide = u .wide;
+          inside = u .inside;
+          ahead = u .ahead;
           work-same = len ∙ row .work-same;
           work-rest = rest ∙ row .work-rest;
           out-same = ap length o ∙ simp length-set (row .out-same);

@@ -7,9 +7,12 @@ use mathlib.Core.List.{List, [], _∷_, _++_}
 use lib.Dec.{eqb, leb, ltb}
 use lib.ListN.{length, take, drop}
 use lib.Ieee.{Float}
+use Rattle.moment.specs.declared.Figure.{Figure}
+use Rattle.moment.specs.declared.Figure.the-variants.{Missing}
 use Rattle.window.specs.Places.{Series, entries, validCount, badCount}
-use Rattle.window.specs.Window.{Account, Layout, Moment, restarted, left, front, back, rising, falling}
+use Rattle.window.specs.Window.{Account, Layout, Moment, restarted, left, front, back, rising, falling, spoilt}
 use Rattle.window.specs.Rows.{Plan, rows, rowStart, rowEnd}
+use Rattle.window.specs.Refusals.{widest}
 use Rattle.window.specs.declared.Window.{Window}
 
 -- values one behind another
@@ -35,7 +38,7 @@ pub record Counted {A : Type 0} (t : Series A) (w : Window) : Type 0 where
 
 -- The window w' that is left of w when the places below s are gone. `flips` says that the back stack went to the front: the window
 -- does not start anew, and more valid places leave than the front stack holds
-pub record Left {A : Type 0} (t : Series A) (w : Window) (s : ℕ) (w' : Window) (flips : Bool) : Type 0 where
+pub record Leaves {A : Type 0} (t : Series A) (w : Window) (s : ℕ) (w' : Window) (flips : Bool) : Type 0 where
   pub to : account w' ≡ left (t .valid) (restarted (account w) s) s
   pub numbers : Counted t w'
   pub flips-is : flips ≡ cond (leb (w .end) s) false (ltb (w .front) (validCount t (w .start) s))
@@ -66,6 +69,11 @@ keptOf M agg n = cond (eqb n 0) (M .empty) agg
 unfoldable pub topOf : (M : Moment) → List Float → ℕ → M .State
 topOf M work n = cond (eqb n 0) (M .empty) (M .inFront .load (drop (M .inFront .width * (n - 1)) work))
 
+-- a row's answer by the window's numbers: the back state combined with the state on the front stack's top
+abbrev pub answerBy : (M : Moment) → (M .State → Figure) → Bool → ℕ → ℕ → ℕ → Window → M .State → List Float → Figure
+answerBy M final mapped least s e w agg work =
+    cond (leb least (cond mapped (w .front + w .back) (e - s))) (spoilt (w .bad) (final (M .combine agg (topOf M work (w .front))))) Missing
+
 -- a window over n places can move to the row from s up to e, and neither is wider than `widest`
 pub record Ready (w : Window) (s e n widest : ℕ) : Type 0 where
   pub starts : w .start ≤ s
@@ -80,3 +88,14 @@ pub record Planned (n widest : ℕ) (p : Plan) : Type 0 where
   pub same : length (p .starts) ≡ length (p .ends)
   pub row : (k : ℕ) → k < rows p → (rowStart p k ≤ rowEnd p k) × (rowEnd p k ≤ n) × (rowEnd p k ≤ rowStart p k + widest)
   pub rising : (j k : ℕ) → j ≤ k → k < rows p → (rowStart p j ≤ rowStart p k) × (rowEnd p j ≤ rowEnd p k)
+
+-- what is known of a call that is accepted, whose widest window has `wide` places
+pub record Accepted (each n : ℕ) (p : Plan) (short : Bool) (figures present work wide : ℕ) : Type 0 where
+  pub few : n ≤ 16777216
+  pub plan : Planned n wide p
+  pub wide-is : wide ≡ widest p (rows p)
+  pub narrow : wide ≤ n
+  pub readings-fit : short ≡ false
+  pub figures-fit : rows p ≤ figures
+  pub present-fit : rows p ≤ present
+  pub work-fits : each * wide ≤ work

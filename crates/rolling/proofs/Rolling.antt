@@ -1,0 +1,25 @@
+-- What the code of every moment needs beside the laws of windows. Assumes nothing.
+use Prim.Native.Nat.{ℕ, _+_, _≤_}
+use mathlib.Core.Path.{_≡_}
+use mathlib.Core.Bool.{Bool, true, false}
+use mathlib.Core.List.{List, [], _∷_}
+use native.Mathlib.Numerals.{add-one, add-two}
+use native.Mathlib.Omega.{arith}
+use mir.Val.{boolByte}
+use lib.ListN.{set}
+use lib.Seq.{sets}
+use lib.Ieee.{Float, nan, eq, ne}
+use lib.Ieee.Compare.{differs-from-itself}
+
+-- only the NaN is not equal to itself
+pub not-itself : (x : Float) → eq x x ≡ false → x ≡ nan
+unfolding ne
+not-itself x e = differs-from-itself x (rw e tt)
+
+pub bit-le : (t : Bool) → boolByte t ≤ 1
+bit-le true = omega arith
+bit-le false = omega arith
+
+-- straight-line stores of a state's members
+pub puts3 : (l : List Float) (i : ℕ) (a b c : Float) → set (set (set l i a) (i + 1) b) (i + 2) c ≡ sets l i (a ∷ b ∷ c ∷ [])
+puts3 l i a b c = rw (add-one, add-two)

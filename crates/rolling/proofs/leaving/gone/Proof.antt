@@ -1,0 +1,32 @@
+-- By what is known of the window. Assumes nothing.
+use mathlib.Core.Path.{_≡_, refl, sym}
+use borrow.Author.Needs.{needs}
+use borrow.Author.Tests.{not-true}
+use Rattle.trace.specs.Trace.{validAt}
+use Rattle.window.proofs.Places.{count-all}
+use Rattle.rolling.proofs.leaving.gone.Statement.{statement}
+use Rattle.rolling.proofs.leaving.gone.Tie as tie
+
+sub-t9 : tie.Need-sub-t9
+sub-t9 c = search needs
+
+returns : tie.Need-returns
+unfolding validAt
+returns c = (rw (not-true (c .before .before .before .before .args .has-map) (c .if2 .taken)) (sym (count-all _ _ (λ i. refl) _ _)), sym (c .before .before .before .before .pre .1 (c .before .if1 .taken)))
+
+count-valid-requires : tie.Need-count-valid-requires
+count-valid-requires c κs = search needs
+
+returns-2 : tie.Need-returns-2
+returns-2 c = (c .count-valid .ensures _, sym (c .before .before .before .before .before .pre .1 (c .before .before .if1 .taken)))
+
+count-requires : tie.Need-count-requires
+count-requires c κs = search needs
+
+returns-3 : tie.Need-returns-3
+returns-3 c = search needs
+
+pub gone-spec : {M : Type 1} → statement M
+gone-spec =
+    tie.close
+    (tie.spec sub-t9 returns count-valid-requires returns-2 count-requires returns-3)

@@ -1,0 +1,37 @@
+-- By whether the place is valid. Assumes nothing.
+use mathlib.Core.Path.{_≡_, sym, _∙_}
+use Rattle.window.specs.Readings.{badAt}
+use borrow.Author.Needs.{needs}
+use Rattle.rolling.proofs.leaving.is_bad.Statement.{statement}
+use Rattle.rolling.proofs.leaving.is_bad.Tie as tie
+
+valid-requires : tie.Need-valid-requires
+valid-requires c κs = search needs
+
+mul-is-finite : tie.Need-mul-is-finite
+mul-is-finite c = search needs
+
+shared-slice-read-is-finite : tie.Need-shared-slice-read-is-finite
+shared-slice-read-is-finite c = search needs
+
+is-finite-requires : tie.Need-is-finite-requires
+is-finite-requires c κs = search needs
+
+returns : tie.Need-returns
+unfolding badAt
+returns c = let e = sym (c .before .before .before .valid .ensures) ∙ c .before .before .if1 .taken in rw (e, c .is-finite .ensures)
+
+returns-2 : tie.Need-returns-2
+unfolding badAt
+returns-2 c = let e = sym (c .before .valid .ensures) ∙ c .if1 .left in rw e
+
+pub is-bad-spec : {M : Type 1} → statement M
+is-bad-spec =
+    tie.close
+    (tie.spec
+    valid-requires
+    mul-is-finite
+    shared-slice-read-is-finite
+    is-finite-requires
+    returns
+    returns-2)
