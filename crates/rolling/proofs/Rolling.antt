@@ -1,5 +1,5 @@
 -- What the code of every moment needs beside the laws of windows. Assumes nothing.
-use Prim.Native.Nat.{ℕ, _+_, _≤_}
+use Prim.Native.Nat.{ℕ, suc, _+_, _≤_}
 use mathlib.Core.Path.{_≡_}
 use mathlib.Core.Bool.{Bool, true, false}
 use mathlib.Core.List.{List, [], _∷_}
@@ -23,3 +23,13 @@ bit-le false = omega arith
 -- straight-line stores of a state's members
 pub puts3 : (l : List Float) (i : ℕ) (a b c : Float) → set (set (set l i a) (i + 1) b) (i + 2) c ≡ sets l i (a ∷ b ∷ c ∷ [])
 puts3 l i a b c = rw (add-one, add-two)
+
+pub puts4 : (l : List Float) (i : ℕ) (a b c d : Float) → set (set (set (set l i a) (i + 1) b) (i + 2) c) (i + 3) d ≡ sets l i (a ∷ b ∷ c ∷ d ∷ [])
+puts4 l i a b c d = let e : i + 3 ≡ suc (i + 2) = omega arith in rw (e, add-one, add-two)
+
+pub puts5 : (l : List Float) (i : ℕ) (a b c d f : Float) →
+    set (set (set (set (set l i a) (i + 1) b) (i + 2) c) (i + 3) d) (i + 4) f ≡ sets l i (a ∷ b ∷ c ∷ d ∷ f ∷ [])
+puts5 l i a b c d f =
+    let e : i + 3 ≡ suc (i + 2) = omega arith in
+    let g : i + 4 ≡ suc (suc (i + 2)) = omega arith in
+    rw (e, g, add-one, add-two)

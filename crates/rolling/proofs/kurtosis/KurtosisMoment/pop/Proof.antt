@@ -1,0 +1,64 @@
+-- By the three ends: a flip, an emptied back stack, or a back stack that stays. Assumes nothing.
+use mathlib.Core.Path.{refl}
+use borrow.Author.Needs.{needs}
+use Rattle.window.specs.Readings.{ofReadings}
+use Rattle.window.proofs.Moves.{out-emptied, out-kept}
+use Rattle.window.proofs.Readings.{flipped-out}
+use Rattle.rolling.specs.Moments.{kurtosis}
+use Rattle.rolling.proofs.kurtosis.KurtosisMoment.pop.Statement.{statement}
+use Rattle.rolling.proofs.kurtosis.KurtosisMoment.pop.Tie as tie
+
+leave-requires : tie.Need-leave-requires
+leave-requires c κs = search needs
+
+flip-requires : tie.Need-flip-requires
+flip-requires c κs = search needs
+
+default-requires : tie.Need-default-requires
+default-requires c κs = search needs
+
+same-length : tie.Need-same-length
+same-length c = search needs
+
+returns : tie.Need-returns
+returns c =
+    let s = c .before .before .before .before .before .before .before .before .before .before .before .before .before in
+    let l = c .before .before .before .before .before .before .before .leave in
+    let d =
+    flipped-out kurtosis _ _ _ (s .args .w .window) (l .result .window) (l .result .flips) _ _ (s .pre .0) (l .ensures) (s .pre .1) (s .pre .4) (s .pre .5)
+    (c .before .before .before .before .before .if1 .taken) _ (c .before .before .before .flip .ensures) _ (c .default .ensures) in
+    (d .0, (l .ensures .to, d .1))
+
+default-requires-2 : tie.Need-default-requires-2
+default-requires-2 c κs = search needs
+
+returns-2 : tie.Need-returns-2
+returns-2 c =
+    let s = c .before .before .before .before .before .before .before .before .before .before .before in
+    let l = c .before .before .before .before .before .leave in (
+      out-emptied (ofReadings kurtosis) _ _ _ (s .args .w .window) (l .result .window) (l .result .flips) _ _ (s .pre .0) (l .ensures) (s .pre .1)
+          (c .before .before .before .if1 .left) (c .before .if2 .taken) _ (c .default2 .ensures),
+      (l .ensures .to, refl),
+    )
+
+returns-3 : tie.Need-returns-3
+returns-3 c =
+    let s = c .before .before .before .before .before .before .before .before .before .before in
+    let l = c .before .before .before .before .leave in (
+      out-kept (ofReadings kurtosis) _ _ _ (s .args .w .window) (l .result .window) (l .result .flips) _ _ (s .pre .0) (l .ensures) (s .pre .1)
+          (c .before .before .if1 .left) (c .if2 .left),
+      (l .ensures .to, refl),
+    )
+
+pub pop-spec : {M : Type 1} → statement M
+pop-spec =
+    tie.close
+    (tie.spec
+    leave-requires
+    flip-requires
+    default-requires
+    same-length
+    returns
+    default-requires-2
+    returns-2
+    returns-3)

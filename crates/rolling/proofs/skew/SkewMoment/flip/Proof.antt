@@ -1,0 +1,122 @@
+-- By the turns of a flip. Assumes nothing.
+use Prim.Native.Nat.{ℕ, _+_, _-_, _*_, _≤_, _<_}
+use mathlib.Core.Path.{_≡_, refl, sym, ap, _∙_}
+use mathlib.Core.List.{List, [], _∷_, _++_}
+use native.Mathlib.Omega.{arith}
+use borrow.Author.Needs.{needs}
+use lib.ListN.{length, take, drop, length-set}
+use Rattle.window.proofs.Readings.{Flipping, flipping-start, flipping-turn, flipping-done}
+use Rattle.rolling.proofs.Rolling.{puts4}
+use Rattle.rolling.specs.Moments.{skewness}
+use Rattle.rolling.proofs.skew.SkewMoment.flip.Statement.{statement}
+use Rattle.rolling.proofs.skew.SkewMoment.flip.Tie as tie
+
+abbrev Inv-loop : tie.InvT-loop
+Inv-loop work₀ base n agg₀ at₀ j₀ work agg at j = Flipping skewness work₀ base n work agg at j
+
+abbrev μ-loop : tie.MeasureT-loop
+μ-loop work₀ base n agg₀ at₀ j₀ work agg at j = j
+
+default-requires : tie.Need-default-requires Inv-loop μ-loop
+default-requires c κs = search needs
+
+loop-holds : tie.Need-loop-holds Inv-loop μ-loop
+loop-holds c = flipping-start skewness _ _ _ (c .before .before .pre .0) (c .before .before .pre .1) _ (c .default .ensures)
+
+sub-j : tie.Need-sub-j Inv-loop μ-loop
+sub-j c = search needs
+
+add-insert-one : tie.Need-add-insert-one Inv-loop μ-loop
+add-insert-one c = search needs
+
+mul-insert-one : tie.Need-mul-insert-one Inv-loop μ-loop
+mul-insert-one c = search needs
+
+slice-read-insert-one : tie.Need-slice-read-insert-one Inv-loop μ-loop
+slice-read-insert-one c = search needs
+
+insert-one-requires : tie.Need-insert-one-requires Inv-loop μ-loop
+insert-one-requires c κs = search needs
+
+mul-work : tie.Need-mul-work Inv-loop μ-loop
+mul-work c = search needs
+
+slice-write-work : tie.Need-slice-write-work Inv-loop μ-loop
+slice-write-work c = search needs
+
+add-work : tie.Need-add-work Inv-loop μ-loop
+add-work c = search needs
+
+mul-work-2 : tie.Need-mul-work-2 Inv-loop μ-loop
+mul-work-2 c = search needs
+
+slice-write-work-2 : tie.Need-slice-write-work-2 Inv-loop μ-loop
+slice-write-work-2 c = simp length-set (omega arith)
+
+add-work-2 : tie.Need-add-work-2 Inv-loop μ-loop
+add-work-2 c = search needs
+
+mul-work-3 : tie.Need-mul-work-3 Inv-loop μ-loop
+mul-work-3 c = search needs
+
+slice-write-work-3 : tie.Need-slice-write-work-3 Inv-loop μ-loop
+slice-write-work-3 c = simp length-set (omega arith)
+
+add-work-3 : tie.Need-add-work-3 Inv-loop μ-loop
+add-work-3 c = search needs
+
+mul-work-4 : tie.Need-mul-work-4 Inv-loop μ-loop
+mul-work-4 c = search needs
+
+slice-write-work-4 : tie.Need-slice-write-work-4 Inv-loop μ-loop
+slice-write-work-4 c = simp length-set (omega arith)
+
+add-at : tie.Need-add-at Inv-loop μ-loop
+add-at c = search needs
+
+loop-less : tie.Need-loop-less Inv-loop μ-loop
+loop-less c = search needs
+
+loop-again : tie.Need-loop-again Inv-loop μ-loop
+loop-again c =
+    let a = c .before .before .before in
+    let s = a .before .before .before in
+    rw puts4 (flipping-turn skewness _ _ _ (s .pre .0) (s .pre .1) (a .loop .inv) (c .before .before .loop-test .taken) (c .insert-one .ensures))
+
+same-length : tie.Need-same-length Inv-loop μ-loop
+same-length c = search needs
+
+returns : tie.Need-returns Inv-loop μ-loop
+returns c =
+    let s = c .before .before .before .before in
+    flipping-done skewness _ _ _ (s .pre .0) (s .pre .1) (c .before .loop .inv) (c .loop-test .left)
+
+pub flip-spec : {M : Type 1} → statement M
+flip-spec =
+    tie.close
+    (tie.spec
+    Inv-loop
+    μ-loop
+    default-requires
+    loop-holds
+    sub-j
+    add-insert-one
+    mul-insert-one
+    slice-read-insert-one
+    insert-one-requires
+    mul-work
+    slice-write-work
+    add-work
+    mul-work-2
+    slice-write-work-2
+    add-work-2
+    mul-work-3
+    slice-write-work-3
+    add-work-3
+    mul-work-4
+    slice-write-work-4
+    add-at
+    loop-less
+    loop-again
+    same-length
+    returns)

@@ -1,0 +1,26 @@
+-- By whether the row moves the window. Assumes nothing.
+use mathlib.Core.Path.{_≡_, refl, sym, _∙_}
+use borrow.Author.Needs.{needs}
+use Rattle.rolling.proofs.skew.SkewMoment.step.Statement.{statement}
+use Rattle.rolling.proofs.skew.SkewMoment.step.Tie as tie
+
+moves-requires : tie.Need-moves-requires
+moves-requires c κs = search needs
+
+update-requires : tie.Need-update-requires
+update-requires c κs = search needs
+
+same-length : tie.Need-same-length
+same-length c = search needs
+
+returns : tie.Need-returns
+returns c =
+    let m = c .before .before .update .ensures in
+    let g = c .before .before .before .before in
+    (m .0, (rw (sym (g .before .moves .ensures) ∙ g .if1 .taken) (m .1 .0), m .1 .1))
+
+returns-2 : tie.Need-returns-2
+returns-2 c = (c .before .before .before .before .before .pre .0, (rw (sym (c .before .moves .ensures) ∙ c .if1 .left), refl))
+
+pub step-spec : {M : Type 1} → statement M
+step-spec = tie.close (tie.spec moves-requires update-requires same-length returns returns-2)

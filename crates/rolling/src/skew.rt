@@ -1,0 +1,380 @@
+// Skewness over moving windows: 001's `SkewMoment` and `MomentWindow` over it. The two stacks lie in the work slice, states
+// of the front stack from its beginning, readings of the back stack from `base` on.
+ghost use mathlib.Core.Path.{_≡_};
+ghost use mathlib.Core.Bool.{false};
+ghost use mathlib.Core.List.{_++_};
+ghost use Prim.Native.Nat.{_+_, _*_, _≤_, _<_};
+ghost use lib.ListN.{length, take, drop};
+ghost use Rattle.moment.specs.Skew.{skewCombine, skewFinalize};
+ghost use Rattle.trace.specs.Trace.{validAt};
+ghost use Rattle.window.specs.Places.{validCount};
+ghost use Rattle.window.specs.Window.{restarted, left, entered, moved, spoilt};
+ghost use Rattle.window.specs.Readings.{series, ofReadings};
+ghost use Rattle.window.specs.Rows.{stepped};
+ghost use Rattle.window.specs.Stacks.{inMemory, frontStack, account, Counted, Leaves, Held, Pushed, topOf, answerBy, Ready, Accepted};
+ghost use Rattle.rolling.specs.Moments.{Asked, Skewness, skewLayout, skewness};
+ghost use Rattle.rolling.specs.Calls.{planOf, ask, lent, traceOf, Written};
+use crate::leaving;
+use crate::leaving::Left;
+use crate::plan;
+use crate::row;
+use moment::Figure;
+use moment::SkewState;
+use window::Window;
+
+pub struct SkewMoment {
+    pub bias: bool,
+}
+
+// A window with the state of its back part.
+pub struct SkewWindow {
+    pub window: Window,
+    pub agg_back: SkewState,
+}
+
+// The back stack grown: how many readings stand in it, how many in the window are not finite, and its state.
+pub struct SkewPushed {
+    pub back: usize,
+    pub bad: usize,
+    pub agg_back: SkewState,
+}
+
+impl SkewMoment {
+    // Doubles of a state, and of a place of the window in both stacks.
+    pub const STATE: usize = 4;
+
+    pub const PLACE: usize = 5;
+
+    // The n readings of the back stack become the front stack, the last of them at its bottom.
+    fn flip(work: &mut [f64], base: usize, n: usize)
+        requires { ⌜ (4 * n ≤ base) × (base + n ≤ length (now work)) ⌝ }
+        ensures { λ _. ⌜ now (work .exit) ≡ inMemory skewLayout (frontStack (ofReadings skewness) (take n (drop base (now (work .entry))))) ++ drop (4 * n) (now (work .entry)) ⌝ }
+    {
+        let mut agg = SkewState::default();
+        let mut at: usize = 0;
+        let mut j = n;
+        while 0 < j {
+            j -= 1;
+            agg = agg.insert_one(work[base + j]);
+            work[at] = agg.weight;
+            work[at + 1] = agg.mean;
+            work[at + 2] = agg.m2;
+            work[at + 3] = agg.m3;
+            at += SkewMoment::STATE;
+        }
+    }
+
+    // The readings of the valid places from a up to b, pushed on the n that stand in the back stack.
+    fn push(
+        back: &mut [f64],
+        n: usize,
+        values: &[f64],
+        has_map: bool,
+        map: &[u8],
+        a: usize,
+        b: usize,
+        bad: usize,
+        agg_back: SkewState,
+    ) -> SkewPushed
+        requires { ⌜ (a ≤ b) × (b ≤ length (now values)) × (1 * (n + validCount (series «has_map» (now map) (now values)) a b) ≤ length (now back)) × (bad ≤ a) ⌝ }
+        ensures { λ q. ⌜ Pushed (ofReadings skewness) (series «has_map» (now (map .entry)) (now (values .entry))) (now (back .entry)) n bad «agg_back» a b
+            (now (back .exit)) (q .back) (q .bad) (q .«agg_back») ⌝ }
+    {
+        let mut state = agg_back;
+        let mut at = n;
+        let mut count = bad;
+        let mut i = a;
+        while i < b {
+            if trace::valid(has_map, map, i) {
+                let x = values[i];
+                if float::is_finite(x) {
+                    back[at] = x;
+                    state = state.insert_one(x);
+                } else {
+                    back[at] = 0.0;
+                    state = state.insert_one(0.0);
+                    count += 1;
+                }
+                at += 1;
+            }
+            i += 1;
+        }
+        SkewPushed {
+            back: at,
+            bad: count,
+            agg_back: state,
+        }
+    }
+
+    // The state on the top of the front stack's n, or the empty one.
+    fn last(work: &[f64], n: usize) -> SkewState
+        requires { ⌜ 4 * n ≤ length (now work) ⌝ }
+        ensures { λ r. ⌜ r ≡ topOf (ofReadings skewness) (now (work .entry)) n ⌝ }
+    {
+        if n == 0 {
+            return SkewState::default();
+        }
+        let at = SkewMoment::STATE * (n - 1);
+        SkewState {
+            weight: work[at],
+            mean: work[at + 1],
+            m2: work[at + 2],
+            m3: work[at + 3],
+        }
+    }
+
+    // One for each moment, so that each has one call site (the row loop stays free of calls).
+    fn leave(values: &[f64], has_map: bool, map: &[u8], w: Window, start: usize) -> Left
+        requires { ⌜ (w .start ≤ start) × (start ≤ length (now values)) × (w .end ≤ length (now values)) × Counted (series «has_map» (now map) (now values)) w ⌝ }
+        ensures { λ q. ⌜ Leaves (series «has_map» (now (map .entry)) (now (values .entry))) w start (q .window) (q .flips) ⌝ }
+    {
+        let end = w.end;
+        if end <= start {
+            return Left {
+                window: Window {
+                    start,
+                    end: start,
+                    split: start,
+                    front: 0,
+                    back: 0,
+                    bad: 0,
+                },
+                flips: false,
+            };
+        }
+        let gone = leaving::gone(values, has_map, map, w.start, start, w.bad);
+        if gone.valid <= w.front {
+            return Left {
+                window: Window {
+                    start,
+                    end,
+                    split: w.split,
+                    front: w.front - gone.valid,
+                    back: w.back,
+                    bad: w.bad - gone.bad,
+                },
+                flips: false,
+            };
+        }
+        Left {
+            window: Window {
+                start,
+                end,
+                split: end,
+                front: w.front + w.back - gone.valid,
+                back: 0,
+                bad: w.bad - gone.bad,
+            },
+            flips: true,
+        }
+    }
+
+    // The window without the places below `start`.
+    fn pop(
+        work: &mut [f64],
+        base: usize,
+        values: &[f64],
+        has_map: bool,
+        map: &[u8],
+        w: SkewWindow,
+        start: usize,
+    ) -> SkewWindow
+        requires { ⌜ Held (ofReadings skewness) (series «has_map» (now map) (now values)) base (w .window) (w .«agg_back») (now work) × (w .window .start ≤ start) × (start ≤ length (now values))
+            × (w .window .end ≤ length (now values)) × (4 * w .window .back ≤ base) × (base + w .window .back ≤ length (now work)) ⌝ }
+        ensures { λ q. ⌜ Held (ofReadings skewness) (series «has_map» (now (map .entry)) (now (values .entry))) base (q .window) (q .«agg_back») (now (work .exit)) ⌝ }
+        ensures { λ q. ⌜ (account (q .window) ≡ left (validAt «has_map» (now (map .entry))) (restarted (account (w .window)) start) start) × (drop base (now (work .exit)) ≡ drop base (now (work .entry))) ⌝ }
+    {
+        let window = w.window;
+        let agg_back = w.agg_back;
+        let left = SkewMoment::leave(values, has_map, map, window, start);
+        let kept = left.window;
+        if left.flips {
+            SkewMoment::flip(work, base, window.back);
+            return SkewWindow {
+                window: kept,
+                agg_back: SkewState::default(),
+            };
+        }
+        if kept.back == 0 {
+            return SkewWindow {
+                window: kept,
+                agg_back: SkewState::default(),
+            };
+        }
+        SkewWindow {
+            window: kept,
+            agg_back,
+        }
+    }
+
+    // The window with the places from its end up to `end`. The back stack is the part of the work slice that begins after the
+    // front stack.
+    fn extend(
+        work: &mut [f64],
+        base: usize,
+        widest: usize,
+        values: &[f64],
+        has_map: bool,
+        map: &[u8],
+        w: SkewWindow,
+        end: usize,
+    ) -> SkewWindow
+        requires { ⌜ Held (ofReadings skewness) (series «has_map» (now map) (now values)) base (w .window) (w .«agg_back») (now work) × (w .window .end ≤ end) × (end ≤ length (now values))
+            × (end ≤ w .window .start + widest) × (4 * widest ≤ base) × (base + 1 * widest ≤ length (now work)) ⌝ }
+        ensures { λ q. ⌜ Held (ofReadings skewness) (series «has_map» (now (map .entry)) (now (values .entry))) base (q .window) (q .«agg_back») (now (work .exit)) ⌝ }
+        ensures { λ q. ⌜ (account (q .window) ≡ entered (account (w .window)) end) × (drop (base + 1 * widest) (now (work .exit)) ≡ drop (base + 1 * widest) (now (work .entry))) ⌝ }
+    {
+        let window = w.window;
+        let agg_back = w.agg_back;
+        let pushed = SkewMoment::push(
+            &mut work[base..],
+            window.back,
+            values,
+            has_map,
+            map,
+            window.end,
+            end,
+            window.bad,
+            agg_back,
+        );
+        let grown = pushed.agg_back;
+        SkewWindow {
+            window: Window {
+                start: window.start,
+                end,
+                split: window.split,
+                front: window.front,
+                back: pushed.back,
+                bad: pushed.bad,
+            },
+            agg_back: grown,
+        }
+    }
+
+    // 001's `update`: the window moved to the row from `start` up to `end`. No window is wider than `widest`.
+    fn update(
+        work: &mut [f64],
+        widest: usize,
+        values: &[f64],
+        has_map: bool,
+        map: &[u8],
+        w: SkewWindow,
+        start: usize,
+        end: usize,
+    ) -> SkewWindow
+        requires { ⌜ Held (ofReadings skewness) (series «has_map» (now map) (now values)) (4 * widest) (w .window) (w .«agg_back») (now work)
+            × Ready (w .window) start end (length (now values)) widest × (5 * widest ≤ length (now work)) ⌝ }
+        ensures { λ q. ⌜ Held (ofReadings skewness) (series «has_map» (now (map .entry)) (now (values .entry))) (4 * widest) (q .window) (q .«agg_back») (now (work .exit)) ⌝ }
+        ensures { λ q. ⌜ (account (q .window) ≡ moved (validAt «has_map» (now (map .entry))) (account (w .window)) start end) × (drop (5 * widest) (now (work .exit)) ≡ drop (5 * widest) (now (work .entry))) ⌝ }
+    {
+        let base = SkewMoment::STATE * widest;
+        let popped = SkewMoment::pop(work, base, values, has_map, map, w, start);
+        SkewMoment::extend(work, base, widest, values, has_map, map, popped, end)
+    }
+
+    // The window after a row's part in it: one step, window by value in and out.
+    fn step(
+        work: &mut [f64],
+        widest: usize,
+        values: &[f64],
+        has_map: bool,
+        map: &[u8],
+        w: SkewWindow,
+        min_periods: usize,
+        row: usize,
+        start: usize,
+        end: usize,
+    ) -> SkewWindow
+        requires { ⌜ Held (ofReadings skewness) (series «has_map» (now map) (now values)) (4 * widest) (w .window) (w .«agg_back») (now work)
+            × Ready (w .window) start end (length (now values)) widest × (5 * widest ≤ length (now work)) ⌝ }
+        ensures { λ q. ⌜ Held (ofReadings skewness) (series «has_map» (now (map .entry)) (now (values .entry))) (4 * widest) (q .window) (q .«agg_back») (now (work .exit)) ⌝ }
+        ensures { λ q. ⌜ (account (q .window) ≡ stepped (validAt «has_map» (now (map .entry))) «has_map» «min_periods» row start end (account (w .window)))
+            × (drop (5 * widest) (now (work .exit)) ≡ drop (5 * widest) (now (work .entry))) ⌝ }
+    {
+        if row::moves(has_map, min_periods, row, start, end) {
+            return SkewMoment::update(work, widest, values, has_map, map, w, start, end);
+        }
+        w
+    }
+
+    // 001's `get_moment`.
+    fn get_moment(self, work: &[f64], w: SkewWindow) -> Figure
+        requires { ⌜ 4 * w .window .front ≤ length (now work) ⌝ }
+        ensures { λ r. ⌜ r ≡ spoilt (w .window .bad) (skewFinalize (skewCombine (w .«agg_back») (topOf (ofReadings skewness) (now (work .entry)) (w .window .front))) (self .bias)) ⌝ }
+    {
+        let agg_back = w.agg_back;
+        let state = agg_back.combine(SkewMoment::last(work, w.window.front));
+        window::spoil(state.finalize(self.bias), w.window.bad)
+    }
+
+    // The row's answer, of the window after its step.
+    fn answer(
+        self,
+        work: &[f64],
+        w: SkewWindow,
+        has_map: bool,
+        min_periods: usize,
+        start: usize,
+        end: usize,
+    ) -> Figure
+        requires { ⌜ (4 * w .window .front ≤ length (now work)) × (w .window .front + w .window .back ≤ w .window .end) × (start ≤ end) ⌝ }
+        ensures { λ r. ⌜ r ≡ answerBy (ofReadings skewness) (λ z. skewFinalize z (self .bias)) «has_map» «min_periods» start end (w .window) (w .«agg_back») (now (work .entry)) ⌝ }
+    {
+        let valid = w.window.front + w.window.back;
+        if row::is_valid(has_map, min_periods, valid, start, end) {
+            return self.get_moment(work, w);
+        }
+        Figure::Missing
+    }
+
+    // Every row of an accepted plan.
+    pub(crate) fn rows(
+        self,
+        values: &[f64],
+        has_map: bool,
+        map: &[u8],
+        starts: &[u32],
+        ends: &[u32],
+        min_periods: usize,
+        widest: usize,
+        work: &mut [f64],
+        figures: &mut [f64],
+        present: &mut [u8],
+    )
+        requires { ⌜ Accepted 5 (length (now values)) (planOf (now starts) (now ends)) false (length (now figures)) (length (now present)) (length (now work)) widest ⌝ }
+        ensures { λ _. ⌜ Written (ask (now (starts .entry)) (now (ends .entry)) «min_periods» (Skewness (self .bias))) (traceOf (now (values .entry)) «has_map» (now (map .entry)))
+            (lent (now (figures .entry)) (now (present .entry)) (now (work .entry))) (lent (now (figures .exit)) (now (present .exit)) (now (work .exit))) 0 ⌝ }
+    {
+        let mut w = SkewWindow {
+            window: Window {
+                start: 0,
+                end: 0,
+                split: 0,
+                front: 0,
+                back: 0,
+                bad: 0,
+            },
+            agg_back: SkewState::default(),
+        };
+        let mut row = 0;
+        while row < starts.len() {
+            let start = plan::place(starts[row]);
+            let end = plan::place(ends[row]);
+            w = SkewMoment::step(
+                work,
+                widest,
+                values,
+                has_map,
+                map,
+                w,
+                min_periods,
+                row,
+                start,
+                end,
+            );
+            let figure = self.answer(work, w, has_map, min_periods, start, end);
+            row::write(figures, present, row, figure);
+            row += 1;
+        }
+    }
+}
