@@ -7,6 +7,7 @@ pub mod moment;
 pub mod rolling;
 
 pub mod account;
+pub mod host;
 pub mod model;
 pub mod record;
 pub mod refusal;
@@ -193,6 +194,16 @@ fn drive<M: RollingMomentAlgo, const TRACE: bool>(
                 }
             }
         }
+    }
+}
+/// The Rust's own `rolling_apply_agg_window` on a plan of as many rows as readings, which must be accepted.
+pub fn plan_raw(x: &[f64], map: Option<&Bitmap>, starts: &[u32], ends: &[u32], fig: Figure, min: usize) -> ArrayRef {
+    assert!(starts.len() == x.len() && ends.len() == x.len());
+    let bounds = |i: usize| (starts[i] as usize, ends[i] as usize);
+    match fig {
+        Figure::Var { .. } => no_nulls::oracle_access::driven::<VarianceMoment>(x, map, min, bounds, fig.params()),
+        Figure::Skew { .. } => no_nulls::oracle_access::driven::<SkewMoment>(x, map, min, bounds, fig.params()),
+        Figure::Kurt { .. } => no_nulls::oracle_access::driven::<KurtosisMoment>(x, map, min, bounds, fig.params()),
     }
 }
 /// The plan must be accepted (rows in bounds, start <= end, starts and ends not falling).

@@ -61,6 +61,26 @@ pub fn plan(
     }
     0
 }
+/// The host call: 14 before all; 12 for a reading list shorter than n too, so after 1 to 11 and before 13.
+#[allow(clippy::too_many_arguments)]
+pub fn host(
+    bytes: usize,
+    map: Option<usize>,
+    starts: &[usize],
+    ends: &[usize],
+    readings: usize,
+    outs: (usize, usize),
+    entry: usize,
+    work: usize,
+) -> u32 {
+    if bytes % 8 != 0 {
+        return 14;
+    }
+    match plan(bytes / 8, map, starts, ends, outs, entry, work) {
+        0 | 13 if readings < bytes / 8 => 12,
+        r => r,
+    }
+}
 pub fn fixed(n: usize, map: Option<usize>, size: usize, outs: (usize, usize), entry: usize, work: usize) -> u32 {
     let r = trace(n, map);
     if r != 0 {

@@ -1,10 +1,11 @@
 //! A second implementation beside the Rust, reached by function pointers: `bench` and `fuzz` ask both. With the feature
-//! `second` it is our libmoments.a, whose entries are declared in `c`; the feature `rolling` adds plans, fixed windows
-//! and weights.
+//! `second` it is our libmoments.a, whose entries are declared in `c`; the feature `plans` adds the plan calls, `rolling`
+//! fixed windows and weights too.
+use crate::host::Call;
 use crate::Figure;
 
-/// trace, map, starts, ends, figure, minimum, figures out, present out, work -> 0 or refusal
-pub type PlanFn = fn(&[f64], Option<&[u8]>, &[u32], &[u32], Figure, usize, &mut [f64], &mut [u8], &mut [f64]) -> u32;
+/// call, readings out, work, figures out, present out -> 0 or refusal
+pub type PlanFn = fn(&Call, &mut [f64], &mut [f64], &mut [f64], &mut [u8]) -> u32;
 /// trace, map, size, centred, figure, minimum, figures out, present out, work -> 0 or refusal
 pub type FixedFn = fn(&[f64], Option<&[u8]>, usize, bool, Figure, usize, &mut [f64], &mut [u8], &mut [f64]) -> u32;
 /// trace, size, centred, weights, minimum, figures out, present out -> 0 or refusal
@@ -26,8 +27,9 @@ pub struct Impl {
     pub root: Option<RootFn>,
 }
 
-/// A demonstration: the work-slice model of src/model.rs.
+/// A demonstration: the work-slice model of src/model.rs. Of refusals it knows those of a plan.
 pub fn demo() -> Impl {
+    use crate::host::Room;
     fn put(outv: &mut [f64], outp: &mut [u8], i: usize, r: Option<f64>) {
         // a NaN that arithmetic made has the bits FFF8... on x86: document 01 wants 7FF8...
         outv[i] = match r {
@@ -37,10 +39,16 @@ pub fn demo() -> Impl {
         };
         outp[i] = r.is_some() as u8;
     }
-    fn plan(x: &[f64], m: Option<&[u8]>, s: &[u32], e: &[u32], f: Figure, min: usize, ov: &mut [f64], op: &mut [u8], w: &mut [f64]) -> u32 {
-        let rows = s.iter().zip(e).map(|(a, b)| (*a as usize, *b as usize));
-        crate::model::plan_into(x, m, rows, f, min, w, |i, r| put(ov, op, i, r), |_, _| {});
-        0
+    fn plan(c: &Call, readings: &mut [f64], work: &mut [f64], figures: &mut [f64], present: &mut [u8]) -> u32 {
+        let room = Room { readings: readings.len(), work: work.len(), figures: figures.len(), present: present.len() };
+        let number = c.refusal(room);
+        if number == 0 {
+            let x = c.readings();
+            readings[..x.len()].copy_from_slice(&x);
+            let rows = c.starts.iter().zip(c.ends).map(|(a, b)| (*a as usize, *b as usize));
+            crate::model::plan_into(&x, c.map(), rows, c.figure, c.min, work, |i, r| put(figures, present, i, r), |_, _| {});
+        }
+        number
     }
     fn fixed(x: &[f64], m: Option<&[u8]>, size: usize, c: bool, f: Figure, min: usize, ov: &mut [f64], op: &mut [u8], w: &mut [f64]) -> u32 {
         let n = x.len();
@@ -127,7 +135,7 @@ pub mod c {
         pub safe fn moments_pearson_finalize(state: PearsonState) -> f64;
         pub safe fn moments_root(x: f64) -> f64;
     }
-    #[cfg(feature = "rolling")]
+    #[cfg(feature = "plans")]
     unsafe extern "C" {
         pub fn moments_plan_var(
             trace: *const u8, bytes: usize, readings: *mut f64, readings_len: usize, has_map: bool, map: *const u8, map_bytes: usize,
@@ -144,6 +152,9 @@ pub mod c {
             starts: *const u32, starts_len: usize, ends: *const u32, ends_len: usize, min_periods: usize, fisher: bool, bias: bool,
             work: *mut f64, work_len: usize, figures: *mut f64, figures_len: usize, present: *mut u8, present_len: usize,
         ) -> u32;
+    }
+    #[cfg(feature = "rolling")]
+    unsafe extern "C" {
         pub fn moments_rolling_var(
             trace: *const f64, n: usize, has_map: bool, map: *const u8, map_bytes: usize, window_size: usize, min_periods: usize,
             center: bool, ddof: u8,
@@ -197,9 +208,28 @@ pub fn second() -> Option<Impl> {
         }
     }
     let impl_ = Impl { name: "ours", plan: None, fixed: None, weighted: None, whole: Some(whole), range: Some(range), root: Some(root) };
+    #[cfg(feature = "plans")]
+    let impl_ = Impl { plan: Some(plan), ..impl_ };
     #[cfg(feature = "rolling")]
-    let impl_ = Impl { plan: Some(rolling::plan), fixed: Some(rolling::fixed), weighted: Some(rolling::weighted), ..impl_ };
+    let impl_ = Impl { fixed: Some(rolling::fixed), weighted: Some(rolling::weighted), ..impl_ };
     Some(impl_)
+}
+
+#[cfg(feature = "plans")]
+#[rustfmt::skip]
+fn plan(c: &Call, readings: &mut [f64], work: &mut [f64], figures: &mut [f64], present: &mut [u8]) -> u32 {
+    use c::*;
+    let (t, tn, rd, rn) = (c.trace.as_ptr(), c.trace.len(), readings.as_mut_ptr(), readings.len());
+    let (h, mp, mn) = (c.has_map, c.map.as_ptr(), c.map.len());
+    let (sp, sn, ep, en, min) = (c.starts.as_ptr(), c.starts.len(), c.ends.as_ptr(), c.ends.len(), c.min);
+    let (wp, wn, vp, vn, pp, pn) = (work.as_mut_ptr(), work.len(), figures.as_mut_ptr(), figures.len(), present.as_mut_ptr(), present.len());
+    unsafe {
+        match c.figure {
+            Figure::Var { ddof } => moments_plan_var(t, tn, rd, rn, h, mp, mn, sp, sn, ep, en, min, ddof, wp, wn, vp, vn, pp, pn),
+            Figure::Skew { bias } => moments_plan_skew(t, tn, rd, rn, h, mp, mn, sp, sn, ep, en, min, bias, wp, wn, vp, vn, pp, pn),
+            Figure::Kurt { fisher, bias } => moments_plan_kurtosis(t, tn, rd, rn, h, mp, mn, sp, sn, ep, en, min, fisher, bias, wp, wn, vp, vn, pp, pn),
+        }
+    }
 }
 
 #[cfg(feature = "rolling")]
@@ -207,28 +237,6 @@ mod rolling {
     use super::c::*;
     use crate::Figure;
 
-    #[rustfmt::skip]
-    pub fn plan(x: &[f64], m: Option<&[u8]>, s: &[u32], e: &[u32], f: Figure, min: usize, ov: &mut [f64], op: &mut [u8], w: &mut [f64]) -> u32 {
-        thread_local!(static READ: std::cell::RefCell<Vec<f64>> = const { std::cell::RefCell::new(Vec::new()) });
-        let b = m.unwrap_or(&[]);
-        READ.with(|r| {
-            let mut r = r.borrow_mut();
-            if r.len() < x.len() {
-                r.resize(x.len(), 0.0);
-            }
-            let (t, tn, rd, rn) = (x.as_ptr() as *const u8, x.len() * 8, r.as_mut_ptr(), x.len());
-            let (h, mp, mn) = (m.is_some(), b.as_ptr(), b.len());
-            let (sp, sn, ep, en) = (s.as_ptr(), s.len(), e.as_ptr(), e.len());
-            let (wp, wn, vp, vn, pp, pn) = (w.as_mut_ptr(), w.len(), ov.as_mut_ptr(), ov.len(), op.as_mut_ptr(), op.len());
-            unsafe {
-                match f {
-                    Figure::Var { ddof } => moments_plan_var(t, tn, rd, rn, h, mp, mn, sp, sn, ep, en, min, ddof, wp, wn, vp, vn, pp, pn),
-                    Figure::Skew { bias } => moments_plan_skew(t, tn, rd, rn, h, mp, mn, sp, sn, ep, en, min, bias, wp, wn, vp, vn, pp, pn),
-                    Figure::Kurt { fisher, bias } => moments_plan_kurtosis(t, tn, rd, rn, h, mp, mn, sp, sn, ep, en, min, fisher, bias, wp, wn, vp, vn, pp, pn),
-                }
-            }
-        })
-    }
     #[rustfmt::skip]
     pub fn fixed(x: &[f64], m: Option<&[u8]>, size: usize, c: bool, f: Figure, min: usize, ov: &mut [f64], op: &mut [u8], w: &mut [f64]) -> u32 {
         let b = m.unwrap_or(&[]);

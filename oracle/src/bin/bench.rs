@@ -1,6 +1,7 @@
 //! ns a row (a reading for whole arrays and ranges, a call for the root) of the Rust and, in the same run and in turn with
 //! it, of a second implementation, with the ratio. usage: bench [--demo] [--n readings] [--reps k] [filter]
-//! The best and the median of k runs are given. The second's answers are compared with the Rust's.
+//! The best and the median of k runs (21) are given. The second's answers are compared with the Rust's.
+use oracle::host::Call;
 use oracle::rng::Rng;
 use oracle::second::Impl;
 use oracle::*;
@@ -43,8 +44,9 @@ impl Bench {
             let t = time(self.reps, &mut [one, two]);
             let d = same();
             self.differ += d;
-            let ratio = t[1].0 / t[0].0;
-            line += &format!("{} {}  ratio {ratio:.3}  that differ {d}", said("rust", t[0]), said(self.second.unwrap().name, t[1]));
+            let (best, median) = (t[1].0 / t[0].0, t[1].1 / t[0].1);
+            let (rust, ours) = (said("rust", t[0]), said(self.second.unwrap().name, t[1]));
+            line += &format!("{rust} {ours}  ratio {best:.3} (median {median:.3})  that differ {d}");
         } else {
             line += &said("rust", time(self.reps, &mut [one])[0]);
         }
@@ -61,7 +63,7 @@ fn differ(a: &[Option<f64>], v: &[f64], p: &[u8]) -> usize {
 }
 
 fn main() {
-    let (mut n, mut reps, mut demo, mut filter) = (1_000_000usize, 5usize, false, String::new());
+    let (mut n, mut reps, mut demo, mut filter) = (1_000_000usize, 21usize, false, String::new());
     let mut args = std::env::args().skip(1);
     while let Some(a) = args.next() {
         match a.as_str() {
@@ -108,9 +110,15 @@ fn main() {
             }
         }
     }
-    // plan: as many rows as readings, ends step 0..=2, widths wander between 0 and 256, some gaps
-    let (mut starts, mut ends) = (Vec::with_capacity(n), Vec::with_capacity(n));
-    let (mut s, mut e, mut wide) = (0usize, 0usize, 100usize);
+    // plans of as many rows as readings, so that the Rust's own driver takes them: trailing windows, and an uneven plan whose
+    // ends step by 0 to 2, whose widths wander between 0 and 256 and which has some gaps; ours decodes the trace's bytes too
+    let bytes: Vec<u8> = x.iter().flat_map(|v| v.to_bits().to_le_bytes()).collect();
+    let mut readings = vec![0.0; n];
+    let mut plans: Vec<(String, Vec<(usize, usize)>)> = Vec::new();
+    for size in [8usize, 128, 4096] {
+        plans.push((size.to_string(), (0..n).map(|i| offsets(i, size, n, false)).collect()));
+    }
+    let (mut s, mut e, mut wide, mut uneven) = (0usize, 0usize, 100usize, Vec::with_capacity(n));
     for _ in 0..n {
         e = (e + r.below(3)).min(n);
         if r.chance(1, 50) {
@@ -120,38 +128,31 @@ fn main() {
         if r.chance(1, 2000) {
             s = e;
         }
-        starts.push(s as u32);
-        ends.push(e as u32);
+        uneven.push((s, e));
     }
-    let rows: Vec<(usize, usize)> = starts.iter().zip(&ends).map(|(a, b)| (*a as usize, *b as usize)).collect();
-    let widest = rows.iter().map(|v| v.1 - v.0).max().unwrap_or(0);
-    println!("plan: {n} rows, widest {widest}, mean width {:.1}", rows.iter().map(|v| (v.1 - v.0) as f64).sum::<f64>() / n as f64);
-    let (mut rv, mut rp) = (vec![0.0; n], vec![0u8; n]);
-    for m in [None, Some(map)] {
-        let tag = if m.is_some() { "map" } else { "no map" };
-        let bm = m.map(|m| bitmap(m, n));
-        for (name, f) in figs {
-            for min in [1usize, 60] {
-                let mut work = vec![0.0; f.entry() * widest];
+    plans.push(("uneven".into(), uneven));
+    for (plan_name, rows) in &plans {
+        let starts: Vec<u32> = rows.iter().map(|v| v.0 as u32).collect();
+        let ends: Vec<u32> = rows.iter().map(|v| v.1 as u32).collect();
+        for m in [None, Some(map)] {
+            let tag = if m.is_some() { "map" } else { "no map" };
+            let bm = m.map(|m| bitmap(m, n));
+            for (name, f) in figs {
+                let (has_map, map) = (m.is_some(), m.unwrap_or(&[]));
+                let call = Call { figure: f, trace: &bytes, has_map, map, starts: &starts, ends: &ends, min: 1 };
+                let mut work = vec![0.0; call.need()];
                 let fun = b.second.and_then(|s| s.plan);
                 let o = std::cell::RefCell::new((&mut ov, &mut op));
                 let mut two = || {
                     let (v, p) = &mut *o.borrow_mut();
-                    black_box(fun.unwrap()(&x, m, &starts, &ends, f, min, v, p, &mut work));
+                    black_box(fun.unwrap()(black_box(&call), &mut readings, &mut work, v, p));
                 };
-                let it = starts.iter().zip(&ends).map(|(a, b)| (*a as usize, *b as usize));
                 b.job(
-                    &format!("plan {name}, minimum {min}, {tag}"),
+                    &format!("plan {plan_name} {name}, {tag}"),
                     n,
-                    &mut || {
-                        plan_with(&x, bm.as_ref(), it.clone(), f, min, |i, r| {
-                            rv[i] = r.unwrap_or(0.0);
-                            rp[i] = r.is_some() as u8;
-                        });
-                        black_box((&rv, &rp));
-                    },
+                    &mut || { black_box(plan_raw(&x, bm.as_ref(), &starts, &ends, f, 1)); },
                     if fun.is_some() { Some(&mut two) } else { None },
-                    &mut || { let (v, p) = &*o.borrow(); differ(&plan(&x, m, &rows, f, min), v, p) },
+                    &mut || { let (v, p) = &*o.borrow(); differ(&plan(&x, m, rows, f, 1), v, p) },
                 );
             }
         }

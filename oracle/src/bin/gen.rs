@@ -66,20 +66,6 @@ fn keen_figure(r: &mut Rng) -> Figure {
         _ => Figure::Kurt { fisher: r.chance(1, 2), bias: r.chance(2, 3) },
     }
 }
-/// Slides of changing width: grows, shrinks to 1 to 3 places for a row or two, grows again.
-fn keen_rows(r: &mut Rng, n: usize, count: usize) -> Vec<(usize, usize)> {
-    let (mut s, mut e) = (0, r.below(4));
-    let mut v = Vec::new();
-    for _ in 0..count {
-        v.push((s, e));
-        e = (e + r.below(4)).min(n);
-        let lag = if r.chance(1, 4) { r.below(4) } else { 4 + r.below(6) };
-        s = s.max(e.saturating_sub(lag));
-        if r.chance(1, 3) { s = v.last().unwrap().0; }
-    }
-    v
-}
-
 fn record(r: &mut Rng, kind: &str) -> String {
     let mut o = String::new();
     match kind {
@@ -154,7 +140,7 @@ fn record(r: &mut Rng, kind: &str) -> String {
             let m = if keen && r.chance(1, 3) { Some(vec![0xFF; n.div_ceil(8)]) } else { maybe_map(r, n) };
             let m = m.as_deref();
             let count = if keen { 6 + r.below(18) } else { r.below(24) };
-            let rw = if keen && r.chance(2, 3) { keen_rows(r, n, count) } else { r.rows(n, count) };
+            let rw = if keen && r.chance(2, 3) { r.slides(n, count) } else { r.rows(n, count) };
             let f = if keen { keen_figure(r) } else { r.figure() };
             let min = if keen { 1 + r.below(6) } else { r.minimum() };
             let mut starts: Vec<usize> = rw.iter().map(|v| v.0).collect();
