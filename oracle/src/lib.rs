@@ -7,6 +7,7 @@ pub mod moment;
 pub mod rolling;
 
 pub mod account;
+pub mod cases;
 pub mod host;
 pub mod model;
 pub mod record;

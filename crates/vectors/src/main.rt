@@ -8,6 +8,7 @@ ghost use lib.ListN.{length};
 use libc::STDOUT_FILENO;
 
 mod arrays;
+mod plans;
 mod states;
 mod words;
 
@@ -21,6 +22,7 @@ fn agrees(kind: u8, rec: &[u8]) -> bool {
         2 => states::insert(rec),
         3 => states::combine(rec),
         4 => states::finalize(rec),
+        7 => plans::agrees(rec),
         _ => arrays::agrees(kind, rec),
     }
 }
@@ -79,4 +81,5 @@ fn main() {
     replay(4, b"finalize");
     replay(5, b"whole");
     replay(6, b"range");
+    replay(7, b"plan");
 }

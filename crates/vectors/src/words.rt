@@ -113,6 +113,40 @@ pub fn bytes(list: &[u8], from: usize, n: usize, out: &mut [u8]) {
     }
 }
 
+// Byte i of the words from `from` on, eight a word, lowest first: the trace of a host call.
+fn packed(list: &[u8], from: usize, i: usize) -> u8 {
+    let w = word(list, std::num::wrapping_add_usize(from, i / 8));
+    ((w >> (i % 8 * 8)) % 256) as u8
+}
+
+// The first n places of `out`, or all, become the bytes that are packed in the words from `from` on.
+pub fn unpack(list: &[u8], from: usize, n: usize, out: &mut [u8]) {
+    let mut i = 0;
+    while i < out.len() {
+        if i == n {
+            return;
+        }
+        out[i] = packed(list, from, i);
+        i += 1;
+    }
+}
+
+fn number(list: &[u8], k: usize) -> u32 {
+    (word(list, k) % 4294967296) as u32
+}
+
+// The first n places of `out`, or all, become the numbers from word `from` on.
+pub fn numbers(list: &[u8], from: usize, n: usize, out: &mut [u32]) {
+    let mut i = 0;
+    while i < out.len() {
+        if i == n {
+            return;
+        }
+        out[i] = number(list, std::num::wrapping_add_usize(from, i));
+        i += 1;
+    }
+}
+
 // Whether x has the bits at k. An expected NaN is 7FF8000000000000, and every NaN reads so.
 pub fn is(list: &[u8], k: usize, x: f64) -> bool {
     float::to_bits(x) == word(list, k)
@@ -123,6 +157,18 @@ pub fn are(list: &[u8], from: usize, values: &[f64]) -> bool {
     let mut i = 0;
     while i < values.len() {
         if !is(list, std::num::wrapping_add_usize(from, i), values[i]) {
+            return false;
+        }
+        i += 1;
+    }
+    true
+}
+
+// Whether the values are the bytes that stand from word `from` on.
+pub fn are_bytes(list: &[u8], from: usize, values: &[u8]) -> bool {
+    let mut i = 0;
+    while i < values.len() {
+        if byte(list, std::num::wrapping_add_usize(from, i)) != values[i] {
             return false;
         }
         i += 1;

@@ -1,5 +1,7 @@
 //! Writes the lists that the program `vectors` replays, one file for each kind (FORMAT.md, 'Word lists').
 //! usage: words SEED FOLDER
+use oracle::cases::cases;
+use oracle::host::Case;
 use oracle::record::*;
 use oracle::rng::Rng;
 use oracle::*;
@@ -71,6 +73,60 @@ impl Call<'_> {
 /// What a lent state array holds before the call: any numbers but NaNs, whose bits the program cannot see.
 fn before(r: &mut Rng, s: &str) -> Vec<f64> {
     (0..width(s)).map(|_| r.reading(1)).collect()
+}
+/// A record of plan: the call, where each list stands and its length, then the lists. Every lent list holds before the
+/// call the first words of HELD; of a NaN the program cannot see the bits, so one there is the one it reads.
+fn plan_record(r: &mut Rng, case: &Case) -> Vec<u64> {
+    let (call, room) = (case.call(), case.room);
+    let held: Vec<u64> = (0..room.work.max(room.readings).max(room.figures).max(room.present))
+        .map(|_| match r.below(4) {
+            0 => canon(r.bad()),
+            1 => r.reading(2).to_bits(),
+            _ => r.reading(1).to_bits(),
+        })
+        .collect();
+    let (mut readings, mut figures) = (held[..room.readings].to_vec(), held[..room.figures].to_vec());
+    let mut present: Vec<u64> = held[..room.present].iter().map(|w| w % 256).collect();
+    let number = call.refusal(room);
+    let mut free = 0;
+    if number == 0 {
+        free = call.need();
+        for (to, x) in readings.iter_mut().zip(call.readings()) {
+            *to = canon(x);
+        }
+        for (i, row) in call.answers().into_iter().enumerate() {
+            (figures[i], present[i]) = row.map_or((0, 0), |x| (canon(x), 1));
+        }
+    }
+    let (figure, ddof, bias, fisher) = match call.figure {
+        Figure::Var { ddof } => (0, ddof, false, false),
+        Figure::Skew { bias } => (1, 0, bias, false),
+        Figure::Kurt { fisher, bias } => (2, 0, bias, fisher),
+    };
+    let eight = |b: &[u8]| b.iter().rev().fold(0, |w, b| w << 8 | *b as u64);
+    let wide = |v: &[u32]| v.iter().map(|x| *x as u64).collect::<Vec<u64>>();
+    let map = call.map.iter().map(|b| *b as u64).collect();
+    let lists: [(usize, Vec<u64>); 8] = [
+        (call.trace.len(), call.trace.chunks(8).map(eight).collect()),
+        (call.map.len(), map),
+        (call.starts.len(), wide(call.starts)),
+        (call.ends.len(), wide(call.ends)),
+        (room.work, held),
+        (room.readings, readings),
+        (room.figures, figures),
+        (room.present, present),
+    ];
+    let mut words = vec![figure, ddof as u64, bias as u64, fisher as u64, call.min as u64];
+    words.extend([call.has_map as u64, number as u64, free as u64]);
+    // a record's words are counted from its length on: nine before these pairs
+    let mut at = 9 + 2 * lists.len();
+    for (length, list) in &lists {
+        words.extend([at as u64, *length as u64]);
+        at += list.len();
+    }
+    assert!(at <= 1024);
+    words.extend(lists.iter().flat_map(|(_, list)| list));
+    words
 }
 
 /// The roots of a square a modulo 2^54 (a is 1 modulo 8), those from 2^53 up.
@@ -269,6 +325,11 @@ fn records(r: &mut Rng, kind: &str) -> Vec<Vec<u64>> {
                 out.push(call.record(r, code, || range(s, &x, m, start, len)));
             }
         }
+        "plan" => {
+            for case in cases(r) {
+                out.push(plan_record(r, &case));
+            }
+        }
         _ => unreachable!(),
     }
     out
@@ -280,7 +341,7 @@ fn main() {
         eprintln!("usage: words SEED FOLDER");
         std::process::exit(1);
     };
-    for (i, kind) in ["root", "new", "insert", "combine", "finalize", "whole", "range"].into_iter().enumerate() {
+    for (i, kind) in ["root", "new", "insert", "combine", "finalize", "whole", "range", "plan"].into_iter().enumerate() {
         let mut r = Rng(seed.wrapping_mul(7).wrapping_add(i as u64));
         let list = records(&mut r, kind);
         let mut text = format!("{:016X}\n", list.len());

@@ -1,0 +1,188 @@
+// Records of plan. Word 1 is the figure (0 var, 1 skew, 2 kurtosis), 2 ddof, 3 bias, 4 fisher, 5 the
+// minimum, 6 whether a map is lent, 7 the number answered, 8 how many doubles of the work slice may
+// then hold anything. From 9 on each list has the word at which it stands and its length: 9 trace
+// (eight bytes a word), 11 map, 13 starts, 15 ends, 17 work, 19 readings, 21 figures, 23 present. What
+// stands at 19 to 23 is what these lists hold after the call. What stands at 17 is what all four that
+// are lent hold before it, each from its first word on, and the work slice past its free part after it.
+use crate::words::are;
+use crate::words::are_bytes;
+use crate::words::byte;
+use crate::words::bytes;
+use crate::words::count;
+use crate::words::doubles;
+use crate::words::flag;
+use crate::words::numbers;
+use crate::words::unpack;
+use crate::words::word;
+
+fn call(
+    rec: &[u8],
+    trace: &[u8],
+    readings: &mut [f64],
+    map: &[u8],
+    starts: &[u32],
+    ends: &[u32],
+    work: &mut [f64],
+    figures: &mut [f64],
+    present: &mut [u8],
+) -> u32 {
+    let bias = flag(rec, 3);
+    let min = word(rec, 5) as usize;
+    let has_map = flag(rec, 6);
+    match word(rec, 1) {
+        0 => moments::moments_plan_var(
+            trace,
+            readings,
+            has_map,
+            map,
+            starts,
+            ends,
+            min,
+            byte(rec, 2),
+            work,
+            figures,
+            present,
+        ),
+        1 => moments::moments_plan_skew(
+            trace,
+            readings,
+            has_map,
+            map,
+            starts,
+            ends,
+            min,
+            bias,
+            work,
+            figures,
+            present,
+        ),
+        _ => moments::moments_plan_kurtosis(
+            trace,
+            readings,
+            has_map,
+            map,
+            starts,
+            ends,
+            min,
+            flag(rec, 4),
+            bias,
+            work,
+            figures,
+            present,
+        ),
+    }
+}
+
+// Whether the work slice holds past its free part what it held.
+fn kept(rec: &[u8], work: &[f64]) -> bool {
+    let free = count(rec, 8);
+    if free <= work.len() {
+        return are(rec, count(rec, 17) + free, &work[free..]);
+    }
+    false
+}
+
+fn replay(
+    rec: &[u8],
+    trace: &[u8],
+    readings: &mut [f64],
+    map: &[u8],
+    starts: &[u32],
+    ends: &[u32],
+    work: &mut [f64],
+    figures: &mut [f64],
+    present: &mut [u8],
+) -> bool {
+    let number = call(
+        rec,
+        trace,
+        readings,
+        map,
+        starts,
+        ends,
+        work,
+        figures,
+        present,
+    );
+    if number as u64 != word(rec, 7) {
+        return false;
+    }
+    if !are(rec, count(rec, 19), readings) {
+        return false;
+    }
+    if !are(rec, count(rec, 21), figures) {
+        return false;
+    }
+    if !are_bytes(rec, count(rec, 23), present) {
+        return false;
+    }
+    kept(rec, work)
+}
+
+fn outputs(
+    rec: &[u8],
+    trace: &[u8],
+    readings: &mut [f64],
+    map: &[u8],
+    starts: &[u32],
+    ends: &[u32],
+    work: &mut [f64],
+) -> bool {
+    let held = count(rec, 17);
+    let f = count(rec, 22);
+    let mut figures = [0.0; 1024];
+    doubles(rec, held, f, &mut figures);
+    let p = count(rec, 24);
+    let mut present = [0u8; 1024];
+    bytes(rec, held, p, &mut present);
+    replay(
+        rec,
+        trace,
+        readings,
+        map,
+        starts,
+        ends,
+        work,
+        &mut figures[..f],
+        &mut present[..p],
+    )
+}
+
+fn lists(rec: &[u8], trace: &[u8], map: &[u8], starts: &[u32], ends: &[u32]) -> bool {
+    let held = count(rec, 17);
+    let n = count(rec, 20);
+    let mut readings = [0.0; 1024];
+    doubles(rec, held, n, &mut readings);
+    let w = count(rec, 18);
+    let mut work = [0.0; 1024];
+    doubles(rec, held, w, &mut work);
+    outputs(
+        rec,
+        trace,
+        &mut readings[..n],
+        map,
+        starts,
+        ends,
+        &mut work[..w],
+    )
+}
+
+fn rows(rec: &[u8], trace: &[u8], map: &[u8]) -> bool {
+    let s = count(rec, 14);
+    let mut starts = [0u32; 1024];
+    numbers(rec, count(rec, 13), s, &mut starts);
+    let e = count(rec, 16);
+    let mut ends = [0u32; 1024];
+    numbers(rec, count(rec, 15), e, &mut ends);
+    lists(rec, trace, map, &starts[..s], &ends[..e])
+}
+
+pub fn agrees(rec: &[u8]) -> bool {
+    let n = count(rec, 10);
+    let mut trace = [0u8; 1024];
+    unpack(rec, count(rec, 9), n, &mut trace);
+    let m = count(rec, 12);
+    let mut map = [0u8; 1024];
+    bytes(rec, count(rec, 11), m, &mut map);
+    rows(rec, &trace[..n], &map[..m])
+}
