@@ -1,2 +1,6 @@
+-- Demand 2: the source's drivers as functions on values; then demands 2 and 3 for windows; last the table of the P cases.
 pub mod Source
+pub mod SourceWindow
+pub mod SourceRows
+pub mod Demands
 pub mod Table

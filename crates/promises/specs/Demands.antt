@@ -1,0 +1,114 @@
+-- Demands 2 and 3 for windows, each as one statement over every accepted call without weights and over its whole plan, from the
+-- first row to the last. Assumes nothing.
+use Prim.Native.Nat.{ℕ, _≤_, _<_}
+use mathlib.Core.Path.{_≡_}
+use mathlib.Core.Bool.{Bool, true, false, cond}
+use mathlib.Core.List.{List}
+use mathlib.Core.Logic.{_⊎_, _↔_}
+use lib.ListN.{length, getD}
+use lib.Ieee.{Float, nan, isNan, le}
+use lib.Ieee.Scale.{finite}
+use Rattle.float.specs.Operators.{zero64}
+use Rattle.trace.specs.Trace.{validAt}
+use Rattle.moment.specs.Figure.{doubleOf, byteOf}
+use Rattle.moment.specs.declared.Figure.{Figure}
+use Rattle.moment.specs.declared.Figure.the-variants.{Missing}
+use Rattle.window.specs.Places.{validCount}
+use Rattle.window.specs.Readings.{readingOf}
+use Rattle.window.specs.Rows.{Plan, rows, rowStart, rowEnd}
+use Rattle.rolling.specs.Moments.{Variance, readingMomentOf, finalOf}
+use Rattle.rolling.specs.Calls.{Trace, Ask, Lent, seriesOf, yields, Called, decoded, CalledBytes}
+use Rattle.promises.specs.SourceWindow.{Rust}
+use Rattle.promises.specs.SourceRows.{rollingNoNulls, rollingNulls, rowOf}
+
+-- "one double and one byte (1 present, 0 missing) a row, together the row's answer". Doubles that are equal here have the same
+-- bits: a NaN is one value, and every figure is written with the one pattern 7FF8000000000000.
+pub record Answer : Type 0 where
+  pub double : Float
+  pub byte : ℕ
+
+-- row k's answer in the lists that a call leaves
+abbrev pub answerIn : Lent → ℕ → Answer
+answerIn l k = record { double = getD (l .figures) k nan; byte = getD (l .present) k 0 }
+
+-- a figure as an answer
+abbrev pub ofFigure : Figure → Answer
+ofFigure figure = record { double = doubleOf figure; byte = byteOf figure }
+
+-- An accepted call, its number 0, on the trace t with a plan and a setting q, that leaves the lists l: a plan call or a host call,
+-- whatever the lists held before
+pub data Accepted (q : Ask) : Trace → Lent → Type 0 where
+  planCall : {t : Trace} {l₀ l : Lent} → Called q t l₀ l 0 → Accepted q t l
+  hostCall : {bytes : List ℕ} {has : Bool} {map : List ℕ} {readings₀ readings : List Float} {l₀ l : Lent}
+      → CalledBytes q bytes has map readings₀ readings l₀ l 0 → Accepted q (decoded bytes has map) l
+
+-- ---- demand 2
+-- a plan's rows as `det_offsets_fn`
+abbrev pub offsets : Plan → ℕ → ℕ × ℕ
+offsets p k = (rowStart p k, rowEnd p k)
+
+-- row k of the Rust's `rolling_apply_agg_window`, driven with the plan's rows: 003 with a map, 002 without one
+abbrev pub sourceRow : Rust → Ask → Trace → ℕ → Figure
+sourceRow rust q t k =
+    let M = readingMomentOf (q .figure) in
+    let bounds = offsets (q .plan) in
+    cond (t .mapped)
+    (rowOf (rollingNulls M rust (finalOf (q .figure)) (t .readings) (t .map) (q .least) bounds (rows (q .plan))) k)
+    (getD (rollingNoNulls M rust (finalOf (q .figure)) (t .readings) (q .least) bounds (rows (q .plan))) k Missing)
+
+-- "every state and figure equals the Rust's", for windows: of every accepted call, every row's answer
+abbrev pub DemandTwo : Type 0
+DemandTwo =
+    (rust : Rust) (q : Ask) (t : Trace) (l : Lent) → Accepted q t l → (k : ℕ) → k < rows (q .plan)
+    → answerIn l k ≡ ofFigure (sourceRow rust q t k)
+
+-- ---- demand 3
+-- whether a place of a trace is valid
+abbrev pub validOf : Trace → ℕ → Bool
+validOf t i = validAt (t .mapped) (t .map) i
+
+-- "Two traces of equal length that miss the same places", both with a map or both without one. A map of ones misses what no map
+-- misses, and yet is not the same: with it a row below the minimum moves the window, and the split of later rows can differ
+-- (`ones-are-a-map` of proofs/Accounts).
+pub record Alike (t t′ : Trace) : Type 0 where
+  pub long : length (t .readings) ≡ length (t′ .readings)
+  pub mapped : t .mapped ≡ t′ .mapped
+  pub places : (i : ℕ) → i < length (t .readings) → validOf t i ≡ validOf t′ i
+
+-- "both hold the same at every valid place" from s up to e
+abbrev pub Agree : Trace → Trace → ℕ → ℕ → Type 0
+Agree t t′ s e = (i : ℕ) → s ≤ i → i < e → validOf t i ≡ true → readingOf (t .readings) i ≡ readingOf (t′ .readings) i
+
+-- "the valid count is at most ddof or below the minimum"
+abbrev pub TooFew : Trace → ℕ → ℕ → ℕ → ℕ → Type 0
+TooFew t s e least ddof = (validCount (seriesOf t) s e ≤ ddof) ⊎ (validCount (seriesOf t) s e < least)
+
+-- a valid reading from s up to e is not finite
+abbrev pub SomeNotFinite : Trace → ℕ → ℕ → Type 0
+SomeNotFinite t s e =
+    (i : ℕ) × (s ≤ i) × (i < e) × (validOf t i ≡ true) × (finite (readingOf (t .readings) i) ≡ false)
+
+-- A variance over the places from s up to e: "missing exactly when the valid count is at most ddof or below the minimum;
+-- otherwise NaN if a valid reading of the window is not finite, else NaN or at least zero"
+pub record VarianceRow (t : Trace) (s e least ddof : ℕ) (a : Answer) : Type 0 where
+  pub byte-is : (a .byte ≡ 0) ⊎ (a .byte ≡ 1)
+  pub missing : (a .byte ≡ 0) ↔ TooFew t s e least ddof
+  pub not-finite : a .byte ≡ 1 → SomeNotFinite t s e → a .double ≡ nan
+  pub not-below : a .byte ≡ 1 → (isNan (a .double) ≡ true) ⊎ (le zero64 (a .double) ≡ true)
+
+-- What holds of one trace's answers: each row's is what the split account yields, and so a variance's; "ddof is a byte"
+pub record Yielded (q : Ask) (t : Trace) (l : Lent) : Type 0 where
+  pub account : (k : ℕ) → k < rows (q .plan) → answerIn l k ≡ ofFigure (yields q t k)
+  pub variance : (ddof : ℕ) → ddof < 256 → q .figure ≡ Variance ddof → (k : ℕ) → k < rows (q .plan)
+      → VarianceRow t (rowStart (q .plan) k) (rowEnd (q .plan) k) (q .least) ddof (answerIn l k)
+
+-- What holds of two traces' answers with the same plan and setting: the same bits at every row in whose window both hold the same
+pub record Promised (q : Ask) (t t′ : Trace) (l l′ : Lent) : Type 0 where
+  pub same : Alike t t′ → (k : ℕ) → k < rows (q .plan) → Agree t t′ (rowStart (q .plan) k) (rowEnd (q .plan) k)
+      → answerIn l k ≡ answerIn l′ k
+  pub first : Yielded q t l
+  pub second : Yielded q t′ l′
+
+-- "one statement about a whole plan, from its first row to its last", for any two accepted calls
+abbrev pub DemandThree : Type 0
+DemandThree = (q : Ask) (t t′ : Trace) (l l′ : Lent) → Accepted q t l → Accepted q t′ l′ → Promised q t t′ l l′
