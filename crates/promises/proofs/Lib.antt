@@ -1,3 +1,4 @@
 pub mod Source
 pub mod Accounts
+pub mod SourceWindow
 pub mod Table
