@@ -1,4 +1,5 @@
 pub mod Source
 pub mod Accounts
 pub mod SourceWindow
+pub mod SourceRows
 pub mod Table

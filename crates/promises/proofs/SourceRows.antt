@@ -1,0 +1,431 @@
+-- The rows that the source's drivers yield are the split account's: before each row the window stands at the account that the rows
+-- before it leave, row 0's second `update` moves nothing, and `create_validity` takes the mark of too short rows only. Assumes
+-- nothing.
+use Prim.Native.Nat.{ℕ, zero, suc, _+_, _-_, _≤_, _<_}
+use mathlib.Core.Path.{_≡_, refl, sym, ap, _∙_, subst}
+use mathlib.Core.Bool.{Bool, true, false, cond, not, _||_}
+use mathlib.Core.List.{List, [], _∷_, _++_}
+use mathlib.Core.Option.{Option, none, some, Option·getD}
+use native.Mathlib.Nat.{add-zero, zero-add}
+use native.Mathlib.Omega.{arith}
+use lib.Dec.{leb, ltb, eqb}
+use lib.ListN.{length, getD, set, replicate, length-set, length-replicate, getD-replicate}
+use lib.Seq.{getD-set-same, getD-set-other}
+use lib.Ieee.{Float, nan}
+use borrow.Author.Tests.{le-leb, lt-leb, lt-ltb, leb-true, ltb-true, ltb-false, ne-eqb, eqb-true, eqb-false}
+use Rattle.trace.specs.Trace.{validAt}
+use Rattle.moment.specs.declared.Figure.{Figure}
+use Rattle.moment.specs.declared.Figure.the-variants.{Missing, Present}
+use Rattle.window.specs.Places.{Series, entriesFrom, entries, validCount, badCount}
+use Rattle.window.specs.Window.{Account, fresh, splitAfter, front, back, moved, rising, falling, spoilt, figureOf}
+use Rattle.window.specs.Readings.{series, insertedAt, badAt, ReadingMoment, ofReadings}
+use Rattle.window.specs.Rows.{Plan, rows, rowStart, rowEnd, moves, accountAt, counted, answerOf, answerAt, table}
+use Rattle.window.specs.Stacks.{Planned}
+use Rattle.window.proofs.Places.{Or, here, there, order}
+use Rattle.promises.specs.SourceWindow.{Rust, combined, mapNan, MomentWindow, newImpl, getMoment, updateNoNulls, updateNulls, isValid}
+use Rattle.promises.specs.SourceRows.{outNoNulls, rollingNoNulls, tooShort, headSet, tailSet, createValidity, Array, matched, outNulls, rollingNulls}
+use Rattle.promises.specs.Demands.{offsets}
+use Rattle.promises.proofs.Accounts.{Lies, lies, meets}
+use Rattle.promises.proofs.SourceWindow.{tops, updateOn, Whole, new-whole, moved-whole, no-nulls-same, nulls-same}
+
+-- combining with the empty state changes nothing
+abbrev pub Neutral : ReadingMoment → Type 0
+Neutral M = (s : M .State) → M .combine s (M .empty) ≡ s
+
+-- the k values of f from i on
+span : {A : Type 0} → (ℕ → A) → ℕ → ℕ → List A
+span f zero i = []
+span f (suc k) i = f i ∷ span f k (suc i)
+
+span-snoc : {A : Type 0} (f : ℕ → A) (k i : ℕ) → span f (suc k) i ≡ span f k i ++ (f (i + k) ∷ [])
+unfolding span
+span-snoc f zero i = rw add-zero
+span-snoc f (suc k) i = let z : i + suc k ≡ suc i + k = omega arith in ap (λ (l : List _). f i ∷ l) (span-snoc f k (suc i)) ∙ rw z
+
+span-table : {A : Type 0} (f : ℕ → A) (k : ℕ) → span f k 0 ≡ table f k
+unfolding span table
+span-table f zero = refl
+span-table f (suc k) = span-snoc f k 0 ∙ rw (zero-add, span-table f k)
+
+-- valid and missing places together
+both : {A : Type 0} (v : ℕ → Bool) (r : ℕ → A) (k i : ℕ) → length (entriesFrom v r k i) + length (entriesFrom (λ j. not (v j)) r k i) ≡ k
+unfolding entriesFrom
+both v r zero i = refl
+both v r (suc k) i = go (v i) (both v r k (suc i))
+  where
+    go : (t : Bool) → length (entriesFrom v r k (suc i)) + length (entriesFrom (λ j. not (v j)) r k (suc i)) ≡ k
+        → length (cond t (r i ∷ entriesFrom v r k (suc i)) (entriesFrom v r k (suc i)))
+        + length (cond (not t) (r i ∷ entriesFrom (λ j. not (v j)) r k (suc i)) (entriesFrom (λ j. not (v j)) r k (suc i)))
+        ≡ suc k
+    go true h = omega arith
+    go false h = omega arith
+
+spoilt-is : (n : ℕ) (f : Figure) → cond (ltb 0 n) (mapNan f) f ≡ spoilt n f
+unfolding spoilt
+spoilt-is zero f = refl
+spoilt-is (suc n) (Present x) = rw (lt-ltb 0 (suc n) (omega arith), ne-eqb (suc n) 0 (λ z. omega arith))
+spoilt-is (suc n) Missing = rw (lt-ltb 0 (suc n) (omega arith), ne-eqb (suc n) 0 (λ z. omega arith))
+
+-- ---- what a window yields
+module _ (M : ReadingMoment) (rust : Rust) (neutral : Neutral M) (final : M .State → Figure) (has : Bool) (map : List ℕ) (xs : List Float) where
+  abbrev t : Series Float
+  t = series has map xs
+
+  abbrev Stands : Account → MomentWindow M → Type 0
+  Stands a w = Whole M rust (validAt has map) xs a w
+
+  combined-is : (agg : M .State) (l : List Float) → combined (M .combine) agg (tops M l) ≡ M .combine agg (falling (ofReadings M) l)
+  unfolding tops
+  combined-is agg [] = sym (neutral agg)
+  combined-is agg (x ∷ l) = refl
+
+  moment-is : (a : Account) (w : MomentWindow M) → Stands a w → getMoment final w ≡ figureOf (ofReadings M) final t a
+  unfolding getMoment figureOf badAt
+  moment-is a w whole =
+      let h = whole .at in
+      rw (h .front-is, h .agg-is, h .bad-is)
+      (ap (λ (s : M .State). cond (ltb 0 (badCount t (a .start) (a .end))) (mapNan (final s)) (final s)) (combined-is (rising (ofReadings M) (M .empty) (back t a)) (front t a))
+      ∙ spoilt-is (badCount t (a .start) (a .end)) (final (M .combine (rising (ofReadings M) (M .empty) (back t a)) (falling (ofReadings M) (front t a)))))
+
+  valid-is : (a : Account) (w : MomentWindow M) (least : ℕ) → Stands a w → isValid rust w least ≡ leb least (validCount t (a .start) (a .end))
+  valid-is a w least whole =
+      let h = whole .at in
+      let nulls = length (entries (λ j. not (validAt has map j)) (insertedAt xs) (a .start) (a .end)) in
+      let c = both (validAt has map) (insertedAt xs) (a .end - a .start) (a .start) in
+      let n : (a .end - a .start) - nulls ≡ validCount t (a .start) (a .end) = omega arith in
+      let x : rust .minus (a .end) (a .start) ≡ a .end - a .start = rust .minus-is (a .end) (a .start) (whole .start-le) in
+      let y = rust .minus-is (a .end - a .start) nulls (omega arith) in
+      rw (h .start-is, h .end-is, h .nulls-is, x) (ap (leb least) (y ∙ n))
+
+  -- ---- the rows of a plan
+  module _ (least widest : ℕ) (p : Plan) (plan : Planned (length xs) widest p) where
+    abbrev S : ℕ → ℕ
+    S k = rowStart p k
+
+    abbrev E : ℕ → ℕ
+    E k = rowEnd p k
+
+    abbrev A : ℕ → Account
+    A k = accountAt (validAt has map) has least p k
+
+    abbrev answer : ℕ → Figure
+    answer k = answerAt (ofReadings M) final t least p k
+
+    abbrev update : MomentWindow M → ℕ → MomentWindow M
+    update w k = updateOn M rust (validAt has map) xs w (S k) (E k)
+
+    -- before row k the window stands at the account acc: that after the rows before it, but before row 0 that after row 0
+    record Before (k : ℕ) (w : MomentWindow M) : Type 0 where
+      acc : Account
+      whole : Stands acc w
+      starts : acc .start ≤ S k
+      ends : acc .end ≤ E k
+      next : moves has least k (S k) (E k) ≡ true → moved (validAt has map) acc (S k) (E k) ≡ A (suc k)
+      stay : moves has least k (S k) (E k) ≡ false → acc ≡ A (suc k)
+      first : k ≡ 0 → acc ≡ A (suc k)
+
+    before-suc : (k : ℕ) (w : MomentWindow M) → suc k < rows p → Stands (A (suc k)) w → Before (suc k) w
+    unfolding accountAt
+    before-suc k w h whole =
+        let l = lies (validAt has map) has least (length xs) widest p plan (suc k) (omega arith) in
+        let x = l .ahead (suc k) (omega arith) h in
+        record {
+          acc = A (suc k);
+          whole = whole;
+          starts = x .0;
+          ends = x .1;
+          next = λ e. rw e;
+          stay = λ e. rw e;
+          first = λ e. absurd (omega arith);
+        }
+
+    moves-zero : (m : Bool) (s e : ℕ) → moves m least 0 s e ≡ true
+    moves-zero true s e = refl
+    moves-zero false s e = refl
+
+    -- row 0's move from the fresh account, and once more
+    one-move : (s e : ℕ) → moved (validAt has map) fresh s e ≡ record { start = s; end = e; split = s }
+    unfolding splitAfter
+    one-move s e =
+        let z : s - s ≡ 0 = omega arith in
+        rw (le-leb 0 s (omega arith), z)
+
+    two-moves : (s e : ℕ) → s ≤ e → moved (validAt has map) (record { start = s; end = e; split = s }) s e ≡ record { start = s; end = e; split = s }
+    unfolding splitAfter
+    two-moves s e h = go (order e s)
+      where
+        z : s - s ≡ 0
+        z = omega arith
+
+        go : Or (e ≤ s) (s < e) → moved (validAt has map) (record { start = s; end = e; split = s }) s e ≡ record { start = s; end = e; split = s }
+        go (here l) = rw (le-leb e s l, z)
+        go (there l) = rw (lt-leb e s l, z)
+
+    row-zero : A 1 ≡ record { start = S 0; end = E 0; split = S 0 }
+    unfolding accountAt
+    row-zero = rw (moves-zero has (S 0) (E 0)) (one-move (S 0) (E 0))
+
+    before-zero : 0 < rows p → Before 0 (update newImpl 0)
+    before-zero h =
+        let r = plan .row 0 h in
+        let o = row-zero in
+        let w = moved-whole M rust (validAt has map) xs fresh newImpl (new-whole M rust (validAt has map) xs) (S 0) (E 0) (omega arith) (omega arith) (r .0) in
+        record {
+          acc = record { start = S 0; end = E 0; split = S 0 };
+          whole = rw (one-move (S 0) (E 0)) at w;
+          starts = omega arith;
+          ends = omega arith;
+          next = λ e. two-moves (S 0) (E 0) (r .0) ∙ sym o;
+          stay = λ e. sym o;
+          first = λ e. sym o;
+        }
+
+    -- a row that moves the window
+    after : (k : ℕ) (w : MomentWindow M) → k < rows p → Before k w → moves has least k (S k) (E k) ≡ true → Stands (A (suc k)) (update w k)
+    after k w h c e =
+        let r = plan .row k h in
+        rw (c .next e) at (moved-whole M rust (validAt has map) xs (c .acc) w (c .whole) (S k) (E k) (c .starts) (c .ends) (r .0))
+
+    answer-no : (k : ℕ) → leb least (counted t (S k) (E k)) ≡ false → answer k ≡ Missing
+    unfolding answerAt answerOf
+    answer-no k e = rw e
+
+    answer-yes : (k : ℕ) → leb least (counted t (S k) (E k)) ≡ true → answer k ≡ figureOf (ofReadings M) final t (A (suc k))
+    unfolding answerAt answerOf
+    answer-yes k e = rw e
+
+    -- ---- without a map
+    module _ (no : has ≡ false) where
+      every : (i : ℕ) → validAt has map i ≡ true
+      unfolding validAt
+      every i = rw no
+
+      counted-no : (s e : ℕ) → counted t s e ≡ e - s
+      counted-no s e = ap (λ (m : Bool). cond m (validCount t s e) (e - s)) no
+
+      stays : (k : ℕ) (w : MomentWindow M) → (c : Before k w) → leb least (E k - S k) ≡ false → c .acc ≡ A (suc k)
+      stays k w c e = go k refl
+        where
+          go : (i : ℕ) → k ≡ i → c .acc ≡ A (suc k)
+          go zero z = c .first z
+          go (suc i) z = c .stay (ap (λ (m : Bool). m || (eqb k 0 || leb least (E k - S k))) no ∙ rw (e, ne-eqb k 0 (λ y. omega arith)))
+
+      -- 002's `update` with row k, of a window that stands before it
+      update-no : (a : Account) (w : MomentWindow M) (k : ℕ) → k < rows p → Stands a w → a .start ≤ S k → a .end ≤ E k → updateNoNulls rust xs w (S k) (E k) ≡ update w k
+      update-no a w k h whole hs he =
+          let r = plan .row k h in
+          no-nulls-same M rust (validAt has map) xs a w whole (S k) (E k) hs he (r .0) every (r .1)
+
+      abbrev out : ℕ → ℕ → MomentWindow M → List Figure
+      out k i w = outNoNulls M rust final xs least (offsets p) k i w
+
+      rows-no : (k i : ℕ) (w : MomentWindow M) → i + k ≡ rows p → (0 < k → Before i w) → out k i w ≡ span answer k i
+      unfolding outNoNulls span
+      rows-no zero i w h c = refl
+      rows-no (suc k) i w h c =
+          let r = plan .row i (omega arith) in
+          ap (λ (n : ℕ). cond (ltb n least) (Missing ∷ out k (suc i) w)
+          (getMoment final (updateNoNulls rust xs w (S i) (E i)) ∷ out k (suc i) (updateNoNulls rust xs w (S i) (E i))))
+          (rust .minus-is (E i) (S i) (r .0))
+          ∙ go (ltb (E i - S i) least) refl (c (omega arith)) (λ (w′ : MomentWindow M). rows-no k (suc i) w′ (omega arith))
+        where
+          go : (u : Bool) → ltb (E i - S i) least ≡ u → Before i w → ((w′ : MomentWindow M) → (0 < k → Before (suc i) w′) → out k (suc i) w′ ≡ span answer k (suc i))
+              → cond u (Missing ∷ out k (suc i) w)
+              (getMoment final (updateNoNulls rust xs w (S i) (E i)) ∷ out k (suc i) (updateNoNulls rust xs w (S i) (E i)))
+              ≡ answer i ∷ span answer k (suc i)
+          go true e c ih =
+              let q : leb least (E i - S i) ≡ false = lt-leb least (E i - S i) (ltb-true _ _ e) in
+              let whole = subst (λ (a : Account). Stands a w) (stays i w c q) (c .whole) in
+              rw (ih w (λ l. before-suc i w (omega arith) whole), answer-no i (ap (leb least) (counted-no (S i) (E i)) ∙ q))
+          go false e c ih =
+              let q : leb least (E i - S i) ≡ true = le-leb least (E i - S i) (ltb-false _ _ e) in
+              let y = ap (leb least) (counted-no (S i) (E i)) ∙ q in
+              let u = update-no (c .acc) w i (omega arith) (c .whole) (c .starts) (c .ends) in
+              let whole = after i w (omega arith) c (meets t least i (S i) (E i) y) in
+              ap (λ (z : MomentWindow M). getMoment final z ∷ out k (suc i) z) u
+              ∙ ap (λ (f : Figure). f ∷ out k (suc i) (update w i)) (moment-is (A (suc i)) (update w i) whole ∙ sym (answer-yes i y))
+              ∙ ap (λ (l : List Figure). answer i ∷ l) (ih (update w i) (λ l. before-suc i (update w i) (omega arith) whole))
+
+      pub rolled-no : rollingNoNulls M rust final xs least (offsets p) (rows p) ≡ table answer (rows p)
+      unfolding rollingNoNulls
+      rolled-no = rows-no (rows p) 0 (updateNoNulls rust xs newImpl (S 0) (E 0)) (zero-add (rows p)) start ∙ span-table answer (rows p)
+        where
+          start : 0 < rows p → Before 0 (updateNoNulls rust xs newImpl (S 0) (E 0))
+          start h = rw (update-no fresh newImpl 0 h (new-whole M rust (validAt has map) xs) (omega arith) (omega arith)) (before-zero h)
+
+    -- ---- with a map
+    -- what the `match` makes of one row's value and mark
+    record Matched (i : ℕ) (f : Figure) (enough : Bool) (l : List Bool) (x : Float) (m : List Bool) : Type 0 where
+      long : length m ≡ length l
+      other : (j : ℕ) → (j ≡ i → ⊥) → getD m j false ≡ getD l j false
+      this : (enough ≡ true → getD l i false ≡ true) → i < length l → cond (getD m i false) (Present x) Missing ≡ cond enough f Missing
+
+    matched-is : (i : ℕ) (f : Figure) (enough : Bool) (l : List Bool) → Matched i f enough l (matched i f enough l .0) (matched i f enough l .1)
+    matched-is i (Present x) true l = record { long = refl; other = λ j h. refl; this = λ h k. rw (h refl) }
+    matched-is i (Present x) false l =
+        record { long = length-set l i false; other = λ j h. getD-set-other l i j false false h; this = λ h k. rw (getD-set-same l i false false k) }
+    matched-is i Missing true l =
+        record { long = length-set l i false; other = λ j h. getD-set-other l i j false false h; this = λ h k. rw (getD-set-same l i false false k) }
+    matched-is i Missing false l =
+        record { long = length-set l i false; other = λ j h. getD-set-other l i j false false h; this = λ h k. rw (getD-set-same l i false false k) }
+
+    -- marks that are off, of the rows from i on, are of rows that are too short
+    abbrev From : ℕ → List Bool → Type 0
+    From i l = (j : ℕ) → i ≤ j → j < length l → getD l j false ≡ false → tooShort rust least (offsets p) j ≡ true
+
+    abbrev short : ℕ → Bool
+    short i = tooShort rust least (offsets p) i
+
+    -- marks that `create_validity` may leave of l
+    abbrev Marks : List Bool → List Bool → Type 0
+    Marks l m = From 0 m × (length m ≡ length l)
+
+    short-set : (l : List Bool) (i : ℕ) → short i ≡ true → From 0 l → From 0 (set l i false)
+    short-set l i h f j o k e = go (eqb j i) refl
+      where
+        go : (u : Bool) → eqb j i ≡ u → short j ≡ true
+        go true q = rw (eqb-true j i q) h
+        go false q = f j o (rw length-set at k) (sym (getD-set-other l i j false false (eqb-false j i q)) ∙ e)
+
+    -- a row is marked and the loop goes on, or the loop ends
+    either : (i : ℕ) (l m : List Bool) → From 0 l → (short i ≡ true → Marks (set l i false) m) → Marks l (cond (short i) m l)
+    either i l m f g = go (short i) refl
+      where
+        go : (u : Bool) → short i ≡ u → Marks l (cond u m l)
+        go true q = (g q .0, g q .1 ∙ length-set l i false)
+        go false q = (f, refl)
+
+    head-marks : (k i : ℕ) (l : List Bool) → From 0 l → Marks l (headSet rust least (offsets p) k i l)
+    unfolding headSet
+    head-marks zero i l f = (f, refl)
+    head-marks (suc k) i l f = either i l _ f (λ h. head-marks k (suc i) (set l i false) (short-set l i h f))
+
+    tail-marks : (k : ℕ) (l : List Bool) → From 0 l → Marks l (tailSet rust least (offsets p) k l)
+    unfolding tailSet
+    tail-marks zero l f = (f, refl)
+    tail-marks (suc k) l f = either k l _ f (λ h. tail-marks k (set l k false) (short-set l k h f))
+
+    all-marks : (n : ℕ) → From 0 (replicate n true)
+    all-marks n j o h e = absurd (let z : _≡_ {A = ℕ} 0 1 = cc (getD-replicate n j true false (rw length-replicate at h), e) in omega arith)
+
+    abbrev created : ℕ → List Bool
+    created n = Option·getD (createValidity rust least (offsets p) n) (replicate n true)
+
+    abbrev ends-set : ℕ → List Bool
+    ends-set n = tailSet rust least (offsets p) n (headSet rust least (offsets p) n 0 (replicate n true))
+
+    created-marks : (n : ℕ) → From 0 (created n) × (length (created n) ≡ n)
+    unfolding createValidity
+    created-marks n = go (ltb 1 least)
+      where
+        go : (u : Bool) → From 0 (Option·getD (cond u (some (ends-set n)) none) (replicate n true)) × (length (Option·getD (cond u (some (ends-set n)) none) (replicate n true)) ≡ n)
+        go true =
+            let h = head-marks n 0 (replicate n true) (all-marks n) in
+            let e = tail-marks n (headSet rust least (offsets p) n 0 (replicate n true)) (h .0) in
+            (e .0, e .1 ∙ h .1 ∙ length-replicate n true)
+        go false = (all-marks n, length-replicate n true)
+
+    module _ (yes : has ≡ true) (bits : (i : ℕ) → i < length xs → rust .bit map i ≡ validAt has map i) where
+      counted-yes : (s e : ℕ) → counted t s e ≡ validCount t s e
+      counted-yes s e = ap (λ (m : Bool). cond m (validCount t s e) (e - s)) yes
+
+      moves-yes : (k : ℕ) → moves has least k (S k) (E k) ≡ true
+      moves-yes k = ap (λ (m : Bool). m || (eqb k 0 || leb least (E k - S k))) yes
+
+      -- what the k rows from i on leave of the marks l, with their values
+      pub record Rolls (k i : ℕ) (l : List Bool) (a : Array) : Type 0 where
+        pub long : length (a .validity) ≡ length l
+        pub before : (j : ℕ) → j < i → getD (a .validity) j false ≡ getD l j false
+        pub row : (m : ℕ) → m < k → cond (getD (a .validity) (i + m) false) (Present (getD (a .values) m nan)) Missing ≡ answer (i + m)
+
+      module _ (k i : ℕ) (w : MomentWindow M) (l : List Bool) (h : i + suc k ≡ rows p) (g : length l ≡ rows p) (f : From i l) (c : Before i w) where
+        abbrev W′ : MomentWindow M
+        W′ = update w i
+
+        whole′ : Stands (A (suc i)) W′
+        whole′ = after i w (omega arith) c (moves-yes i)
+
+        ends-at : (A (suc i) .start ≡ S i) × (A (suc i) .end ≡ E i)
+        unfolding accountAt
+        ends-at = rw (moves-yes i) (refl, refl)
+
+        enough : isValid rust W′ least ≡ leb least (counted t (S i) (E i))
+        enough = valid-is (A (suc i)) W′ least whole′ ∙ rw (ends-at .0, ends-at .1, counted-yes (S i) (E i))
+
+        answer-is : answer i ≡ cond (isValid rust W′ least) (getMoment final W′) Missing
+        answer-is = go (leb least (counted t (S i) (E i))) refl
+          where
+            go : (u : Bool) → leb least (counted t (S i) (E i)) ≡ u → answer i ≡ cond (isValid rust W′ least) (getMoment final W′) Missing
+            go true e = answer-yes i e ∙ sym (ap (λ (u : Bool). cond u (getMoment final W′) Missing) (enough ∙ e) ∙ moment-is (A (suc i)) W′ whole′)
+            go false e = answer-no i e ∙ sym (ap (λ (u : Bool). cond u (getMoment final W′) Missing) (enough ∙ e))
+
+        -- a row with enough valid places has kept its mark
+        marked : isValid rust W′ least ≡ true → getD l i false ≡ true
+        marked e = go (getD l i false) refl
+          where
+            go : (u : Bool) → getD l i false ≡ u → u ≡ true
+            go true q = refl
+            go false q =
+                let r = plan .row i (omega arith) in
+                let d = rust .minus-is (E i) (S i) (r .0) in
+                let s = ltb-true (rust .minus (E i) (S i)) least (f i (omega arith) (omega arith) q) in
+                let y = leb-true least (counted t (S i) (E i)) (sym enough ∙ e) in
+                let n = rw (counted-yes (S i) (E i)) at y in
+                let o = both (validAt has map) (insertedAt xs) (E i - S i) (S i) in
+                absurd (omega arith)
+
+        abbrev X : Float
+        X = matched i (getMoment final W′) (isValid rust W′ least) l .0
+
+        abbrev L′ : List Bool
+        L′ = matched i (getMoment final W′) (isValid rust W′ least) l .1
+
+        marks : Matched i (getMoment final W′) (isValid rust W′ least) l X L′
+        marks = matched-is i (getMoment final W′) (isValid rust W′ least) l
+
+        from′ : From (suc i) L′
+        from′ j o q e =
+            let n : j ≡ i → ⊥ = λ z. omega arith in
+            f j (omega arith) (rw (marks .long) at q) (sym (marks .other j n) ∙ e)
+
+        rolls : (a : Array) → Rolls k (suc i) L′ a → Rolls (suc k) i l (record { values = X ∷ a .values; validity = a .validity })
+        rolls a s =
+            record {
+              long = s .long ∙ marks .long;
+              before = λ j q. s .before j (omega arith) ∙ marks .other j (λ z. omega arith);
+              row = at;
+            }
+          where
+            at : (m : ℕ) → m < suc k → cond (getD (a .validity) (i + m) false) (Present (getD (X ∷ a .values) m nan)) Missing ≡ answer (i + m)
+            at zero q = rw (add-zero, s .before i (omega arith)) (marks .this marked (omega arith) ∙ sym answer-is)
+            at (suc m) q = let z : i + suc m ≡ suc i + m = omega arith in rw z (s .row m (omega arith))
+
+      update-yes : (w : MomentWindow M) (k : ℕ) → k < rows p → updateNulls rust map xs w (S k) (E k) ≡ update w k
+      update-yes w k h = let r = plan .row k h in nulls-same M rust (validAt has map) xs map bits w (S k) (E k) (omega arith) (r .1)
+
+      abbrev array : ℕ → ℕ → MomentWindow M → List Bool → Array
+      array k i w l = outNulls M rust final xs map least (offsets p) k i w l
+
+      -- the rows after one, its window updated
+      abbrev rest : ℕ → ℕ → List Bool → MomentWindow M → Array
+      rest k i l w =
+          let m = matched i (getMoment final w) (isValid rust w least) l in
+          let a = array k (suc i) w (m .1) in
+          record { values = m .0 ∷ a .values; validity = a .validity }
+
+      rows-yes : (k i : ℕ) (w : MomentWindow M) (l : List Bool) → i + k ≡ rows p → length l ≡ rows p → From i l → (0 < k → Before i w) → Rolls k i l (array k i w l)
+      unfolding outNulls
+      rows-yes zero i w l h g f c = record { long = refl; before = λ j q. refl; row = λ m q. absurd (omega arith) }
+      rows-yes (suc k) i w l h g f c =
+          let d = c (omega arith) in
+          subst (λ (w′ : MomentWindow M). Rolls (suc k) i l (rest k i l w′)) (sym (update-yes w i (omega arith)))
+          (rolls k i w l h g f d (array k (suc i) (W′ k i w l h g f d) (L′ k i w l h g f d))
+          (rows-yes k (suc i) (W′ k i w l h g f d) (L′ k i w l h g f d) (omega arith) (marks k i w l h g f d .long ∙ g) (from′ k i w l h g f d)
+          (λ q. before-suc i (W′ k i w l h g f d) (omega arith) (whole′ k i w l h g f d))))
+
+      pub rolled-yes : Rolls (rows p) 0 (created (rows p)) (rollingNulls M rust final xs map least (offsets p) (rows p))
+      unfolding rollingNulls
+      rolled-yes =
+          let m = created-marks (rows p) in
+          rows-yes (rows p) 0 (updateNulls rust map xs newImpl (S 0) (E 0)) (created (rows p)) (zero-add (rows p)) (m .1) (m .0)
+          (λ h. rw (update-yes newImpl 0 h) (before-zero h))
