@@ -1,5 +1,8 @@
+-- Laws by subject: whole arrays; the account over a plan; the source's windows and rows; then the demands, and the table.
 pub mod Source
 pub mod Accounts
 pub mod SourceWindow
 pub mod SourceRows
+pub mod Accepted
+pub mod DemandTwo
 pub mod Table
