@@ -5,4 +5,5 @@ pub mod SourceWindow
 pub mod SourceRows
 pub mod Accepted
 pub mod DemandTwo
+pub mod DemandThree
 pub mod Table

@@ -1,0 +1,262 @@
+-- Demand 3: a row's answer depends on the account, which no reading moves, and on the places of its own window; a variance's weight
+-- is the valid count, which tells where it is missing. Assumes nothing.
+use Prim.Native.Nat.{ℕ, suc, _+_, _-_, _^_, _≤_, _<_}
+use mathlib.Core.Path.{_≡_, refl, sym, ap, _∙_, subst}
+use mathlib.Core.Bool.{Bool, true, false, cond, not, _&&_, _||_}
+use mathlib.Core.List.{List, [], _∷_}
+use mathlib.Core.Logic.{_⊎_, inl, inr}
+use native.Mathlib.Omega.{arith}
+use lib.Dec.{T, leb, eqb}
+use lib.ListN.{length, length-append}
+use lib.Ieee.{Float, nan, isNan, le}
+use lib.Ieee.Scale.{finite}
+use borrow.Author.Tests.{leb-true, leb-false, eqb-true}
+use Rattle.float.specs.Operators.{_⊖_, _⊘_, zero64, count}
+use Rattle.float.proofs.Counts.{zero-is}
+use Rattle.float.proofs.Signs.{nan-or-at-least-zero}
+use Rattle.trace.specs.Trace.{validAt}
+use Rattle.moment.specs.declared.var_state.VarState.{VarState}
+use Rattle.moment.specs.declared.Figure.{Figure}
+use Rattle.moment.specs.declared.Figure.the-variants.{Missing, Present}
+use Rattle.moment.specs.Var.{varEmpty, varInsert, varCombine, notNegative, varFinalize}
+use Rattle.moment.proofs.Weights.{var-inserts-count, var-combine-count}
+use Rattle.moment.proofs.Figures.{var-missing}
+use Rattle.window.specs.Places.{Series, entries, validCount, badCount}
+use Rattle.window.specs.Window.{Account, Moment, front, back, rising, falling, asNan, spoilt, figureOf}
+use Rattle.window.specs.Readings.{readingOf, insertedAt, badAt, ofReadings}
+use Rattle.window.specs.Rows.{Plan, rows, rowStart, rowEnd, accountAt, counted, answerOf, answerAt}
+use Rattle.window.specs.Stacks.{Planned}
+use Rattle.window.proofs.Places.{entries-split, entries-cons, count-le, count-all, two-counts}
+use Rattle.rolling.specs.Moments.{Asked, Variance, variance, momentOf, finalOf}
+use Rattle.rolling.specs.Calls.{Trace, Ask, Lent, seriesOf, yields}
+use Rattle.promises.specs.Demands.{Answer, answerIn, ofFigure, validOf, Alike, Agree, SomeNotFinite, VarianceRow, Yielded, Promised, DemandThree}
+use Rattle.promises.proofs.Accounts.{entries-same, account-same, figure-same, lies, row-account}
+use Rattle.promises.proofs.Accepted.{Known, known}
+
+-- ---- two traces
+module _ (q : Ask) (t t′ : Trace) (a : Alike t t′) (widest : ℕ) (plan : Planned (length (t .readings)) widest (q .plan)) where
+  abbrev u : Series Float
+  u = seriesOf t
+
+  abbrev u′ : Series Float
+  u′ = seriesOf t′
+
+  entry-same : (i : ℕ) → readingOf (t .readings) i ≡ readingOf (t′ .readings) i → u .entry i ≡ u′ .entry i
+  unfolding insertedAt
+  entry-same i e = rw e
+
+  bad-same : (i : ℕ) → validOf t i ≡ validOf t′ i → (validOf t i ≡ true → readingOf (t .readings) i ≡ readingOf (t′ .readings) i) → u .bad i ≡ u′ .bad i
+  unfolding badAt
+  bad-same i e f = rw (← e) (go (validOf t i) f)
+    where
+      go : (v : Bool) → (v ≡ true → readingOf (t .readings) i ≡ readingOf (t′ .readings) i)
+          → (v && not (finite (readingOf (t .readings) i))) ≡ (v && not (finite (readingOf (t′ .readings) i)))
+      go true g = rw (g refl)
+      go false g = refl
+
+  bad-is-valid : (i : ℕ) → u .bad i ≡ true → validOf t i ≡ true
+  unfolding badAt
+  bad-is-valid i e = go (validOf t i) e
+    where
+      go : (v : Bool) → (v && not (finite (readingOf (t .readings) i))) ≡ true → v ≡ true
+      go true g = refl
+      go false g = g
+
+  module _ (k : ℕ) (h : k < rows (q .plan)) (g : Agree t t′ (rowStart (q .plan) k) (rowEnd (q .plan) k)) where
+    abbrev S : ℕ
+    S = rowStart (q .plan) k
+
+    abbrev E : ℕ
+    E = rowEnd (q .plan) k
+
+    valid-in : (i : ℕ) → S ≤ i → i < E → validOf t i ≡ validOf t′ i
+    valid-in i p l = let w = plan .row k h in a .places i (omega arith)
+
+    entry-in : (i : ℕ) → S ≤ i → i < E → validOf t i ≡ true → u .entry i ≡ u′ .entry i
+    entry-in i p l v = entry-same i (g i p l v)
+
+    -- with a map or without one, as the traces are alike
+    counted-same : counted u S E ≡ counted u′ S E
+    counted-same =
+        rw (entries-same (u .valid) (u′ .valid) (u .entry) (u′ .entry) S E valid-in entry-in)
+        (ap (λ (m : Bool). cond m (validCount u′ S E) (E - S)) (a .mapped))
+
+    bad-count : badCount u S E ≡ badCount u′ S E
+    bad-count =
+        ap length
+        (entries-same (u .bad) (u′ .bad) (u .entry) (u′ .entry) S E (λ i p l. bad-same i (valid-in i p l) (g i p l)) (λ i p l b. entry-in i p l (bad-is-valid i b)))
+
+    abbrev A : Account
+    A = accountAt (u .valid) (t .mapped) (q .least) (q .plan) (suc k)
+
+    accounts : A ≡ accountAt (u′ .valid) (t′ .mapped) (q .least) (q .plan) (suc k)
+    accounts =
+        account-same (u .valid) (u′ .valid) (t .mapped) (q .least) (length (t .readings)) widest (q .plan) plan (a .places) (suc k) h
+        ∙ ap (λ (m : Bool). accountAt (u′ .valid) m (q .least) (q .plan) (suc k)) (a .mapped)
+
+    pub yields-same : yields q t k ≡ yields q t′ k
+    unfolding answerAt answerOf
+    yields-same =
+        rw (← accounts, ← counted-same) (go (leb (q .least) (counted u S E)) refl)
+      where
+        go : (b : Bool) → leb (q .least) (counted u S E) ≡ b
+            → cond b (figureOf (momentOf (q .figure)) (finalOf (q .figure)) u A) Missing ≡ cond b (figureOf (momentOf (q .figure)) (finalOf (q .figure)) u′ A) Missing
+        go true e =
+            let f = row-account u (q .least) (q .plan) k e in
+            let x = f .0 in
+            let y = f .1 in
+            let l = lies (u .valid) (t .mapped) (q .least) (length (t .readings)) widest (q .plan) plan (suc k) h in
+            figure-same (momentOf (q .figure)) (finalOf (q .figure)) u u′ A (l .start-le) (l .split-le) (λ i p o. valid-in i (omega arith) (omega arith))
+            (λ i p o v. entry-in i (omega arith) (omega arith) v) (rw (x, y) bad-count)
+        go false e = refl
+
+-- ---- a variance's weight
+-- readings inserted in falling order
+falling-count : (xs : List Float) → length xs ≤ 2 ^ 53 → falling (ofReadings variance) xs .weight ≡ count (length xs)
+falling-count [] h = zero-is
+falling-count (x ∷ xs) h =
+    var-inserts-count (x ∷ []) (falling (ofReadings variance) xs) (length xs) (falling-count xs (omega arith)) (omega arith)
+    ∙ ap count (let e : length xs + 1 ≡ suc (length xs) = omega arith in e)
+
+-- the two parts of a window, combined
+parts-count : (xs ys : List Float) → length xs + length ys ≤ 2 ^ 53
+    → varCombine (rising (ofReadings variance) varEmpty xs) (falling (ofReadings variance) ys) .weight ≡ count (length xs + length ys)
+parts-count xs ys h =
+    let z : 0 + length xs ≡ length xs = omega arith in
+    var-combine-count (rising (ofReadings variance) varEmpty xs) (falling (ofReadings variance) ys) (length xs) (length ys) (omega arith) (omega arith)
+    (var-inserts-count xs varEmpty 0 zero-is (omega arith) ∙ ap count z) (falling-count ys (omega arith))
+
+one-of : (a b : Bool) → T (a || b) → (a ≡ true) ⊎ (b ≡ true)
+one-of true b h = inl refl
+one-of false true h = inr refl
+one-of false false h = absurd h
+
+neither : {n ddof least : ℕ} → least ≤ n → ddof < n → (n ≤ ddof) ⊎ (n < least) → _≡_ {A = ℕ} 1 0
+neither h g (inl p) = absurd (omega arith)
+neither h g (inr p) = absurd (omega arith)
+
+-- ---- one trace
+module _ (q : Ask) (t : Trace) (l : Lent) (c : Known q t l) where
+  module _ (ddof : ℕ) (byte : ddof < 256) (k : ℕ) (h : k < rows (q .plan)) where
+    abbrev w : Series Float
+    w = seriesOf t
+
+    abbrev s : ℕ
+    s = rowStart (q .plan) k
+
+    abbrev e : ℕ
+    e = rowEnd (q .plan) k
+
+    -- the account after row k
+    abbrev B : Account
+    B = accountAt (w .valid) (t .mapped) (q .least) (q .plan) (suc k)
+
+    abbrev N : ℕ
+    N = validCount w s e
+
+    abbrev state : VarState
+    state = varCombine (rising (ofReadings variance) varEmpty (back w B)) (falling (ofReadings variance) (front w B))
+
+    abbrev value : Float
+    value = notNegative (state .dp ⊘ (state .weight ⊖ count ddof))
+
+    -- without a map every place is valid
+    counted-is : counted w s e ≡ N
+    unfolding validAt
+    counted-is = go (t .mapped)
+      where
+        go : (m : Bool) → cond m (length (entries (validAt m (t .map)) (w .entry) s e)) (e - s) ≡ length (entries (validAt m (t .map)) (w .entry) s e)
+        go true = refl
+        go false = sym (count-all (validAt false (t .map)) (w .entry) (λ i. refl) s e)
+
+    figure-is : B .start ≡ s → B .end ≡ e
+        → figureOf (ofReadings variance) (λ z. varFinalize z ddof) w B ≡ spoilt (badCount w s e) (cond (leb N ddof) Missing (Present value))
+    unfolding figureOf
+    figure-is x y =
+        let n = c .few in
+        let r = c .plan .row k h in
+        let i = lies (w .valid) (t .mapped) (q .least) (length (t .readings)) (c .widest) (q .plan) (c .plan) (suc k) h in
+        let b = count-le (w .valid) (w .entry) s e in
+        let m : length (front w B) + length (back w B) ≡ N = two-counts (w .valid) (w .entry) (B .start) (B .split) (B .end) (i .start-le) (i .split-le) ∙ rw (x, y) in
+        let o : length (back w B) + length (front w B) ≡ N = omega arith in
+        let f = parts-count (back w B) (front w B) (omega arith) ∙ ap count o in
+        let d : badCount w (B .start) (B .end) ≡ badCount w s e = rw (x, y) in
+        ap (λ (z : ℕ). spoilt z (varFinalize state ddof)) d ∙ ap (spoilt (badCount w s e)) (var-missing N (omega arith) state ddof byte f)
+
+    -- row k's answer for a variance
+    abbrev Answered : Figure
+    Answered = answerAt (ofReadings variance) (λ z. varFinalize z ddof) w (q .least) (q .plan) k
+
+    shape : Answered ≡ cond (leb (q .least) N) (spoilt (badCount w s e) (cond (leb N ddof) Missing (Present value))) Missing
+    unfolding answerAt answerOf
+    shape =
+        go (leb (q .least) (counted w s e)) refl
+        ∙ ap (λ (z : ℕ). cond (leb (q .least) z) (spoilt (badCount w s e) (cond (leb N ddof) Missing (Present value))) Missing) counted-is
+      where
+        go : (b : Bool) → leb (q .least) (counted w s e) ≡ b
+            → cond b (figureOf (ofReadings variance) (λ z. varFinalize z ddof) w B) Missing ≡ cond b (spoilt (badCount w s e) (cond (leb N ddof) Missing (Present value))) Missing
+        go true x = let f = row-account w (q .least) (q .plan) k x in figure-is (f .0) (f .1)
+        go false x = refl
+
+    some-bad : SomeNotFinite t s e → badCount w s e ≡ 0 → ⊥
+    unfolding badAt
+    some-bad (i, p, o, v, f) z =
+        let b : w .bad i ≡ true = rw (v, f) in
+        let d = simp length-append at (ap length (entries-split (w .bad) (w .entry) s i e p (omega arith))) in
+        let g : entries (w .bad) (w .entry) i e ≡ w .entry i ∷ entries (w .bad) (w .entry) (suc i) e = entries-cons (w .bad) (w .entry) i e o ∙ rw b in
+        let j = ap length g in
+        omega arith
+
+    var-row : VarianceRow t s e (q .least) ddof (ofFigure Answered)
+    unfolding spoilt isNan
+    var-row = rw shape (go (leb (q .least) N) (leb N ddof) (eqb (badCount w s e) 0) refl refl refl)
+      where
+        missing-row : (N ≤ ddof) ⊎ (N < q .least) → VarianceRow t s e (q .least) ddof (ofFigure Missing)
+        missing-row few =
+            record {
+              byte-is = inl refl;
+              missing = (λ _. few, λ _. refl);
+              not-finite = λ x. absurd (omega arith);
+              not-below = λ x. absurd (omega arith);
+            }
+
+        go : (a b z : Bool) → leb (q .least) N ≡ a → leb N ddof ≡ b → eqb (badCount w s e) 0 ≡ z
+            → VarianceRow t s e (q .least) ddof
+            (ofFigure (cond a (cond z (cond b Missing (Present value)) (asNan (cond b Missing (Present value)))) Missing))
+        go false b z x y n = missing-row (inr (leb-false _ _ x))
+        go true true true x y n = missing-row (inl (leb-true _ _ y))
+        go true true false x y n = missing-row (inl (leb-true _ _ y))
+        go true false true x y n =
+            record {
+              byte-is = inr refl;
+              missing = (λ z. absurd (omega arith), neither (leb-true _ _ x) (leb-false _ _ y));
+              not-finite = λ z f. absurd (some-bad f (eqb-true _ _ n));
+              not-below = λ z. one-of _ _ (nan-or-at-least-zero (state .dp ⊘ (state .weight ⊖ count ddof)));
+            }
+        go true false false x y n =
+            record {
+              byte-is = inr refl;
+              missing = (λ z. absurd (omega arith), neither (leb-true _ _ x) (leb-false _ _ y));
+              not-finite = λ z f. refl;
+              not-below = λ z. inl refl;
+            }
+
+  yielded : Yielded q t l
+  yielded =
+      record {
+        account = c .answers;
+        variance = λ ddof byte f k h.
+            let y : yields q t k ≡ Answered ddof byte k h =
+            ap (λ (asked : Asked). answerAt (momentOf asked) (finalOf asked) (seriesOf t) (q .least) (q .plan) k) f in
+            rw (c .answers k h, y) (var-row ddof byte k h);
+      }
+
+pub demand-three : DemandThree
+demand-three q t t′ l l′ c c′ =
+    let a = known q t l c in
+    let a′ = known q t′ l′ c′ in
+    record {
+      same = λ alike k h g. a .answers k h ∙ ap ofFigure (yields-same q t t′ alike (a .widest) (a .plan) k h g) ∙ sym (a′ .answers k h);
+      first = yielded q t l a;
+      second = yielded q t′ l′ a′;
+    }
