@@ -2,7 +2,7 @@
 -- function that its comment names. `slice`, `validity` and `moment`, which no function changes, are parameters. A `Vec` is a
 -- list whose head is the last element: push puts in front, pop takes the head off, last reads it. Assumes nothing.
 use Prim.Native.Nat.{ℕ, zero, suc, _+_, _-_, _/_, _≤_, _<_}
-use mathlib.Core.Path.{_≡_}
+use mathlib.Core.Path.{_≡_, refl}
 use mathlib.Core.Bool.{Bool, true, false, cond, not}
 use mathlib.Core.List.{List, [], _∷_, foldl}
 use mir.Val.{boolByte}
@@ -32,6 +32,20 @@ pub record Rust : Type 0 where
   -- `validity.get_bit_unchecked(i)`, of a map's bytes
   pub bit : List ℕ → ℕ → Bool
   pub bit-is : (map : List ℕ) (i : ℕ) → i / 8 < length map → bit map i ≡ validAt true map i
+
+-- one such: subtraction that stops at 0, and what is past the end not there
+abbrev pub someRust : Rust
+someRust =
+    record {
+      minus = _-_;
+      minus-is = λ a b h. refl;
+      part = λ l a b. slice a b l;
+      part-is = λ l a b h k. refl;
+      get = λ l i. getD l i nan;
+      get-is = λ l i h. refl;
+      bit = validAt true;
+      bit-is = λ map i h. refl;
+    }
 
 -- `for idx in a..b`, whose body takes w to f idx w: b - a turns
 unfoldable pub turns : {A : Type 0} → (ℕ → A → A) → ℕ → ℕ → A → A

@@ -4,6 +4,7 @@ use Prim.Native.Nat.{ℕ}
 use mathlib.Core.Bool.{Bool, true, false, _&&_}
 use mathlib.Core.List.{List, [], _∷_, foldl}
 use lib.Dec.{eqb}
+use lib.ListN.{length}
 use lib.IntN.{negsuc}
 use lib.Ieee.{Float, nan, inf, binary64, ofBits, toBits, ofInt}
 use Rattle.float.specs.Operators.{zero64, one64, count}
@@ -23,6 +24,12 @@ use Rattle.moment.specs.Pearson.{pearsonFinalize}
 use Rattle.moment.specs.Skew.{skewFinalize}
 use Rattle.moment.specs.Kurtosis.{kurtosisFinalize}
 use Rattle.moment.specs.Arrays.{pearsonAnswer, skewRange, kurtosisRange}
+use Rattle.window.specs.Rows.{rows}
+use Rattle.window.specs.Refusals.{needed, planRefusal}
+use Rattle.rolling.specs.Moments.{Variance}
+use Rattle.rolling.specs.Calls.{Trace, Ask, each, yields}
+use Rattle.promises.specs.SourceWindow.{someRust}
+use Rattle.promises.specs.Demands.{sourceRow}
 
 -- two floats of the same bits, where every NaN is one value
 abbrev pub same : Float → Float → Bool
@@ -58,9 +65,49 @@ correlationOf (pearson.Refused number) = zero64
 abbrev pub twoInserted : VarState
 twoInserted = foldl varInsert varEmpty (reading 2 ∷ reading 4 ∷ [])
 
+-- a plan of two lists, a minimum, and the variance at ddof 1
+abbrev pub variances : List ℕ → List ℕ → ℕ → Ask
+variances starts ends least = record { plan = record { starts = starts; ends = ends }; least = least; figure = Variance 1 }
+
+-- a trace without a map
+abbrev pub unmapped : List Float → Trace
+unmapped readings = record { readings = readings; mapped = false; map = [] }
+
+-- a call with output lists and a work slice that are just long enough is accepted
+abbrev pub accepted : Ask → Trace → Bool
+accepted q t =
+    eqb
+    (planRefusal (each (q .figure)) (length (t .readings)) (t .mapped) (t .map) (q .plan) false (rows (q .plan)) (rows (q .plan))
+    (needed (each (q .figure)) (q .plan)))
+    0
+
+-- row k by the split account, and by the source's own window
+abbrev pub rowGives : Ask → Trace → ℕ → ℕ → Float → Bool
+rowGives q t k byte x = gives (yields q t k) byte x && gives (sourceRow someRust q t k) byte x
+
+abbrev pub p7 : Ask
+p7 = variances (0 ∷ 1 ∷ 3 ∷ []) (2 ∷ 3 ∷ 4 ∷ []) 1
+
+abbrev pub trace7 : Trace
+trace7 = unmapped (reading 2 ∷ reading 4 ∷ reading 6 ∷ reading 8 ∷ [])
+
+abbrev pub p8 : Ask
+p8 = variances (0 ∷ 1 ∷ []) (2 ∷ 3 ∷ []) 1
+
+abbrev pub trace8 : Trace
+trace8 = unmapped (nan ∷ reading 4 ∷ reading 6 ∷ [])
+
+abbrev pub p9 : ℕ → Ask
+p9 least = variances (0 ∷ []) (3 ∷ []) least
+
+abbrev pub trace9 : Trace
+trace9 = record { readings = reading 2 ∷ reading 7 ∷ reading 4 ∷ []; mapped = true; map = 5 ∷ [] }
+
 -- P1 empty variance, ddof 0: missing. P2 insert 2, 4: ddof 0, 1, 2 gives 1, 2, missing. P3 empty combined with (weight 1,
 -- mean infinity, dp 0): NaN at ddof 0. P4 Pearson of (1,2),(3,4): 1; of one pair: NaN. P5 range 0,0,0,0,5, biased skewness:
--- 1.5. P6 range 1,3, biased kurtosis: 1, less three (`fisher`) -2. P10 root of 2: 3FF6A09E667F3BCD; of 2^-1074: 2^-537.
+-- 1.5. P6 range 1,3, biased kurtosis: 1, less three (`fisher`) -2. P7 trace 2,4,6,8, rows (0,2),(1,3),(3,4), ddof 1, minimum 1:
+-- 2, 2, missing. P8 trace NaN,4,6, rows (0,2),(1,3), ddof 1, minimum 1: NaN, 2. P9 trace 2,7,4, map byte 5, row (0,3), ddof 1:
+-- minimum 2 gives 2, minimum 3 missing. P10 root of 2: 3FF6A09E667F3BCD; of 2^-1074: 2^-537.
 unfoldable pub cases : List Bool
 cases =
     gives (varFinalize varEmpty 0) 0 zero64
@@ -76,6 +123,17 @@ cases =
     (ofBits binary64 0x3FF8000000000000)
     ∷ gives (kurtosisOf false (kurtosisRange (reading 1 ∷ reading 3 ∷ []) false [] 0 2)) 1 (reading 1)
     ∷ gives (kurtosisOf true (kurtosisRange (reading 1 ∷ reading 3 ∷ []) false [] 0 2)) 1 (ofInt binary64 (negsuc 1))
+    ∷ accepted p7 trace7
+    ∷ rowGives p7 trace7 0 1 (reading 2)
+    ∷ rowGives p7 trace7 1 1 (reading 2)
+    ∷ rowGives p7 trace7 2 0 zero64
+    ∷ accepted p8 trace8
+    ∷ rowGives p8 trace8 0 1 nan
+    ∷ rowGives p8 trace8 1 1 (reading 2)
+    ∷ accepted (p9 2) trace9
+    ∷ rowGives (p9 2) trace9 0 1 (reading 2)
+    ∷ accepted (p9 3) trace9
+    ∷ rowGives (p9 3) trace9 0 0 zero64
     ∷ same (root (reading 2)) (ofBits binary64 0x3FF6A09E667F3BCD)
     ∷ same (root (ofBits binary64 1)) (ofBits binary64 0x1E60000000000000)
     ∷ []
