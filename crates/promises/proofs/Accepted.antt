@@ -1,24 +1,24 @@
 -- What is known of an accepted call, by whichever entry: its number is 0, so no refusal applies, its plan is in order, and its
 -- lists hold every row's answer. Assumes nothing.
 use Prim.Native.Nat.{ℕ, _+_, _/_, _≤_, _<_}
-use mathlib.Core.Path.{_≡_, refl, sym, ap, _∙_, subst}
+use mathlib.Core.Path.{_≡_, sym}
 use mathlib.Core.Bool.{Bool, true, false, _||_}
 use mathlib.Core.List.{List}
 use lib.Dec.{ltb, lit≤}
-use lib.ListN.{length, getD, drop}
+use lib.ListN.{length, drop}
 use lib.Ieee.{nan}
 use borrow.Author.Tests.{eqb-true, not-false}
 use Rattle.float.specs.Bytes.{readingAt}
 use Rattle.trace.specs.Refusals.{refusal, _orElse_, tooMany, wrongMap, arrayRefusal}
 use Rattle.trace.proofs.Accepted.{none-of, not-refused}
 use Rattle.moment.specs.Figure.{doubleOf, byteOf}
-use Rattle.window.specs.Rows.{Plan, rows, table}
+use Rattle.window.specs.Rows.{Plan, rows}
 use Rattle.window.specs.Refusals.{badLists, rowsRefusal, needed, planRefusal, filled}
 use Rattle.window.specs.Stacks.{Planned}
 use Rattle.window.proofs.Tables.{table-length, table-at}
-use Rattle.window.proofs.Plans.{Taken, taken}
-use Rattle.rolling.specs.Calls.{Trace, Ask, Lent, each, yields, Written, Called, decoded, CalledBytes}
-use Rattle.promises.specs.Demands.{Answer, answerIn, ofFigure, Accepted, planCall, hostCall}
+use Rattle.window.proofs.Plans.{taken}
+use Rattle.rolling.specs.Calls.{Trace, Ask, Lent, each, yields, Written, decoded}
+use Rattle.promises.specs.Demands.{answerIn, ofFigure, Accepted, planCall, hostCall}
 
 pub record Known (q : Ask) (t : Trace) (l : Lent) : Type 0 where
   pub few : length (t .readings) ≤ 16777216

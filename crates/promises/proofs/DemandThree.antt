@@ -1,35 +1,35 @@
 -- Demand 3: a row's answer depends on the account, which no reading moves, and on the places of its own window; a variance's weight
 -- is the valid count, which tells where it is missing. Assumes nothing.
 use Prim.Native.Nat.{ℕ, suc, _+_, _-_, _^_, _≤_, _<_}
-use mathlib.Core.Path.{_≡_, refl, sym, ap, _∙_, subst}
+use mathlib.Core.Path.{_≡_, refl, sym, ap, _∙_}
 use mathlib.Core.Bool.{Bool, true, false, cond, not, _&&_, _||_}
 use mathlib.Core.List.{List, [], _∷_}
 use mathlib.Core.Logic.{_⊎_, inl, inr}
 use native.Mathlib.Omega.{arith}
 use lib.Dec.{T, leb, eqb}
 use lib.ListN.{length, length-append}
-use lib.Ieee.{Float, nan, isNan, le}
+use lib.Ieee.{Float, isNan}
 use lib.Ieee.Scale.{finite}
 use borrow.Author.Tests.{leb-true, leb-false, eqb-true}
-use Rattle.float.specs.Operators.{_⊖_, _⊘_, zero64, count}
+use Rattle.float.specs.Operators.{_⊖_, _⊘_, count}
 use Rattle.float.proofs.Counts.{zero-is}
 use Rattle.float.proofs.Signs.{nan-or-at-least-zero}
 use Rattle.trace.specs.Trace.{validAt}
 use Rattle.moment.specs.declared.var_state.VarState.{VarState}
 use Rattle.moment.specs.declared.Figure.{Figure}
 use Rattle.moment.specs.declared.Figure.the-variants.{Missing, Present}
-use Rattle.moment.specs.Var.{varEmpty, varInsert, varCombine, notNegative, varFinalize}
+use Rattle.moment.specs.Var.{varEmpty, varCombine, notNegative, varFinalize}
 use Rattle.moment.proofs.Weights.{var-inserts-count, var-combine-count}
 use Rattle.moment.proofs.Figures.{var-missing}
 use Rattle.window.specs.Places.{Series, entries, validCount, badCount}
-use Rattle.window.specs.Window.{Account, Moment, front, back, rising, falling, asNan, spoilt, figureOf}
+use Rattle.window.specs.Window.{Account, front, back, rising, falling, asNan, spoilt, figureOf}
 use Rattle.window.specs.Readings.{readingOf, insertedAt, badAt, ofReadings}
-use Rattle.window.specs.Rows.{Plan, rows, rowStart, rowEnd, accountAt, counted, answerOf, answerAt}
+use Rattle.window.specs.Rows.{rows, rowStart, rowEnd, accountAt, counted, answerOf, answerAt}
 use Rattle.window.specs.Stacks.{Planned}
 use Rattle.window.proofs.Places.{entries-split, entries-cons, count-le, count-all, two-counts}
-use Rattle.rolling.specs.Moments.{Asked, Variance, variance, momentOf, finalOf}
+use Rattle.rolling.specs.Moments.{Asked, variance, momentOf, finalOf}
 use Rattle.rolling.specs.Calls.{Trace, Ask, Lent, seriesOf, yields}
-use Rattle.promises.specs.Demands.{Answer, answerIn, ofFigure, validOf, Alike, Agree, SomeNotFinite, VarianceRow, Yielded, Promised, DemandThree}
+use Rattle.promises.specs.Demands.{ofFigure, validOf, Alike, Agree, SomeNotFinite, VarianceRow, Yielded, DemandThree}
 use Rattle.promises.proofs.Accounts.{entries-same, account-same, figure-same, lies, row-account}
 use Rattle.promises.proofs.Accepted.{Known, known}
 

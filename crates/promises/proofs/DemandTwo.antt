@@ -8,7 +8,6 @@ use native.Mathlib.Omega.{arith}
 use lib.ListN.{length, getD}
 use lib.Ieee.{ofBits, eq}
 use Rattle.float.specs.Operators.{zero64}
-use Rattle.trace.specs.Trace.{validAt}
 use Rattle.moment.specs.Var.{varCombine}
 use Rattle.moment.specs.Skew.{skewCombine}
 use Rattle.moment.specs.Kurtosis.{kurtosisCombine}
@@ -19,7 +18,7 @@ use Rattle.window.specs.Rows.{rows, answerAt, table}
 use Rattle.window.specs.Stacks.{Planned}
 use Rattle.window.proofs.Tables.{table-at}
 use Rattle.rolling.specs.Moments.{Asked, Variance, Skewness, Kurtosis, readingMomentOf, momentOf, finalOf}
-use Rattle.rolling.specs.Calls.{Trace, Ask, Lent, yields}
+use Rattle.rolling.specs.Calls.{Trace, Ask, yields}
 use Rattle.promises.specs.SourceWindow.{Rust}
 use Rattle.promises.specs.SourceRows.{rollingNoNulls, rollingNulls, rowOf}
 use Rattle.promises.specs.Demands.{offsets, ofFigure, sourceRow, DemandTwo}

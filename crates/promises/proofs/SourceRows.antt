@@ -5,7 +5,7 @@ use Prim.Native.Nat.{ℕ, zero, suc, _+_, _-_, _≤_, _<_}
 use mathlib.Core.Path.{_≡_, refl, sym, ap, _∙_, subst}
 use mathlib.Core.Bool.{Bool, true, false, cond, not, _||_}
 use mathlib.Core.List.{List, [], _∷_, _++_}
-use mathlib.Core.Option.{Option, none, some, Option·getD}
+use mathlib.Core.Option.{none, some, Option·getD}
 use native.Mathlib.Nat.{add-zero, zero-add}
 use native.Mathlib.Omega.{arith}
 use lib.Dec.{leb, ltb, eqb}
@@ -25,7 +25,7 @@ use Rattle.window.proofs.Places.{Or, here, there, order}
 use Rattle.promises.specs.SourceWindow.{Rust, combined, mapNan, MomentWindow, newImpl, getMoment, updateNoNulls, updateNulls, isValid}
 use Rattle.promises.specs.SourceRows.{outNoNulls, rollingNoNulls, tooShort, headSet, tailSet, createValidity, Array, matched, outNulls, rollingNulls}
 use Rattle.promises.specs.Demands.{offsets}
-use Rattle.promises.proofs.Accounts.{Lies, lies, meets}
+use Rattle.promises.proofs.Accounts.{lies, meets}
 use Rattle.promises.proofs.SourceWindow.{tops, updateOn, Whole, new-whole, moved-whole, no-nulls-same, nulls-same}
 
 -- combining with the empty state changes nothing
