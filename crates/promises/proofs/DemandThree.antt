@@ -131,9 +131,9 @@ one-of true b h = inl refl
 one-of false true h = inr refl
 one-of false false h = absurd h
 
-neither : {n ddof least : ℕ} → least ≤ n → ddof < n → (n ≤ ddof) ⊎ (n < least) → _≡_ {A = ℕ} 1 0
-neither h g (inl p) = absurd (omega arith)
-neither h g (inr p) = absurd (omega arith)
+not-few : {n ddof least : ℕ} → least ≤ n → ddof < n → (n ≤ ddof) ⊎ (n < least) → _≡_ {A = ℕ} 1 0
+not-few h g (inl p) = absurd (omega arith)
+not-few h g (inr p) = absurd (omega arith)
 
 -- ---- one trace
 module _ (q : Ask) (t : Trace) (l : Lent) (c : Known q t l) where
@@ -229,14 +229,14 @@ module _ (q : Ask) (t : Trace) (l : Lent) (c : Known q t l) where
         go true false true x y n =
             record {
               byte-is = inr refl;
-              missing = (λ z. absurd (omega arith), neither (leb-true _ _ x) (leb-false _ _ y));
+              missing = (λ z. absurd (omega arith), not-few (leb-true _ _ x) (leb-false _ _ y));
               not-finite = λ z f. absurd (some-bad f (eqb-true _ _ n));
               not-below = λ z. one-of _ _ (nan-or-at-least-zero (state .dp ⊘ (state .weight ⊖ count ddof)));
             }
         go true false false x y n =
             record {
               byte-is = inr refl;
-              missing = (λ z. absurd (omega arith), neither (leb-true _ _ x) (leb-false _ _ y));
+              missing = (λ z. absurd (omega arith), not-few (leb-true _ _ x) (leb-false _ _ y));
               not-finite = λ z f. refl;
               not-below = λ z. inl refl;
             }

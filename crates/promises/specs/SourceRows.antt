@@ -15,7 +15,8 @@ use Rattle.window.specs.Readings.{ReadingMoment}
 use Rattle.promises.specs.SourceWindow.{Rust, MomentWindow, updateNoNulls, newNoNulls, updateNulls, newNulls, getMoment, isValid}
 
 -- ---- 002
-module _ (M : ReadingMoment) (rust : Rust) (finalize : M .State → Figure) (values : List Float) (minPeriods : ℕ) (detOffsets : ℕ → ℕ × ℕ) where
+module _ (M : ReadingMoment) (rust : Rust) (finalize : M .State → Figure) (values : List Float) (minPeriods : ℕ)
+    (detOffsets : ℕ → ℕ × ℕ) where
   -- `out`: the k rows from idx on, with the window as the row before left it
   unfoldable pub outNoNulls : ℕ → ℕ → MomentWindow M → List Figure
   unfolding updateNoNulls getMoment
@@ -69,7 +70,8 @@ matched idx (Present val) true validity = (val, validity)
 matched idx (Present val) false validity = (zero64, set validity idx false)
 matched idx Missing valid validity = (zero64, set validity idx false)
 
-module _ (M : ReadingMoment) (rust : Rust) (finalize : M .State → Figure) (values : List Float) (map : List ℕ) (minPeriods : ℕ) (detOffsets : ℕ → ℕ × ℕ) where
+module _ (M : ReadingMoment) (rust : Rust) (finalize : M .State → Figure) (values : List Float) (map : List ℕ) (minPeriods : ℕ)
+    (detOffsets : ℕ → ℕ × ℕ) where
   -- `out`: the k rows from idx on, with the window and the validity as the row before left them
   unfoldable pub outNulls : ℕ → ℕ → MomentWindow M → List Bool → Array
   unfolding updateNulls getMoment
