@@ -1,4 +1,4 @@
-// The library's face to other languages: each entry of docs/ABI.md on whole arrays, ranges and states, with the whole contract
+// The library's face to other languages: each entry of docs/ABI.md on plans, whole arrays, ranges and states, with the whole contract
 // of what stands behind it. Nothing is required of a caller. A figure that is NaN has the bits 7FF8000000000000; a member of a
 // state may be any NaN.
 ghost use mathlib.Core.Path.{_≡_};
@@ -9,6 +9,8 @@ ghost use Rattle.moment.specs.Pearson.{pearsonInsert, pearsonCombine, pearsonFi
 ghost use Rattle.moment.specs.Skew.{skewInsert, skewCombine, skewFinalize};
 ghost use Rattle.moment.specs.Kurtosis.{kurtosisInsert, kurtosisCombine, kurtosisFinalize};
 ghost use Rattle.moment.specs.Arrays.{varAnswer, varNumber, varMembers, covAnswer, covNumber, covMembers, pearsonAnswer, pearsonNumber, pearsonMembers, skewAnswer, skewRange, skewNumber, skewMembers, kurtosisAnswer, kurtosisRange, kurtosisNumber, kurtosisMembers};
+ghost use Rattle.rolling.specs.Moments.{Asked, Variance, Skewness, Kurtosis};
+ghost use Rattle.rolling.specs.Calls.{ask, lent, CalledBytes};
 ghost use Rattle.moments.specs.Results.{StateResult, FigureResult};
 use moment::CovAnswer;
 use moment::CovState;
@@ -21,6 +23,109 @@ use moment::SkewAnswer;
 use moment::SkewState;
 use moment::VarAnswer;
 use moment::VarState;
+
+// Plans: the trace as little-endian bytes, decoded into `readings`; 0, or the number of the first refusal and every list as it
+// was.
+#[no_mangle]
+pub extern "C" fn moments_plan_var(
+    trace: &[u8],
+    readings: &mut [f64],
+    has_map: bool,
+    map: &[u8],
+    starts: &[u32],
+    ends: &[u32],
+    min_periods: usize,
+    ddof: u8,
+    work: &mut [f64],
+    figures: &mut [f64],
+    present: &mut [u8],
+) -> u32
+    ensures { λ r. ⌜ CalledBytes (ask (now (starts .entry)) (now (ends .entry)) «min_periods» (Variance ddof)) (now (trace .entry)) «has_map» (now (map .entry))
+        (now (readings .entry)) (now (readings .exit)) (lent (now (figures .entry)) (now (present .entry)) (now (work .entry)))
+        (lent (now (figures .exit)) (now (present .exit)) (now (work .exit))) r ⌝ }
+{
+    rolling::plan_var_bytes(
+        trace,
+        readings,
+        has_map,
+        map,
+        starts,
+        ends,
+        min_periods,
+        ddof,
+        work,
+        figures,
+        present,
+    )
+}
+
+#[no_mangle]
+pub extern "C" fn moments_plan_skew(
+    trace: &[u8],
+    readings: &mut [f64],
+    has_map: bool,
+    map: &[u8],
+    starts: &[u32],
+    ends: &[u32],
+    min_periods: usize,
+    bias: bool,
+    work: &mut [f64],
+    figures: &mut [f64],
+    present: &mut [u8],
+) -> u32
+    ensures { λ r. ⌜ CalledBytes (ask (now (starts .entry)) (now (ends .entry)) «min_periods» (Skewness bias)) (now (trace .entry)) «has_map» (now (map .entry))
+        (now (readings .entry)) (now (readings .exit)) (lent (now (figures .entry)) (now (present .entry)) (now (work .entry)))
+        (lent (now (figures .exit)) (now (present .exit)) (now (work .exit))) r ⌝ }
+{
+    rolling::plan_skew_bytes(
+        trace,
+        readings,
+        has_map,
+        map,
+        starts,
+        ends,
+        min_periods,
+        bias,
+        work,
+        figures,
+        present,
+    )
+}
+
+#[no_mangle]
+pub extern "C" fn moments_plan_kurtosis(
+    trace: &[u8],
+    readings: &mut [f64],
+    has_map: bool,
+    map: &[u8],
+    starts: &[u32],
+    ends: &[u32],
+    min_periods: usize,
+    fisher: bool,
+    bias: bool,
+    work: &mut [f64],
+    figures: &mut [f64],
+    present: &mut [u8],
+) -> u32
+    ensures { λ r. ⌜ CalledBytes (ask (now (starts .entry)) (now (ends .entry)) «min_periods» (Kurtosis fisher bias)) (now (trace .entry)) «has_map» (now (map .entry))
+        (now (readings .entry)) (now (readings .exit)) (lent (now (figures .entry)) (now (present .entry)) (now (work .entry)))
+        (lent (now (figures .exit)) (now (present .exit)) (now (work .exit))) r ⌝ }
+{
+    rolling::plan_kurtosis_bytes(
+        trace,
+        readings,
+        has_map,
+        map,
+        starts,
+        ends,
+        min_periods,
+        fisher,
+        bias,
+        work,
+        figures,
+        present,
+    )
+}
 
 // Whole arrays and ranges: 0 and the state's members, or a refusal's number and the state as it was.
 fn store_var(answer: VarAnswer, state: &mut [f64; 3]) -> u32
