@@ -3,23 +3,23 @@
 use Prim.Native.Nat.{ℕ, suc, _+_, _^_, _≤_, _<_}
 use mathlib.Core.Path.{_≡_, refl, sym, ap, _∙_, subst}
 use mathlib.Core.Bool.{Bool, true, false, cond}
-use mathlib.Core.List.{List, [], _∷_, foldl}
+use mathlib.Core.List.{List, [], _∷_, foldl, foldr}
 use native.Mathlib.Nat.{add-zero}
 use native.Mathlib.Omega.{arith}
 use lib.Dec.{T, eqb, leb, eqb→eq}
 use lib.ListN.{length}
 use lib.Ieee.{Float, eq, le}
 use Rattle.float.specs.Operators.{_⊕_, zero64, one64, count}
-use Rattle.float.proofs.Counts.{count-one, count-add, count-zero, count-le}
+use Rattle.float.proofs.Counts.{count-one, count-add, count-zero, count-le, zero-is}
 use Rattle.moment.specs.declared.var_state.VarState.{VarState}
 use Rattle.moment.specs.declared.cov_state.CovState.{CovState}
 use Rattle.moment.specs.declared.pearson_state.PearsonState.{PearsonState}
 use Rattle.moment.specs.declared.skew_state.SkewState.{SkewState}
 use Rattle.moment.specs.declared.kurtosis_state.KurtosisState.{KurtosisState}
-use Rattle.moment.specs.Var.{varClear, varInsert, varMerge, varCombine}
+use Rattle.moment.specs.Var.{varEmpty, varClear, varInsert, varMerge, varCombine}
 use Rattle.moment.specs.Cov.{covInsert, covMerge, covCombine}
 use Rattle.moment.specs.Pearson.{pearsonInsert, pearsonMerge, pearsonCombine}
-use Rattle.moment.specs.Skew.{skewClear, skewInsert, skewMerge, skewCombine}
+use Rattle.moment.specs.Skew.{skewEmpty, skewClear, skewInsert, skewMerge, skewCombine}
 use Rattle.moment.specs.Kurtosis.{kurtosisClear, kurtosisInsert, kurtosisMerge, kurtosisCombine}
 
 -- ---- a weight that is the float of a count, compared
@@ -39,6 +39,21 @@ module _ {S A : Type 0} (weight : S → Float) (insert : S → A → S) (raises 
   inserts-count (x ∷ xs) s a e h =
       inserts-count xs (insert s x) (a + 1) (raises s x ∙ ap (λ (w : Float). w ⊕ one64) e ∙ count-one a (omega arith)) (omega arith)
       ∙ ap count (let k : a + 1 + length xs ≡ a + suc (length xs) = omega arith in k)
+
+  -- the same in falling order
+  falls-count : (xs : List A) (s : S) → weight s ≡ count 0 → length xs ≤ 2 ^ 53 → weight (foldr (λ x t. insert t x) s xs) ≡ count (length xs)
+  falls-count [] s e h = e
+  falls-count (x ∷ xs) s e h =
+      raises _ x ∙ ap (λ (w : Float). w ⊕ one64) (falls-count xs s e (omega arith)) ∙ count-one (length xs) (omega arith)
+      ∙ ap count (let k : length xs + 1 ≡ suc (length xs) = omega arith in k)
+
+  -- a window: one part inserted in rising order, combined with another inserted in falling order
+  pub parts-count : (combine : S → S → S) → ((s o : S) (a b : ℕ) → a ≤ 2 ^ 53 → b ≤ 2 ^ 53 → weight s ≡ count a → weight o ≡ count b → weight (combine s o) ≡ count (a + b)) →
+      (empty : S) → weight empty ≡ count 0 → (xs ys : List A) → length xs + length ys ≤ 2 ^ 53 →
+      weight (combine (foldl insert empty xs) (foldr (λ x t. insert t x) empty ys)) ≡ count (length xs + length ys)
+  parts-count combine adds empty e xs ys h =
+      let k : 0 + length xs ≡ length xs = omega arith in
+      adds _ _ (length xs) (length ys) (omega arith) (omega arith) (inserts-count xs empty 0 e (omega arith) ∙ ap count k) (falls-count ys empty e (omega arith))
 
 -- what `combine` answers: the first where the other's weight is zero, the other where its own is zero, else the two merged
 module _ {S : Type 0} (weight : S → Float) (s o m : S) (a b : ℕ) (h : a ≤ 2 ^ 53) (k : b ≤ 2 ^ 53) (p : weight s ≡ count a) (q : weight o ≡ count b) (adds : weight m ≡ weight s ⊕ weight o) where
@@ -87,6 +102,10 @@ pub var-combine-count : (s o : VarState) (a b : ℕ) → a ≤ 2 ^ 53 → b ≤ 
 unfolding varCombine
 var-combine-count s o a b h k p q = merged-count varWeight s o (varMerge s o) a b h k p q (var-cleared _)
 
+pub var-parts-count : (xs ys : List Float) → length xs + length ys ≤ 2 ^ 53 →
+    varCombine (foldl varInsert varEmpty xs) (foldr (λ x s. varInsert s x) varEmpty ys) .weight ≡ count (length xs + length ys)
+var-parts-count = parts-count varWeight varInsert (λ s x. var-cleared _) varCombine var-combine-count varEmpty zero-is
+
 -- ---- skewness
 abbrev skewWeight : SkewState → Float
 skewWeight s = s .weight
@@ -101,6 +120,10 @@ skew-inserts-count = inserts-count skewWeight skewInsert (λ s x. skew-cleared _
 pub skew-combine-count : (s o : SkewState) (a b : ℕ) → a ≤ 2 ^ 53 → b ≤ 2 ^ 53 → s .weight ≡ count a → o .weight ≡ count b → skewCombine s o .weight ≡ count (a + b)
 unfolding skewCombine
 skew-combine-count s o a b h k p q = combined-count skewWeight s o (skewMerge s o) a b h k p q (skew-cleared _)
+
+pub skew-parts-count : (xs ys : List Float) → length xs + length ys ≤ 2 ^ 53 →
+    skewCombine (foldl skewInsert skewEmpty xs) (foldr (λ x s. skewInsert s x) skewEmpty ys) .weight ≡ count (length xs + length ys)
+skew-parts-count = parts-count skewWeight skewInsert (λ s x. skew-cleared _) skewCombine skew-combine-count skewEmpty zero-is
 
 -- ---- kurtosis
 abbrev kurtosisWeight : KurtosisState → Float

@@ -82,9 +82,15 @@ skewBiased s =
 abbrev pub skewCorrection : Float → Float
 skewCorrection n = root (n ⊗ (n ⊖ one64)) ⊘ (n ⊖ two64)
 
--- `SkewState::finalize`: "missing: .. biased skewness or kurtosis when weight is 0; unbiased when weight ≤ 2"
-unfoldable pub skewFinalize : SkewState → Bool → Figure
-skewFinalize s bias =
+-- `SkewState::finalize`, of a correction that is at hand: "missing: .. biased skewness or kurtosis when weight is 0; unbiased when
+-- weight ≤ 2"
+unfoldable pub skewFinalizeWith : SkewState → Bool → Float → Figure
+skewFinalizeWith s bias correction =
     let n = s .weight in
     cond bias (cond (eq n zero64) Missing (Present (skewBiased s)))
-    (cond (le n two64) Missing (Present (skewCorrection n ⊗ skewBiased s)))
+    (cond (le n two64) Missing (Present (correction ⊗ skewBiased s)))
+
+-- `SkewState::finalize`
+unfoldable pub skewFinalize : SkewState → Bool → Figure
+unfolding skewFinalizeWith
+skewFinalize s bias = skewFinalizeWith s bias (skewCorrection (s .weight))

@@ -3,7 +3,7 @@ ghost use mathlib.Core.Path.{_≡_};
 ghost use Prim.Native.Nat.{_+_, _^_, _<_};
 ghost use lib.ListN.{length};
 ghost use Rattle.trace.specs.Trace.{validAt, validFrom};
-ghost use Rattle.moment.specs.Skew.{skewEmpty, skewAbout, skewNew, skewClear, skewInsert, skewMerge, skewCombine, skewBiased, skewCorrection, skewFinalize};
+ghost use Rattle.moment.specs.Skew.{skewEmpty, skewAbout, skewNew, skewClear, skewInsert, skewMerge, skewCombine, skewBiased, skewCorrection, skewFinalize, skewFinalizeWith};
 ghost use Rattle.moment.specs.Arrays.{skewRange};
 use crate::Figure;
 use crate::SkewAnswer;
@@ -195,14 +195,15 @@ impl SkewState {
         m3 / (m2 * root::root(m2))
     }
 
-    fn correction(n: f64) -> f64
+    pub fn correction(n: f64) -> f64
         ensures { λ r. ⌜ r ≡ skewCorrection n ⌝ }
     {
         root::root(n * (n - 1.0)) / (n - 2.0)
     }
 
-    pub fn finalize(self, bias: bool) -> Figure
-        ensures { λ r. ⌜ r ≡ skewFinalize self bias ⌝ }
+    // `finalize` with the correction of its weight, which many states may share; a biased estimate does without.
+    pub fn finalize_with(self, bias: bool, correction: f64) -> Figure
+        ensures { λ r. ⌜ r ≡ skewFinalizeWith self bias correction ⌝ }
     {
         let biased_est = self.biased();
         if bias {
@@ -214,7 +215,16 @@ impl SkewState {
         if self.weight <= 2.0 {
             return Figure::Missing;
         }
-        Figure::Present(SkewState::correction(self.weight) * biased_est)
+        Figure::Present(correction * biased_est)
+    }
+
+    pub fn finalize(self, bias: bool) -> Figure
+        ensures { λ r. ⌜ r ≡ skewFinalize self bias ⌝ }
+    {
+        if bias {
+            return self.finalize_with(bias, 0.0);
+        }
+        self.finalize_with(bias, SkewState::correction(self.weight))
     }
 
     // One unchunked state of the valid readings of a range. The range is lent as a part that starts in the trace's middle.

@@ -1,2 +1,3 @@
 pub mod Rolling
 pub mod Calls
+pub mod Corrections

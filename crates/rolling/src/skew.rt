@@ -5,7 +5,8 @@ ghost use mathlib.Core.Bool.{false};
 ghost use mathlib.Core.List.{_++_};
 ghost use Prim.Native.Nat.{_+_, _*_, _≤_, _<_};
 ghost use lib.ListN.{length, take, drop};
-ghost use Rattle.moment.specs.Skew.{skewCombine, skewFinalize};
+ghost use Rattle.float.specs.Operators.{count};
+ghost use Rattle.moment.specs.Skew.{skewCombine, skewCorrection, skewFinalize};
 ghost use Rattle.trace.specs.Trace.{validAt};
 ghost use Rattle.window.specs.Places.{validCount};
 ghost use Rattle.window.specs.Window.{restarted, left, entered, moved, spoilt};
@@ -13,6 +14,7 @@ ghost use Rattle.window.specs.Readings.{series, ofReadings};
 ghost use Rattle.window.specs.Rows.{stepped};
 ghost use Rattle.window.specs.Stacks.{inMemory, frontStack, account, Counted, Leaves, Held, Pushed, topOf, answerBy, Ready, Accepted};
 ghost use Rattle.rolling.specs.Moments.{Asked, Skewness, skewLayout, skewness};
+ghost use Rattle.rolling.specs.Corrections.{Corrections};
 ghost use Rattle.rolling.specs.Calls.{planOf, ask, lent, traceOf, Written};
 use crate::leaving;
 use crate::leaving::Left;
@@ -44,6 +46,9 @@ impl SkewMoment {
     pub const STATE: usize = 4;
 
     pub const PLACE: usize = 5;
+
+    // Counts whose correction is kept.
+    const SLOTS: usize = 64;
 
     // The n readings of the back stack become the front stack, the last of them at its bottom.
     fn flip(work: &mut [f64], base: usize, n: usize)
@@ -297,14 +302,42 @@ impl SkewMoment {
         w
     }
 
+    // The correction for a count of readings. Rows of one count share it: a root and a division less for each.
+    fn correction(self, counts: &mut [u64], factors: &mut [f64], valid: usize) -> f64
+        requires { ⌜ Corrections (now counts) (now factors) ⌝ }
+        ensures { λ r. ⌜ (self .bias ≡ false → r ≡ skewCorrection (count valid)) × Corrections (now (counts .exit)) (now (factors .exit)) ⌝ }
+    {
+        if self.bias {
+            return 0.0;
+        }
+        let slot = valid % SkewMoment::SLOTS;
+        let n = valid as u64;
+        if counts[slot] == n {
+            return factors[slot];
+        }
+        let factor = SkewState::correction(std::num::nearest_u64_to_f64(n));
+        counts[slot] = n;
+        factors[slot] = factor;
+        factor
+    }
+
     // 001's `get_moment`.
-    fn get_moment(self, work: &[f64], w: SkewWindow) -> Figure
-        requires { ⌜ 4 * w .window .front ≤ length (now work) ⌝ }
-        ensures { λ r. ⌜ r ≡ spoilt (w .window .bad) (skewFinalize (skewCombine (w .«agg_back») (topOf (ofReadings skewness) (now (work .entry)) (w .window .front))) (self .bias)) ⌝ }
+    fn get_moment(
+        self,
+        work: &[f64],
+        w: SkewWindow,
+        counts: &mut [u64],
+        factors: &mut [f64],
+    ) -> Figure
+        requires { ⌜ (4 * w .window .front ≤ length (now work)) × (w .window .front + w .window .back ≤ w .window .end) × Corrections (now counts) (now factors)
+            × (skewCombine (w .«agg_back») (topOf (ofReadings skewness) (now work) (w .window .front)) .weight ≡ count (w .window .front + w .window .back)) ⌝ }
+        ensures { λ r. ⌜ (r ≡ spoilt (w .window .bad) (skewFinalize (skewCombine (w .«agg_back») (topOf (ofReadings skewness) (now (work .entry)) (w .window .front))) (self .bias)))
+            × Corrections (now (counts .exit)) (now (factors .exit)) ⌝ }
     {
         let agg_back = w.agg_back;
         let state = agg_back.combine(SkewMoment::last(work, w.window.front));
-        window::spoil(state.finalize(self.bias), w.window.bad)
+        let correction = self.correction(counts, factors, w.window.front + w.window.back);
+        window::spoil(state.finalize_with(self.bias, correction), w.window.bad)
     }
 
     // The row's answer, of the window after its step.
@@ -312,17 +345,21 @@ impl SkewMoment {
         self,
         work: &[f64],
         w: SkewWindow,
+        counts: &mut [u64],
+        factors: &mut [f64],
         has_map: bool,
         min_periods: usize,
         start: usize,
         end: usize,
     ) -> Figure
-        requires { ⌜ (4 * w .window .front ≤ length (now work)) × (w .window .front + w .window .back ≤ w .window .end) × (start ≤ end) ⌝ }
-        ensures { λ r. ⌜ r ≡ answerBy (ofReadings skewness) (λ z. skewFinalize z (self .bias)) «has_map» «min_periods» start end (w .window) (w .«agg_back») (now (work .entry)) ⌝ }
+        requires { ⌜ (4 * w .window .front ≤ length (now work)) × (w .window .front + w .window .back ≤ w .window .end) × (start ≤ end) × Corrections (now counts) (now factors)
+            × (skewCombine (w .«agg_back») (topOf (ofReadings skewness) (now work) (w .window .front)) .weight ≡ count (w .window .front + w .window .back)) ⌝ }
+        ensures { λ r. ⌜ (r ≡ answerBy (ofReadings skewness) (λ z. skewFinalize z (self .bias)) «has_map» «min_periods» start end (w .window) (w .«agg_back») (now (work .entry)))
+            × Corrections (now (counts .exit)) (now (factors .exit)) ⌝ }
     {
         let valid = w.window.front + w.window.back;
         if row::is_valid(has_map, min_periods, valid, start, end) {
-            return self.get_moment(work, w);
+            return self.get_moment(work, w, counts, factors);
         }
         Figure::Missing
     }
@@ -356,6 +393,9 @@ impl SkewMoment {
             },
             agg_back: SkewState::default(),
         };
+        let mut counts = [0u64; 64];
+        let none = SkewState::correction(0.0);
+        let mut factors = [none; 64];
         let mut row = 0;
         while row < starts.len() {
             let start = plan::place(starts[row]);
@@ -372,7 +412,16 @@ impl SkewMoment {
                 start,
                 end,
             );
-            let figure = self.answer(work, w, has_map, min_periods, start, end);
+            let figure = self.answer(
+                work,
+                w,
+                &mut counts,
+                &mut factors,
+                has_map,
+                min_periods,
+                start,
+                end,
+            );
             row::write(figures, present, row, figure);
             row += 1;
         }

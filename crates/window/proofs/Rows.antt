@@ -44,17 +44,17 @@ module _ (M : Moment) where
       (M .inFront .loaded s rest)
 
   module _ (final : M .State → Figure) (t : Series (M .Entry)) (base : ℕ) (w : Window) (agg : M .State) (work : List Float) (held : Held M t base w agg work) where
-    pub figure-is : spoilt (w .bad) (final (M .combine agg (topOf M work (w .front)))) ≡ figureOf M final t (account w)
-    unfolding figureOf
-    figure-is =
-        let c = held .numbers in
+    pub top-is : topOf M work (w .front) ≡ falling M (front t (account w))
+    top-is =
         let p : work ≡ inMemory (M .inFront) (frontStack M (front t (account w))) ++ drop (M .inFront .width * w .front) work =
         sym (take-append-drop (M .inFront .width * w .front) work)
         ∙ ap (λ (y : List Float). y ++ drop (M .inFront .width * w .front) work) (held .front-at) in
-        let q : topOf M work (w .front) ≡ falling M (front t (account w)) =
         ap (λ (y : List Float). topOf M y (w .front)) p
-        ∙ rw (c .front-is) (top-of (front t (account w)) (drop (M .inFront .width * length (front t (account w))) work)) in
-        rw (q, c .bad-is, held .agg-is)
+        ∙ rw (held .numbers .front-is) (top-of (front t (account w)) (drop (M .inFront .width * length (front t (account w))) work))
+
+    pub figure-is : spoilt (w .bad) (final (M .combine agg (topOf M work (w .front)))) ≡ figureOf M final t (account w)
+    unfolding figureOf
+    figure-is = rw (top-is, held .numbers .bad-is, held .agg-is)
 
     -- the answer, by the window's numbers
     module _ (least s e : ℕ) (h : t .mapped ≡ true → (w .start ≡ s) × (w .end ≡ e)) where
@@ -187,6 +187,9 @@ module _ (M : Moment) (final : M .State → Figure) (t : Series (M .Entry)) (lea
         let o : w' .front ≤ widest = omega arith in
         let r = row-ready .row in
         (le-trans (mul-le-mul-left (M .inFront .width) o) room, omega arith, r)
+
+    pub row-inside : (w' : Window) → Moved w' s e → w' .end ≤ n
+    row-inside w' y = row-stepped w' y .inside
 
     pub row-next : {w' : Window} {agg' : M .State} {work' out' : List Float} {pr' : List ℕ} {f : Figure} →
         Moved w' s e → Held M t (M .inFront .width * widest) w' agg' work' → length work' ≡ length work → drop need work' ≡ drop need work →

@@ -1,4 +1,4 @@
--- Row after row the window holds the account, and the outputs its answers. Assumes nothing.
+-- Row after row the window holds the account, the outputs its answers, and the slots their corrections. Assumes nothing.
 use Prim.Native.Nat.{ℕ, _+_, _-_, _*_, _≤_, _<_}
 use mathlib.Core.Path.{_≡_, sym, _∙_}
 use native.Mathlib.Omega.{arith}
@@ -7,25 +7,31 @@ use lib.ListN.{length}
 use Rattle.moment.specs.Skew.{skewFinalize}
 use Rattle.window.specs.Refusals.{filled, kept}
 use Rattle.window.specs.Readings.{series, ofReadings}
-use Rattle.window.proofs.Rows.{Row, row-start, row-ready, row-fits, row-next, row-done}
+use Rattle.window.proofs.Rows.{Row, row-start, row-ready, row-fits, row-inside, row-next, row-done}
 use Rattle.rolling.specs.Moments.{skewness}
 use Rattle.rolling.specs.Calls.{planOf}
+use Rattle.rolling.specs.Corrections.{Corrections}
+use Rattle.rolling.proofs.Corrections.{window-weight, first-slots}
 use Rattle.rolling.proofs.skew.SkewMoment.rows.Statement.{statement}
 use Rattle.rolling.proofs.skew.SkewMoment.rows.Tie as tie
 
 abbrev Inv-loop : tie.InvT-loop
-Inv-loop self values has-map map starts ends min-periods widest work₀ figures₀ present₀ w₀ row₀ work figures present w row =
+Inv-loop self values has-map map starts ends min-periods widest work₀ figures₀ present₀ w₀ counts₀ none factors₀ row₀ work figures present w counts factors row =
     Row (ofReadings skewness) (λ z. skewFinalize z (self .bias)) (series has-map map values) min-periods (length values) widest (planOf starts ends)
     work₀ figures₀ present₀ (5 * widest) work figures present (w .window) (w .«agg_back») row
+    × Corrections counts factors
 
 abbrev μ-loop : tie.MeasureT-loop
-μ-loop self values has-map map starts ends min-periods widest work₀ figures₀ present₀ w₀ row₀ work figures present w row = length starts - row
+μ-loop self values has-map map starts ends min-periods widest work₀ figures₀ present₀ w₀ counts₀ none factors₀ row₀ work figures present w counts factors row = length starts - row
 
 default-requires : tie.Need-default-requires Inv-loop μ-loop
 default-requires c κs = search needs
 
+correction-requires : tie.Need-correction-requires Inv-loop μ-loop
+correction-requires c κs = search needs
+
 loop-holds : tie.Need-loop-holds Inv-loop μ-loop
-loop-holds c = row-start (ofReadings skewness) _ _ _ _ _ _ _ _ _ _ _ (c .default .ensures)
+loop-holds c = (row-start (ofReadings skewness) _ _ _ _ _ _ _ _ _ _ _ (c .before .default .ensures), first-slots _ (c .correction .ensures))
 
 mul-place : tie.Need-mul-place Inv-loop μ-loop
 mul-place c = search needs
@@ -37,7 +43,7 @@ place-requires : tie.Need-place-requires Inv-loop μ-loop
 place-requires c κs = search needs
 
 abbrev start : tie.In-loop Inv-loop μ-loop → tie.Start Inv-loop μ-loop
-start i = i .before .before .before .before .before .before .before .before .before .before
+start i = i .before .before .before .before .before .before .before .before .before .before .before
 
 ends-too : (i : tie.In-loop Inv-loop μ-loop) → i .before .loop .row < length (start i .args .ends .now)
 ends-too i = let e = start i .pre .plan .same in let h = i .loop-test .taken in omega arith
@@ -56,51 +62,65 @@ step-requires c κs =
     let r = c .before in
     let i = r .before .before .before .before in
     let s = start i in
-    let row = i .before .loop .inv in
+    let row = i .before .loop .inv .0 in
     let l = row .work-same in
     let y = s .pre .work-fits in
     (row .held, row-ready (ofReadings skewness) _ _ _ _ _ _ (s .pre .plan) row (i .loop-test .taken) _ _ (r .before .before .place .ensures) (r .place2 .ensures), omega arith)
 
+slice-aggregate-answer : tie.Need-slice-aggregate-answer Inv-loop μ-loop
+slice-aggregate-answer c = search needs
+
+slice-aggregate-answer-2 : tie.Need-slice-aggregate-answer-2 Inv-loop μ-loop
+slice-aggregate-answer-2 c = search needs
+
 answer-requires : tie.Need-answer-requires Inv-loop μ-loop
 answer-requires c κs =
-    let r = c .before .before .before .before .before in
+    let r = c .before .before .before .before .before .before .before in
     let i = r .before .before .before .before in
     let s = start i in
-    let row = i .before .loop .inv in
-    let q = c .before .before .before .step in
+    let row = i .before .loop .inv .0 in
+    let q = c .before .before .before .before .before .step in
     let l = row .work-same in
     let n = q .kept .0 in
     let y = s .pre .work-fits in
-    row-fits (ofReadings skewness) _ _ _ _ _ _ (s .pre .plan) row (i .loop-test .taken) _ _ (r .before .before .place .ensures) (r .place2 .ensures)
-    (q .result .window) _ _ (q .ensures .1 .0) (q .ensures .0) (omega arith)
+    let f = row-fits (ofReadings skewness) _ _ _ _ _ _ (s .pre .plan) row (i .loop-test .taken) _ _ (r .before .before .place .ensures) (r .place2 .ensures)
+    (q .result .window) _ _ (q .ensures .1 .0) (q .ensures .0) (omega arith) in
+    let o = row-inside (ofReadings skewness) _ _ _ _ _ _ (s .pre .plan) row (i .loop-test .taken) _ _ (r .before .before .place .ensures) (r .place2 .ensures)
+    (q .result .window) (q .ensures .1 .0) in
+    let m = s .pre .few in
+    let k = f .1 in
+    (f .0, f .1, f .2, i .before .loop .inv .1, window-weight (λ z. skewFinalize z (s .args .self .bias)) _ _ (q .result .window) _ _ (q .ensures .0) (omega arith))
 
 write-requires : tie.Need-write-requires Inv-loop μ-loop
 write-requires c κs =
-    let i = c .before .before .before .before .before .before .before .before .before .before .before .before in
+    let i = c .before .before .before .before .before .before .before .before .before .before .before .before .before .before .before .before in
     let s = start i in
     let h = i .loop-test .taken in
-    let o = i .before .loop .inv .out-same in
-    let p = i .before .loop .inv .pr-same in
+    let o = i .before .loop .inv .0 .out-same in
+    let p = i .before .loop .inv .0 .pr-same in
     let y = s .pre .figures-fit in
     let z = s .pre .present-fit in
     (omega arith, omega arith)
 
 add-row : tie.Need-add-row Inv-loop μ-loop
-add-row c = let i = c .before .before .before .before .before .before .before .before .before .before .before .before .before .before .before .before .before in omega (arith, i .loop-test .taken, start i)
+add-row c = let i = c .before .before .before .before .before .before .before .before .before .before .before .before .before .before .before .before .before .before .before .before .before in omega (arith, i .loop-test .taken, start i)
 
 loop-less : tie.Need-loop-less Inv-loop μ-loop
 loop-less c = search needs
 
 loop-again : tie.Need-loop-again Inv-loop μ-loop
 loop-again c =
-    let r = c .before .before .before .before .before .before .before .before .before .before .before .before .before in
+    let r = c .before .before .before .before .before .before .before .before .before .before .before .before .before .before .before .before .before in
     let i = r .before .before .before .before in
     let s = start i in
-    let q = c .before .before .before .before .before .before .before .before .before .before .before .step in
+    let q = c .before .before .before .before .before .before .before .before .before .before .before .before .before .before .before .step in
     let p = c .before .before .before .before .write .ensures in
-    row-next (ofReadings skewness) _ _ _ _ _ _ (s .pre .plan) (i .before .loop .inv) (i .loop-test .taken) _ _ (r .before .before .place .ensures) (r .place2 .ensures)
-    (q .ensures .1 .0) (q .ensures .0) (q .kept .0) (q .ensures .1 .1) (c .before .before .before .before .before .before .before .answer .ensures)
-    (s .pre .figures-fit) (s .pre .present-fit) (p .0) (p .1)
+    let f = c .before .before .before .before .before .before .before .before .before .answer .ensures in (
+      row-next (ofReadings skewness) _ _ _ _ _ _ (s .pre .plan) (i .before .loop .inv .0) (i .loop-test .taken) _ _ (r .before .before .place .ensures) (r .place2 .ensures)
+          (q .ensures .1 .0) (q .ensures .0) (q .kept .0) (q .ensures .1 .1) (f .0)
+          (s .pre .figures-fit) (s .pre .present-fit) (p .0) (p .1),
+      f .1,
+    )
 
 same-length : tie.Need-same-length Inv-loop μ-loop
 same-length c = search needs
@@ -114,8 +134,8 @@ same-length-3 c = search needs
 returns : tie.Need-returns Inv-loop μ-loop
 unfolding filled kept
 returns c =
-    let s = c .before .before .before .before .before .before .before .before .before .before in
-    let d = row-done (ofReadings skewness) _ _ _ _ _ _ (c .before .loop .inv) (c .loop-test .left) in
+    let s = c .before .before .before .before .before .before .before .before .before .before .before in
+    let d = row-done (ofReadings skewness) _ _ _ _ _ _ (c .before .loop .inv .0) (c .loop-test .left) in
     record { figures-are = d .0; present-are = d .1; work-kept = rw (← s .pre .wide-is) (d .2) }
 
 pub rows-spec : {M : Type 1} → statement M
@@ -125,6 +145,7 @@ rows-spec =
     Inv-loop
     μ-loop
     default-requires
+    correction-requires
     loop-holds
     mul-place
     shared-slice-read-place
@@ -133,6 +154,8 @@ rows-spec =
     shared-slice-read-place-2
     place-requires-2
     step-requires
+    slice-aggregate-answer
+    slice-aggregate-answer-2
     answer-requires
     write-requires
     add-row

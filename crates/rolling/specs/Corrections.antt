@@ -1,0 +1,15 @@
+-- The corrections of skewness that the rows of a plan share, as the private contracts of `SkewMoment` state them. No promise rests on
+-- this file. Assumes nothing.
+use Prim.Native.Nat.{ℕ, _<_}
+use mathlib.Core.Path.{_≡_}
+use mathlib.Core.List.{List}
+use lib.ListN.{length, getD}
+use lib.Ieee.{Float, nan}
+use Rattle.float.specs.Operators.{count}
+use Rattle.moment.specs.Skew.{skewCorrection}
+
+-- in each of 64 slots a count of readings and its correction
+pub record Corrections (counts : List ℕ) (factors : List Float) : Type 0 where
+  pub counts-long : length counts ≡ 64
+  pub factors-long : length factors ≡ 64
+  pub slot : (i : ℕ) → i < 64 → getD factors i nan ≡ skewCorrection (count (getD counts i 0))
