@@ -11,7 +11,7 @@ pub fn not_a_number() -> f64
     0.0 / 0.0
 }
 
-// x, with the one pattern for a NaN: every figure that `moments` hands out goes through this.
+// x, with the one pattern for a NaN: a figure that `moments` hands out goes through this, or is written so (`rolling`'s rows).
 pub fn canonical(x: f64) -> f64
     ensures { λ r. ⌜ r ≡ x ⌝ }
 {

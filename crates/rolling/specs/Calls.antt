@@ -1,6 +1,6 @@
 -- Document 01, "A plan call, from bytes to figures": what a call without weights is given, what it answers and what it leaves in
 -- the lists that it is lent. The contract of each call of this crate is one of the records below. Assumes nothing.
-use Prim.Native.Nat.{ℕ, _+_, _*_, _/_, _%_}
+use Prim.Native.Nat.{ℕ, _/_, _%_}
 use mathlib.Core.Path.{_≡_}
 use mathlib.Core.Bool.{Bool, false, not}
 use mathlib.Core.List.{List}
@@ -15,7 +15,7 @@ use Rattle.window.specs.Places.{Series}
 use Rattle.window.specs.Readings.{series}
 use Rattle.window.specs.Rows.{Plan, rows, answerAt, table}
 use Rattle.window.specs.Refusals.{planRefusal, needed, filled, kept}
-use Rattle.rolling.specs.Moments.{Asked, momentOf, finalOf}
+use Rattle.rolling.specs.Moments.{Asked, Variance, Skewness, Kurtosis, momentOf, finalOf}
 
 -- "A trace is n doubles", with its validity map "where one is lent"
 pub record Trace : Type 0 where
@@ -35,6 +35,7 @@ pub record Lent : Type 0 where
   pub present : List ℕ
   pub work : List Float
 
+-- the records above, of their parts
 abbrev pub planOf : List ℕ → List ℕ → Plan
 planOf starts ends = record { starts = starts; ends = ends }
 
@@ -47,10 +48,13 @@ lent figures present work = record { figures = figures; present = present; work 
 abbrev pub traceOf : List Float → Bool → List ℕ → Trace
 traceOf readings has map = record { readings = readings; mapped = has; map = map }
 
--- Work slice: "for variance 4, skewness 5, kurtosis 6 doubles", a state of the front stack and a reading of the back stack
+-- Work slice: "for variance 4, skewness 5, kurtosis 6 doubles"
 abbrev pub each : Asked → ℕ
-each asked = momentOf asked .inFront .width + momentOf asked .inBack .width
+each (Variance ddof) = 4
+each (Skewness bias) = 5
+each (Kurtosis fisher bias) = 6
 
+-- a trace as the series of a window
 abbrev pub seriesOf : Trace → Series Float
 seriesOf t = series (t .mapped) (t .map) (t .readings)
 
@@ -65,24 +69,27 @@ pub record Written (q : Ask) (t : Trace) (l₀ l₁ : Lent) (number : ℕ) : Typ
   pub present-are : l₁ .present ≡ filled number (λ k. byteOf (yields q t k)) (rows (q .plan)) (l₀ .present)
   pub work-kept : kept number (needed (each (q .figure)) (q .plan)) (l₀ .work) (l₁ .work)
 
+-- the first refusal of a call over n readings, with the lists l; `short` says that a list of readings is lent that is too short
+abbrev pub refusalOf : Ask → ℕ → Bool → List ℕ → Bool → Lent → ℕ
+refusalOf q n has map short l =
+    planRefusal (each (q .figure)) n has map (q .plan) short (length (l .figures)) (length (l .present)) (length (l .work))
+
 -- a plan call, the trace as doubles
 pub record Called (q : Ask) (t : Trace) (l₀ l₁ : Lent) (number : ℕ) : Type 0 where
-  pub number-is : number
-      ≡ planRefusal (each (q .figure)) (length (t .readings)) (t .mapped) (t .map) (q .plan) false (length (l₀ .figures))
-      (length (l₀ .present)) (length (l₀ .work))
+  pub number-is : number ≡ refusalOf q (length (t .readings)) (t .mapped) (t .map) false l₀
   pub written : Written q t l₀ l₁ number
 
 -- Host call: "traces as little-endian bytes, eight a reading"
 abbrev pub decoded : List ℕ → Bool → List ℕ → Trace
-decoded bytes has map = record { readings = table (readingAt bytes) (length bytes / 8); mapped = has; map = map }
+decoded bytes has map = traceOf (table (readingAt bytes) (length bytes / 8)) has map
 
 -- a plan call, the trace as bytes: "14 before all"; 12 also for "a reading list shorter than n". "An accepted call decodes the
--- readings .. into a lent list of doubles, whose places past n keep their contents."
+-- readings, bits unchanged, into a lent list of doubles, whose places past n keep their contents.": but for a NaN's bits, since the
+-- logic has one NaN (docs/DIFFERENCES.md)
 pub record CalledBytes (q : Ask) (bytes : List ℕ) (has : Bool) (map : List ℕ) (readings₀ readings₁ : List Float) (l₀ l₁ : Lent)
     (number : ℕ) : Type 0 where
   pub number-is : number
       ≡ refusal 14 (not (eqb (length bytes % 8) 0))
-      orElse planRefusal (each (q .figure)) (length bytes / 8) has map (q .plan) (ltb (length readings₀) (length bytes / 8))
-      (length (l₀ .figures)) (length (l₀ .present)) (length (l₀ .work))
+      orElse refusalOf q (length bytes / 8) has map (ltb (length readings₀) (length bytes / 8)) l₀
   pub readings-are : readings₁ ≡ filled number (readingAt bytes) (length bytes / 8) readings₀
   pub written : Written q (decoded bytes has map) l₀ l₁ number

@@ -72,11 +72,13 @@ pub data Asked : Type 0 where
   Skewness : (bias : Bool) → Asked
   Kurtosis : (fisher bias : Bool) → Asked
 
+-- which moment keeps the figure's states
 abbrev pub readingMomentOf : Asked → ReadingMoment
 readingMomentOf (Variance ddof) = variance
 readingMomentOf (Skewness bias) = skewness
 readingMomentOf (Kurtosis fisher bias) = kurtosis
 
+-- the same, with readings for its entries
 abbrev pub momentOf : Asked → Moment
 momentOf asked = ofReadings (readingMomentOf asked)
 

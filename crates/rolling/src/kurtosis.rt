@@ -5,13 +5,13 @@ ghost use mathlib.Core.Bool.{false};
 ghost use mathlib.Core.List.{_++_};
 ghost use Prim.Native.Nat.{_+_, _*_, _≤_, _<_};
 ghost use lib.ListN.{length, take, drop};
-ghost use Rattle.moment.specs.Kurtosis.{kurtosisCombine, kurtosisFinalize};
+ghost use Rattle.moment.specs.Kurtosis.{kurtosisEmpty, kurtosisCombine, kurtosisFinalize};
 ghost use Rattle.trace.specs.Trace.{validAt};
 ghost use Rattle.window.specs.Places.{validCount};
 ghost use Rattle.window.specs.Window.{restarted, left, entered, moved, spoilt};
 ghost use Rattle.window.specs.Readings.{series, ofReadings};
 ghost use Rattle.window.specs.Rows.{stepped};
-ghost use Rattle.window.specs.Stacks.{inMemory, frontStack, account, Counted, Leaves, Held, Pushed, topOf, answerBy, Ready, Accepted};
+ghost use Rattle.window.specs.Stacks.{inMemory, frontStack, account, Counted, Leaves, Held, Pushed, topOf, answerBy, Movable, Moves, Accepted};
 ghost use Rattle.rolling.specs.Moments.{Asked, Kurtosis, kurtosisLayout, kurtosis};
 ghost use Rattle.rolling.specs.Calls.{planOf, ask, lent, traceOf, Written};
 use crate::leaving;
@@ -41,17 +41,25 @@ pub struct KurtosisPushed {
 }
 
 impl KurtosisMoment {
-    // Doubles of a state, and of a place of the window in both stacks.
-    pub const STATE: usize = 5;
+    // Doubles of a state on the front stack, of an entry on the back stack, and of a place of the window in both.
+    const STATE: usize = 5;
 
-    pub const PLACE: usize = 6;
+    const ENTRY: usize = 1;
+
+    pub const PLACE: usize = KurtosisMoment::STATE + KurtosisMoment::ENTRY;
+
+    fn empty() -> KurtosisState
+        ensures { λ r. ⌜ r ≡ kurtosisEmpty ⌝ }
+    {
+        KurtosisState::default()
+    }
 
     // The n readings of the back stack become the front stack, the last of them at its bottom.
     fn flip(work: &mut [f64], base: usize, n: usize)
         requires { ⌜ (5 * n ≤ base) × (base + n ≤ length (now work)) ⌝ }
         ensures { λ _. ⌜ now (work .exit) ≡ inMemory kurtosisLayout (frontStack (ofReadings kurtosis) (take n (drop base (now (work .entry))))) ++ drop (5 * n) (now (work .entry)) ⌝ }
     {
-        let mut agg = KurtosisState::default();
+        let mut agg = KurtosisMoment::empty();
         let mut at: usize = 0;
         let mut j = n;
         while 0 < j {
@@ -114,7 +122,7 @@ impl KurtosisMoment {
         ensures { λ r. ⌜ r ≡ topOf (ofReadings kurtosis) (now (work .entry)) n ⌝ }
     {
         if n == 0 {
-            return KurtosisState::default();
+            return KurtosisMoment::empty();
         }
         let at = KurtosisMoment::STATE * (n - 1);
         KurtosisState {
@@ -182,10 +190,9 @@ impl KurtosisMoment {
         w: KurtosisWindow,
         start: usize,
     ) -> KurtosisWindow
-        requires { ⌜ Held (ofReadings kurtosis) (series «has_map» (now map) (now values)) base (w .window) (w .«agg_back») (now work) × (w .window .start ≤ start) × (start ≤ length (now values))
-            × (w .window .end ≤ length (now values)) × (5 * w .window .back ≤ base) × (base + w .window .back ≤ length (now work)) ⌝ }
-        ensures { λ q. ⌜ Held (ofReadings kurtosis) (series «has_map» (now (map .entry)) (now (values .entry))) base (q .window) (q .«agg_back») (now (work .exit)) ⌝ }
-        ensures { λ q. ⌜ (account (q .window) ≡ left (validAt «has_map» (now (map .entry))) (restarted (account (w .window)) start) start) × (drop base (now (work .exit)) ≡ drop base (now (work .entry))) ⌝ }
+        requires { ⌜ Held (ofReadings kurtosis) (series «has_map» (now map) (now values)) base (w .window) (w .«agg_back») (now work) × (w .window .start ≤ start)
+            × (start ≤ length (now values)) × (w .window .end ≤ length (now values)) × (5 * w .window .back ≤ base) × (base + w .window .back ≤ length (now work)) ⌝ }
+        ensures { λ q. ⌜ Moves (ofReadings kurtosis) (series «has_map» (now (map .entry)) (now (values .entry))) base base (left (validAt «has_map» (now (map .entry))) (restarted (account (w .window)) start) start) (now (work .entry)) (q .window) (q .«agg_back») (now (work .exit)) ⌝ }
     {
         let window = w.window;
         let agg_back = w.agg_back;
@@ -195,13 +202,13 @@ impl KurtosisMoment {
             KurtosisMoment::flip(work, base, window.back);
             return KurtosisWindow {
                 window: kept,
-                agg_back: KurtosisState::default(),
+                agg_back: KurtosisMoment::empty(),
             };
         }
         if kept.back == 0 {
             return KurtosisWindow {
                 window: kept,
-                agg_back: KurtosisState::default(),
+                agg_back: KurtosisMoment::empty(),
             };
         }
         KurtosisWindow {
@@ -222,10 +229,9 @@ impl KurtosisMoment {
         w: KurtosisWindow,
         end: usize,
     ) -> KurtosisWindow
-        requires { ⌜ Held (ofReadings kurtosis) (series «has_map» (now map) (now values)) base (w .window) (w .«agg_back») (now work) × (w .window .end ≤ end) × (end ≤ length (now values))
-            × (end ≤ w .window .start + widest) × (5 * widest ≤ base) × (base + 1 * widest ≤ length (now work)) ⌝ }
-        ensures { λ q. ⌜ Held (ofReadings kurtosis) (series «has_map» (now (map .entry)) (now (values .entry))) base (q .window) (q .«agg_back») (now (work .exit)) ⌝ }
-        ensures { λ q. ⌜ (account (q .window) ≡ entered (account (w .window)) end) × (drop (base + 1 * widest) (now (work .exit)) ≡ drop (base + 1 * widest) (now (work .entry))) ⌝ }
+        requires { ⌜ Held (ofReadings kurtosis) (series «has_map» (now map) (now values)) base (w .window) (w .«agg_back») (now work) × (w .window .end ≤ end)
+            × (end ≤ length (now values)) × (end ≤ w .window .start + widest) × (5 * widest ≤ base) × (base + 1 * widest ≤ length (now work)) ⌝ }
+        ensures { λ q. ⌜ Moves (ofReadings kurtosis) (series «has_map» (now (map .entry)) (now (values .entry))) base (base + 1 * widest) (entered (account (w .window)) end) (now (work .entry)) (q .window) (q .«agg_back») (now (work .exit)) ⌝ }
     {
         let window = w.window;
         let agg_back = w.agg_back;
@@ -265,17 +271,16 @@ impl KurtosisMoment {
         start: usize,
         end: usize,
     ) -> KurtosisWindow
-        requires { ⌜ Held (ofReadings kurtosis) (series «has_map» (now map) (now values)) (5 * widest) (w .window) (w .«agg_back») (now work)
-            × Ready (w .window) start end (length (now values)) widest × (6 * widest ≤ length (now work)) ⌝ }
-        ensures { λ q. ⌜ Held (ofReadings kurtosis) (series «has_map» (now (map .entry)) (now (values .entry))) (5 * widest) (q .window) (q .«agg_back») (now (work .exit)) ⌝ }
-        ensures { λ q. ⌜ (account (q .window) ≡ moved (validAt «has_map» (now (map .entry))) (account (w .window)) start end) × (drop (6 * widest) (now (work .exit)) ≡ drop (6 * widest) (now (work .entry))) ⌝ }
+        requires { ⌜ Movable (ofReadings kurtosis) (series «has_map» (now map) (now values)) 6 start end (length (now values)) widest (w .window) (w .«agg_back») (now work) ⌝ }
+        ensures { λ q. ⌜ Moves (ofReadings kurtosis) (series «has_map» (now (map .entry)) (now (values .entry))) (5 * widest) (6 * widest) (moved (validAt «has_map» (now (map .entry))) (account (w .window)) start end)
+            (now (work .entry)) (q .window) (q .«agg_back») (now (work .exit)) ⌝ }
     {
         let base = KurtosisMoment::STATE * widest;
         let popped = KurtosisMoment::pop(work, base, values, has_map, map, w, start);
         KurtosisMoment::extend(work, base, widest, values, has_map, map, popped, end)
     }
 
-    // The window after a row's part in it: one step, window by value in and out.
+    // The window after a row's part in it: a row is one step, so that two plans can be driven in turn.
     fn step(
         work: &mut [f64],
         widest: usize,
@@ -288,11 +293,9 @@ impl KurtosisMoment {
         start: usize,
         end: usize,
     ) -> KurtosisWindow
-        requires { ⌜ Held (ofReadings kurtosis) (series «has_map» (now map) (now values)) (5 * widest) (w .window) (w .«agg_back») (now work)
-            × Ready (w .window) start end (length (now values)) widest × (6 * widest ≤ length (now work)) ⌝ }
-        ensures { λ q. ⌜ Held (ofReadings kurtosis) (series «has_map» (now (map .entry)) (now (values .entry))) (5 * widest) (q .window) (q .«agg_back») (now (work .exit)) ⌝ }
-        ensures { λ q. ⌜ (account (q .window) ≡ stepped (validAt «has_map» (now (map .entry))) «has_map» «min_periods» row start end (account (w .window)))
-            × (drop (6 * widest) (now (work .exit)) ≡ drop (6 * widest) (now (work .entry))) ⌝ }
+        requires { ⌜ Movable (ofReadings kurtosis) (series «has_map» (now map) (now values)) 6 start end (length (now values)) widest (w .window) (w .«agg_back») (now work) ⌝ }
+        ensures { λ q. ⌜ Moves (ofReadings kurtosis) (series «has_map» (now (map .entry)) (now (values .entry))) (5 * widest) (6 * widest) (stepped (validAt «has_map» (now (map .entry))) «has_map» «min_periods» row start end (account (w .window)))
+            (now (work .entry)) (q .window) (q .«agg_back») (now (work .exit)) ⌝ }
     {
         if row::moves(has_map, min_periods, row, start, end) {
             return KurtosisMoment::update(work, widest, values, has_map, map, w, start, end);
@@ -357,7 +360,7 @@ impl KurtosisMoment {
                 back: 0,
                 bad: 0,
             },
-            agg_back: KurtosisState::default(),
+            agg_back: KurtosisMoment::empty(),
         };
         let mut row = 0;
         while row < starts.len() {

@@ -4,7 +4,8 @@ ghost use Prim.Native.Nat.{ℕ, _≤_, _<_};
 ghost use lib.ListN.{length};
 ghost use lib.Ieee.{Float};
 ghost use Rattle.trace.specs.Trace.{validAt};
-ghost use Rattle.window.specs.Places.{entries, validCount, badCount};
+ghost use Rattle.window.specs.Places.{entries, badCount};
+ghost use Rattle.window.specs.Stacks.{Tallied};
 ghost use Rattle.window.specs.Readings.{series, badAt};
 use window::Window;
 
@@ -32,8 +33,7 @@ fn is_bad(values: &[f64], has_map: bool, map: &[u8], i: usize) -> bool
 
 fn count(values: &[f64], has_map: bool, map: &[u8], a: usize, b: usize) -> Tally
     requires { ⌜ (a ≤ b) × (b ≤ length (now values)) ⌝ }
-    ensures { λ r. ⌜ (r .valid ≡ validCount (series «has_map» (now (map .entry)) (now (values .entry))) a b)
-        × (r .bad ≡ badCount (series «has_map» (now (map .entry)) (now (values .entry))) a b) ⌝ }
+    ensures { λ r. ⌜ Tallied (series «has_map» (now (map .entry)) (now (values .entry))) a b (r .valid) (r .bad) ⌝ }
 {
     let mut valid: usize = 0;
     let mut bad: usize = 0;
@@ -71,8 +71,7 @@ pub(crate) fn gone(
 ) -> Tally
     requires { ⌜ (a ≤ b) × (b ≤ length (now values)) ⌝ }
     requires { ⌜ (bad ≡ 0 → badCount (series «has_map» (now map) (now values)) a b ≡ 0) ⌝ }
-    ensures { λ r. ⌜ (r .valid ≡ validCount (series «has_map» (now (map .entry)) (now (values .entry))) a b)
-        × (r .bad ≡ badCount (series «has_map» (now (map .entry)) (now (values .entry))) a b) ⌝ }
+    ensures { λ r. ⌜ Tallied (series «has_map» (now (map .entry)) (now (values .entry))) a b (r .valid) (r .bad) ⌝ }
 {
     if bad == 0 {
         if !has_map {

@@ -21,7 +21,7 @@ pub(crate) fn moves(has_map: bool, min_periods: usize, row: usize, start: usize,
     row == 0
 }
 
-// 003's is_valid with a map, of a window with so many valid places; 002's test of the row's length without one.
+// 001's `is_valid` with a map, of a window with so many valid places; 002's test of the row's length without one.
 pub(crate) fn is_valid(
     has_map: bool,
     min_periods: usize,
@@ -38,7 +38,7 @@ pub(crate) fn is_valid(
     min_periods <= end - start
 }
 
-// A NaN is written as the one pattern 7FF8000000000000.
+// A NaN is written as the one pattern 7FF8000000000000, in a branch of its own: a chosen value costs more here than the branch.
 pub(crate) fn write(figures: &mut [f64], present: &mut [u8], row: usize, figure: Figure)
     requires { ⌜ (row < length (now figures)) × (row < length (now present)) ⌝ }
     ensures { λ _. ⌜ (now (figures .exit) ≡ set (now (figures .entry)) row (doubleOf figure)) × (now (present .exit) ≡ set (now (present .entry)) row (byteOf figure)) ⌝ }

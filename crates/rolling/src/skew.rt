@@ -6,15 +6,15 @@ ghost use mathlib.Core.List.{_++_};
 ghost use Prim.Native.Nat.{_+_, _*_, _≤_, _<_};
 ghost use lib.ListN.{length, take, drop};
 ghost use Rattle.float.specs.Operators.{count};
-ghost use Rattle.moment.specs.Skew.{skewCombine, skewCorrection, skewFinalize};
+ghost use Rattle.moment.specs.Skew.{skewEmpty, skewCombine, skewCorrection, skewFinalize};
 ghost use Rattle.trace.specs.Trace.{validAt};
 ghost use Rattle.window.specs.Places.{validCount};
 ghost use Rattle.window.specs.Window.{restarted, left, entered, moved, spoilt};
 ghost use Rattle.window.specs.Readings.{series, ofReadings};
 ghost use Rattle.window.specs.Rows.{stepped};
-ghost use Rattle.window.specs.Stacks.{inMemory, frontStack, account, Counted, Leaves, Held, Pushed, topOf, answerBy, Ready, Accepted};
+ghost use Rattle.window.specs.Stacks.{inMemory, frontStack, account, Counted, Leaves, Held, Pushed, topOf, answerBy, Movable, Moves, Accepted};
 ghost use Rattle.rolling.specs.Moments.{Asked, Skewness, skewLayout, skewness};
-ghost use Rattle.rolling.specs.Corrections.{Corrections};
+ghost use Rattle.rolling.specs.Corrections.{Corrections, Weighed};
 ghost use Rattle.rolling.specs.Calls.{planOf, ask, lent, traceOf, Written};
 use crate::leaving;
 use crate::leaving::Left;
@@ -42,20 +42,28 @@ pub struct SkewPushed {
 }
 
 impl SkewMoment {
-    // Doubles of a state, and of a place of the window in both stacks.
-    pub const STATE: usize = 4;
+    // Doubles of a state on the front stack, of an entry on the back stack, and of a place of the window in both.
+    const STATE: usize = 4;
 
-    pub const PLACE: usize = 5;
+    const ENTRY: usize = 1;
+
+    pub const PLACE: usize = SkewMoment::STATE + SkewMoment::ENTRY;
 
     // Counts whose correction is kept.
     const SLOTS: usize = 64;
+
+    fn empty() -> SkewState
+        ensures { λ r. ⌜ r ≡ skewEmpty ⌝ }
+    {
+        SkewState::default()
+    }
 
     // The n readings of the back stack become the front stack, the last of them at its bottom.
     fn flip(work: &mut [f64], base: usize, n: usize)
         requires { ⌜ (4 * n ≤ base) × (base + n ≤ length (now work)) ⌝ }
         ensures { λ _. ⌜ now (work .exit) ≡ inMemory skewLayout (frontStack (ofReadings skewness) (take n (drop base (now (work .entry))))) ++ drop (4 * n) (now (work .entry)) ⌝ }
     {
-        let mut agg = SkewState::default();
+        let mut agg = SkewMoment::empty();
         let mut at: usize = 0;
         let mut j = n;
         while 0 < j {
@@ -117,7 +125,7 @@ impl SkewMoment {
         ensures { λ r. ⌜ r ≡ topOf (ofReadings skewness) (now (work .entry)) n ⌝ }
     {
         if n == 0 {
-            return SkewState::default();
+            return SkewMoment::empty();
         }
         let at = SkewMoment::STATE * (n - 1);
         SkewState {
@@ -184,10 +192,9 @@ impl SkewMoment {
         w: SkewWindow,
         start: usize,
     ) -> SkewWindow
-        requires { ⌜ Held (ofReadings skewness) (series «has_map» (now map) (now values)) base (w .window) (w .«agg_back») (now work) × (w .window .start ≤ start) × (start ≤ length (now values))
-            × (w .window .end ≤ length (now values)) × (4 * w .window .back ≤ base) × (base + w .window .back ≤ length (now work)) ⌝ }
-        ensures { λ q. ⌜ Held (ofReadings skewness) (series «has_map» (now (map .entry)) (now (values .entry))) base (q .window) (q .«agg_back») (now (work .exit)) ⌝ }
-        ensures { λ q. ⌜ (account (q .window) ≡ left (validAt «has_map» (now (map .entry))) (restarted (account (w .window)) start) start) × (drop base (now (work .exit)) ≡ drop base (now (work .entry))) ⌝ }
+        requires { ⌜ Held (ofReadings skewness) (series «has_map» (now map) (now values)) base (w .window) (w .«agg_back») (now work) × (w .window .start ≤ start)
+            × (start ≤ length (now values)) × (w .window .end ≤ length (now values)) × (4 * w .window .back ≤ base) × (base + w .window .back ≤ length (now work)) ⌝ }
+        ensures { λ q. ⌜ Moves (ofReadings skewness) (series «has_map» (now (map .entry)) (now (values .entry))) base base (left (validAt «has_map» (now (map .entry))) (restarted (account (w .window)) start) start) (now (work .entry)) (q .window) (q .«agg_back») (now (work .exit)) ⌝ }
     {
         let window = w.window;
         let agg_back = w.agg_back;
@@ -197,13 +204,13 @@ impl SkewMoment {
             SkewMoment::flip(work, base, window.back);
             return SkewWindow {
                 window: kept,
-                agg_back: SkewState::default(),
+                agg_back: SkewMoment::empty(),
             };
         }
         if kept.back == 0 {
             return SkewWindow {
                 window: kept,
-                agg_back: SkewState::default(),
+                agg_back: SkewMoment::empty(),
             };
         }
         SkewWindow {
@@ -224,10 +231,9 @@ impl SkewMoment {
         w: SkewWindow,
         end: usize,
     ) -> SkewWindow
-        requires { ⌜ Held (ofReadings skewness) (series «has_map» (now map) (now values)) base (w .window) (w .«agg_back») (now work) × (w .window .end ≤ end) × (end ≤ length (now values))
-            × (end ≤ w .window .start + widest) × (4 * widest ≤ base) × (base + 1 * widest ≤ length (now work)) ⌝ }
-        ensures { λ q. ⌜ Held (ofReadings skewness) (series «has_map» (now (map .entry)) (now (values .entry))) base (q .window) (q .«agg_back») (now (work .exit)) ⌝ }
-        ensures { λ q. ⌜ (account (q .window) ≡ entered (account (w .window)) end) × (drop (base + 1 * widest) (now (work .exit)) ≡ drop (base + 1 * widest) (now (work .entry))) ⌝ }
+        requires { ⌜ Held (ofReadings skewness) (series «has_map» (now map) (now values)) base (w .window) (w .«agg_back») (now work) × (w .window .end ≤ end)
+            × (end ≤ length (now values)) × (end ≤ w .window .start + widest) × (4 * widest ≤ base) × (base + 1 * widest ≤ length (now work)) ⌝ }
+        ensures { λ q. ⌜ Moves (ofReadings skewness) (series «has_map» (now (map .entry)) (now (values .entry))) base (base + 1 * widest) (entered (account (w .window)) end) (now (work .entry)) (q .window) (q .«agg_back») (now (work .exit)) ⌝ }
     {
         let window = w.window;
         let agg_back = w.agg_back;
@@ -267,17 +273,16 @@ impl SkewMoment {
         start: usize,
         end: usize,
     ) -> SkewWindow
-        requires { ⌜ Held (ofReadings skewness) (series «has_map» (now map) (now values)) (4 * widest) (w .window) (w .«agg_back») (now work)
-            × Ready (w .window) start end (length (now values)) widest × (5 * widest ≤ length (now work)) ⌝ }
-        ensures { λ q. ⌜ Held (ofReadings skewness) (series «has_map» (now (map .entry)) (now (values .entry))) (4 * widest) (q .window) (q .«agg_back») (now (work .exit)) ⌝ }
-        ensures { λ q. ⌜ (account (q .window) ≡ moved (validAt «has_map» (now (map .entry))) (account (w .window)) start end) × (drop (5 * widest) (now (work .exit)) ≡ drop (5 * widest) (now (work .entry))) ⌝ }
+        requires { ⌜ Movable (ofReadings skewness) (series «has_map» (now map) (now values)) 5 start end (length (now values)) widest (w .window) (w .«agg_back») (now work) ⌝ }
+        ensures { λ q. ⌜ Moves (ofReadings skewness) (series «has_map» (now (map .entry)) (now (values .entry))) (4 * widest) (5 * widest) (moved (validAt «has_map» (now (map .entry))) (account (w .window)) start end)
+            (now (work .entry)) (q .window) (q .«agg_back») (now (work .exit)) ⌝ }
     {
         let base = SkewMoment::STATE * widest;
         let popped = SkewMoment::pop(work, base, values, has_map, map, w, start);
         SkewMoment::extend(work, base, widest, values, has_map, map, popped, end)
     }
 
-    // The window after a row's part in it: one step, window by value in and out.
+    // The window after a row's part in it: a row is one step, so that two plans can be driven in turn.
     fn step(
         work: &mut [f64],
         widest: usize,
@@ -290,11 +295,9 @@ impl SkewMoment {
         start: usize,
         end: usize,
     ) -> SkewWindow
-        requires { ⌜ Held (ofReadings skewness) (series «has_map» (now map) (now values)) (4 * widest) (w .window) (w .«agg_back») (now work)
-            × Ready (w .window) start end (length (now values)) widest × (5 * widest ≤ length (now work)) ⌝ }
-        ensures { λ q. ⌜ Held (ofReadings skewness) (series «has_map» (now (map .entry)) (now (values .entry))) (4 * widest) (q .window) (q .«agg_back») (now (work .exit)) ⌝ }
-        ensures { λ q. ⌜ (account (q .window) ≡ stepped (validAt «has_map» (now (map .entry))) «has_map» «min_periods» row start end (account (w .window)))
-            × (drop (5 * widest) (now (work .exit)) ≡ drop (5 * widest) (now (work .entry))) ⌝ }
+        requires { ⌜ Movable (ofReadings skewness) (series «has_map» (now map) (now values)) 5 start end (length (now values)) widest (w .window) (w .«agg_back») (now work) ⌝ }
+        ensures { λ q. ⌜ Moves (ofReadings skewness) (series «has_map» (now (map .entry)) (now (values .entry))) (4 * widest) (5 * widest) (stepped (validAt «has_map» (now (map .entry))) «has_map» «min_periods» row start end (account (w .window)))
+            (now (work .entry)) (q .window) (q .«agg_back») (now (work .exit)) ⌝ }
     {
         if row::moves(has_map, min_periods, row, start, end) {
             return SkewMoment::update(work, widest, values, has_map, map, w, start, end);
@@ -329,8 +332,7 @@ impl SkewMoment {
         counts: &mut [u64],
         factors: &mut [f64],
     ) -> Figure
-        requires { ⌜ (4 * w .window .front ≤ length (now work)) × (w .window .front + w .window .back ≤ w .window .end) × Corrections (now counts) (now factors)
-            × (skewCombine (w .«agg_back») (topOf (ofReadings skewness) (now work) (w .window .front)) .weight ≡ count (w .window .front + w .window .back)) ⌝ }
+        requires { ⌜ Weighed (w .window) (w .«agg_back») (now work) (now counts) (now factors) ⌝ }
         ensures { λ r. ⌜ (r ≡ spoilt (w .window .bad) (skewFinalize (skewCombine (w .«agg_back») (topOf (ofReadings skewness) (now (work .entry)) (w .window .front))) (self .bias)))
             × Corrections (now (counts .exit)) (now (factors .exit)) ⌝ }
     {
@@ -352,8 +354,7 @@ impl SkewMoment {
         start: usize,
         end: usize,
     ) -> Figure
-        requires { ⌜ (4 * w .window .front ≤ length (now work)) × (w .window .front + w .window .back ≤ w .window .end) × (start ≤ end) × Corrections (now counts) (now factors)
-            × (skewCombine (w .«agg_back») (topOf (ofReadings skewness) (now work) (w .window .front)) .weight ≡ count (w .window .front + w .window .back)) ⌝ }
+        requires { ⌜ Weighed (w .window) (w .«agg_back») (now work) (now counts) (now factors) × (start ≤ end) ⌝ }
         ensures { λ r. ⌜ (r ≡ answerBy (ofReadings skewness) (λ z. skewFinalize z (self .bias)) «has_map» «min_periods» start end (w .window) (w .«agg_back») (now (work .entry)))
             × Corrections (now (counts .exit)) (now (factors .exit)) ⌝ }
     {
@@ -391,7 +392,7 @@ impl SkewMoment {
                 back: 0,
                 bad: 0,
             },
-            agg_back: SkewState::default(),
+            agg_back: SkewMoment::empty(),
         };
         let mut counts = [0u64; 64];
         let none = SkewState::correction(0.0);

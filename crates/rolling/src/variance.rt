@@ -5,13 +5,13 @@ ghost use mathlib.Core.Bool.{false};
 ghost use mathlib.Core.List.{_++_};
 ghost use Prim.Native.Nat.{_+_, _*_, _≤_, _<_};
 ghost use lib.ListN.{length, take, drop};
-ghost use Rattle.moment.specs.Var.{varCombine, varFinalize};
+ghost use Rattle.moment.specs.Var.{varEmpty, varCombine, varFinalize};
 ghost use Rattle.trace.specs.Trace.{validAt};
 ghost use Rattle.window.specs.Places.{validCount};
 ghost use Rattle.window.specs.Window.{restarted, left, entered, moved, spoilt};
 ghost use Rattle.window.specs.Readings.{series, ofReadings};
 ghost use Rattle.window.specs.Rows.{stepped};
-ghost use Rattle.window.specs.Stacks.{inMemory, frontStack, account, Counted, Leaves, Held, Pushed, topOf, answerBy, Ready, Accepted};
+ghost use Rattle.window.specs.Stacks.{inMemory, frontStack, account, Counted, Leaves, Held, Pushed, topOf, answerBy, Movable, Moves, Accepted};
 ghost use Rattle.rolling.specs.Moments.{Asked, Variance, varLayout, variance};
 ghost use Rattle.rolling.specs.Calls.{planOf, ask, lent, traceOf, Written};
 use crate::leaving;
@@ -40,17 +40,25 @@ pub struct VarPushed {
 }
 
 impl VarianceMoment {
-    // Doubles of a state, and of a place of the window in both stacks.
-    pub const STATE: usize = 3;
+    // Doubles of a state on the front stack, of an entry on the back stack, and of a place of the window in both.
+    const STATE: usize = 3;
 
-    pub const PLACE: usize = 4;
+    const ENTRY: usize = 1;
+
+    pub const PLACE: usize = VarianceMoment::STATE + VarianceMoment::ENTRY;
+
+    fn empty() -> VarState
+        ensures { λ r. ⌜ r ≡ varEmpty ⌝ }
+    {
+        VarState::default()
+    }
 
     // The n readings of the back stack become the front stack, the last of them at its bottom.
     fn flip(work: &mut [f64], base: usize, n: usize)
         requires { ⌜ (3 * n ≤ base) × (base + n ≤ length (now work)) ⌝ }
         ensures { λ _. ⌜ now (work .exit) ≡ inMemory varLayout (frontStack (ofReadings variance) (take n (drop base (now (work .entry))))) ++ drop (3 * n) (now (work .entry)) ⌝ }
     {
-        let mut agg = VarState::default();
+        let mut agg = VarianceMoment::empty();
         let mut at: usize = 0;
         let mut j = n;
         while 0 < j {
@@ -111,7 +119,7 @@ impl VarianceMoment {
         ensures { λ r. ⌜ r ≡ topOf (ofReadings variance) (now (work .entry)) n ⌝ }
     {
         if n == 0 {
-            return VarState::default();
+            return VarianceMoment::empty();
         }
         let at = VarianceMoment::STATE * (n - 1);
         VarState {
@@ -177,10 +185,9 @@ impl VarianceMoment {
         w: VarWindow,
         start: usize,
     ) -> VarWindow
-        requires { ⌜ Held (ofReadings variance) (series «has_map» (now map) (now values)) base (w .window) (w .«agg_back») (now work) × (w .window .start ≤ start) × (start ≤ length (now values))
-            × (w .window .end ≤ length (now values)) × (3 * w .window .back ≤ base) × (base + w .window .back ≤ length (now work)) ⌝ }
-        ensures { λ q. ⌜ Held (ofReadings variance) (series «has_map» (now (map .entry)) (now (values .entry))) base (q .window) (q .«agg_back») (now (work .exit)) ⌝ }
-        ensures { λ q. ⌜ (account (q .window) ≡ left (validAt «has_map» (now (map .entry))) (restarted (account (w .window)) start) start) × (drop base (now (work .exit)) ≡ drop base (now (work .entry))) ⌝ }
+        requires { ⌜ Held (ofReadings variance) (series «has_map» (now map) (now values)) base (w .window) (w .«agg_back») (now work) × (w .window .start ≤ start)
+            × (start ≤ length (now values)) × (w .window .end ≤ length (now values)) × (3 * w .window .back ≤ base) × (base + w .window .back ≤ length (now work)) ⌝ }
+        ensures { λ q. ⌜ Moves (ofReadings variance) (series «has_map» (now (map .entry)) (now (values .entry))) base base (left (validAt «has_map» (now (map .entry))) (restarted (account (w .window)) start) start) (now (work .entry)) (q .window) (q .«agg_back») (now (work .exit)) ⌝ }
     {
         let window = w.window;
         let agg_back = w.agg_back;
@@ -190,13 +197,13 @@ impl VarianceMoment {
             VarianceMoment::flip(work, base, window.back);
             return VarWindow {
                 window: kept,
-                agg_back: VarState::default(),
+                agg_back: VarianceMoment::empty(),
             };
         }
         if kept.back == 0 {
             return VarWindow {
                 window: kept,
-                agg_back: VarState::default(),
+                agg_back: VarianceMoment::empty(),
             };
         }
         VarWindow {
@@ -217,10 +224,9 @@ impl VarianceMoment {
         w: VarWindow,
         end: usize,
     ) -> VarWindow
-        requires { ⌜ Held (ofReadings variance) (series «has_map» (now map) (now values)) base (w .window) (w .«agg_back») (now work) × (w .window .end ≤ end) × (end ≤ length (now values))
-            × (end ≤ w .window .start + widest) × (3 * widest ≤ base) × (base + 1 * widest ≤ length (now work)) ⌝ }
-        ensures { λ q. ⌜ Held (ofReadings variance) (series «has_map» (now (map .entry)) (now (values .entry))) base (q .window) (q .«agg_back») (now (work .exit)) ⌝ }
-        ensures { λ q. ⌜ (account (q .window) ≡ entered (account (w .window)) end) × (drop (base + 1 * widest) (now (work .exit)) ≡ drop (base + 1 * widest) (now (work .entry))) ⌝ }
+        requires { ⌜ Held (ofReadings variance) (series «has_map» (now map) (now values)) base (w .window) (w .«agg_back») (now work) × (w .window .end ≤ end)
+            × (end ≤ length (now values)) × (end ≤ w .window .start + widest) × (3 * widest ≤ base) × (base + 1 * widest ≤ length (now work)) ⌝ }
+        ensures { λ q. ⌜ Moves (ofReadings variance) (series «has_map» (now (map .entry)) (now (values .entry))) base (base + 1 * widest) (entered (account (w .window)) end) (now (work .entry)) (q .window) (q .«agg_back») (now (work .exit)) ⌝ }
     {
         let window = w.window;
         let agg_back = w.agg_back;
@@ -260,17 +266,16 @@ impl VarianceMoment {
         start: usize,
         end: usize,
     ) -> VarWindow
-        requires { ⌜ Held (ofReadings variance) (series «has_map» (now map) (now values)) (3 * widest) (w .window) (w .«agg_back») (now work)
-            × Ready (w .window) start end (length (now values)) widest × (4 * widest ≤ length (now work)) ⌝ }
-        ensures { λ q. ⌜ Held (ofReadings variance) (series «has_map» (now (map .entry)) (now (values .entry))) (3 * widest) (q .window) (q .«agg_back») (now (work .exit)) ⌝ }
-        ensures { λ q. ⌜ (account (q .window) ≡ moved (validAt «has_map» (now (map .entry))) (account (w .window)) start end) × (drop (4 * widest) (now (work .exit)) ≡ drop (4 * widest) (now (work .entry))) ⌝ }
+        requires { ⌜ Movable (ofReadings variance) (series «has_map» (now map) (now values)) 4 start end (length (now values)) widest (w .window) (w .«agg_back») (now work) ⌝ }
+        ensures { λ q. ⌜ Moves (ofReadings variance) (series «has_map» (now (map .entry)) (now (values .entry))) (3 * widest) (4 * widest) (moved (validAt «has_map» (now (map .entry))) (account (w .window)) start end)
+            (now (work .entry)) (q .window) (q .«agg_back») (now (work .exit)) ⌝ }
     {
         let base = VarianceMoment::STATE * widest;
         let popped = VarianceMoment::pop(work, base, values, has_map, map, w, start);
         VarianceMoment::extend(work, base, widest, values, has_map, map, popped, end)
     }
 
-    // The window after a row's part in it: one step, window by value in and out.
+    // The window after a row's part in it: a row is one step, so that two plans can be driven in turn.
     fn step(
         work: &mut [f64],
         widest: usize,
@@ -283,11 +288,9 @@ impl VarianceMoment {
         start: usize,
         end: usize,
     ) -> VarWindow
-        requires { ⌜ Held (ofReadings variance) (series «has_map» (now map) (now values)) (3 * widest) (w .window) (w .«agg_back») (now work)
-            × Ready (w .window) start end (length (now values)) widest × (4 * widest ≤ length (now work)) ⌝ }
-        ensures { λ q. ⌜ Held (ofReadings variance) (series «has_map» (now (map .entry)) (now (values .entry))) (3 * widest) (q .window) (q .«agg_back») (now (work .exit)) ⌝ }
-        ensures { λ q. ⌜ (account (q .window) ≡ stepped (validAt «has_map» (now (map .entry))) «has_map» «min_periods» row start end (account (w .window)))
-            × (drop (4 * widest) (now (work .exit)) ≡ drop (4 * widest) (now (work .entry))) ⌝ }
+        requires { ⌜ Movable (ofReadings variance) (series «has_map» (now map) (now values)) 4 start end (length (now values)) widest (w .window) (w .«agg_back») (now work) ⌝ }
+        ensures { λ q. ⌜ Moves (ofReadings variance) (series «has_map» (now (map .entry)) (now (values .entry))) (3 * widest) (4 * widest) (stepped (validAt «has_map» (now (map .entry))) «has_map» «min_periods» row start end (account (w .window)))
+            (now (work .entry)) (q .window) (q .«agg_back») (now (work .exit)) ⌝ }
     {
         if row::moves(has_map, min_periods, row, start, end) {
             return VarianceMoment::update(work, widest, values, has_map, map, w, start, end);
@@ -352,7 +355,7 @@ impl VarianceMoment {
                 back: 0,
                 bad: 0,
             },
-            agg_back: VarState::default(),
+            agg_back: VarianceMoment::empty(),
         };
         let mut row = 0;
         while row < starts.len() {

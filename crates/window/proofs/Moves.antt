@@ -8,13 +8,13 @@ use native.Mathlib.Nat.{mul-zero, mul-add, add-assoc, mul-le-mul-left, le-trans}
 use native.Mathlib.Omega.{arith}
 use borrow.Author.Tests.{le-leb, lt-leb, leb-true, leb-false, lt-ltb, le-ltb, ltb-true, ltb-false, eq-eqb, ne-eqb}
 use borrow.Rule.Slice.PartMut.{putMid}
-use lib.Dec.{leb, ltb}
+use lib.Dec.{leb, ltb, eqb}
 use lib.ListN.{length, take, drop, length-append, length-drop, length-take, drop-of-length-le, take-append-drop}
 use lib.Seq.{take-all, take-add, drop-drop, drop-append-add, take-take, take-append-le, take-at, drop-at}
 use lib.Ieee.{Float}
 use Rattle.window.specs.Places.{Series, entries, validCount, badCount}
 use Rattle.window.specs.Window.{Account, Moment, restarted, left, front, back, rising}
-use Rattle.window.specs.Stacks.{inMemory, frontStack, account, Counted, Leaves, Held, Pushed, keptOf}
+use Rattle.window.specs.Stacks.{inMemory, frontStack, account, Counted, Leaves, Held, Pushed, Moves}
 use Rattle.window.specs.declared.Window.{Window}
 use Rattle.window.proofs.Places.{Or, here, there, order, entries-self, entries-split, split-end, split-law, two-counts, stay-front, stay-back, flip-front, count-le, count-up, none-part}
 use Rattle.window.proofs.Stacks.{memory-length, memory-append, front-length, front-drop}
@@ -113,17 +113,21 @@ module _ (M : Moment) where
       rw (front-length M) (mul-le-mul-left (M .inFront .width) e) in
       rw take-append-le (front-drop M k l)
 
-  kept-none : (agg : M .State) (n : ℕ) → n ≡ 0 → keptOf M agg n ≡ M .empty
+  -- the state that is kept with n entries in the back stack
+  unfoldable keptOf : M .State → ℕ → M .State
+  keptOf agg n = cond (eqb n 0) (M .empty) agg
+
+  kept-none : (agg : M .State) (n : ℕ) → n ≡ 0 → keptOf agg n ≡ M .empty
   unfolding keptOf
   kept-none agg n e = rw (eq-eqb n 0 e)
 
-  kept-some : (agg : M .State) (n : ℕ) (l : List (M .Entry)) → n ≡ length l → agg ≡ rising M (M .empty) l → keptOf M agg n ≡ rising M (M .empty) l
+  kept-some : (agg : M .State) (n : ℕ) (l : List (M .Entry)) → n ≡ length l → agg ≡ rising M (M .empty) l → keptOf agg n ≡ rising M (M .empty) l
   unfolding keptOf
   kept-some agg zero [] e f = refl
   kept-some agg zero (x ∷ l) e f = absurd (omega arith)
   kept-some agg (suc n) l e f = rw (ne-eqb (suc n) 0 (λ z. omega arith)) f
 
-  kept-more : (agg : M .State) (n : ℕ) → (n ≡ 0 → ⊥) → agg ≡ keptOf M agg n
+  kept-more : (agg : M .State) (n : ℕ) → (n ≡ 0 → ⊥) → agg ≡ keptOf agg n
   unfolding keptOf
   kept-more agg n h = rw (ne-eqb n 0 h)
 
@@ -154,16 +158,16 @@ module _ (M : Moment) where
     no-flip : leb (w .end) s ≡ false → flips ≡ ltb (w .front) (validCount t (w .start) s)
     no-flip q = gone .flips-is ∙ rw q
 
-    out-reset : leb (w .end) s ≡ true → Held M t base w' (keptOf M agg (w' .back)) work
+    out-reset : leb (w .end) s ≡ true → Held M t base w' (keptOf agg (w' .back)) work
     unfolding inMemory frontStack
     out-reset q =
         let m : max s s ≡ s = omega arith in
         let e : account w' ≡ record { start = s; end = s; split = s } = gone .to ∙ rw (q, split-end (t .valid) (t .entry)) in
         let f : front t (account w') ≡ [] = ap (front t) e ∙ entries-self (t .valid) (t .entry) s in
         let b : back t (account w') ≡ [] = ap (back t) e ∙ rw (m, entries-self (t .valid) (t .entry)) in
-        bare work b (rw (f, mul-zero)) (keptOf M agg (w' .back)) (kept-none agg (w' .back) (gone .numbers .back-is ∙ ap length b))
+        bare work b (rw (f, mul-zero)) (keptOf agg (w' .back)) (kept-none agg (w' .back) (gone .numbers .back-is ∙ ap length b))
 
-    out-stay : leb (w .end) s ≡ false → validCount t (w .start) s ≤ length F → Held M t base w' (keptOf M agg (w' .back)) work
+    out-stay : leb (w .end) s ≡ false → validCount t (w .start) s ≤ length F → Held M t base w' (keptOf agg (w' .back)) work
     out-stay q o =
         let c = held .numbers in
         let d = gone .numbers in
@@ -183,10 +187,10 @@ module _ (M : Moment) where
           back-at = rw (n, b) (held .back-at);
         }
 
-    unflipped : flips ≡ false → Held M t base w' (keptOf M agg (w' .back)) work
+    unflipped : flips ≡ false → Held M t base w' (keptOf agg (w' .back)) work
     unflipped z = go (leb (w .end) s) refl
       where
-        go : (q : Bool) → leb (w .end) s ≡ q → Held M t base w' (keptOf M agg (w' .back)) work
+        go : (q : Bool) → leb (w .end) s ≡ q → Held M t base w' (keptOf agg (w' .back)) work
         go true q = out-reset q
         go false q =
             let f = held .numbers .front-is in

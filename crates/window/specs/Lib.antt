@@ -1,4 +1,5 @@
--- In document 01's order: places, the window, rows, refusals; last what the code's own invariants say of memory.
+-- In document 01's order: places, the window over any moment, readings, rows, refusals; last what the code's own invariants say of
+-- memory.
 pub mod Places
 pub mod Window
 pub mod Readings

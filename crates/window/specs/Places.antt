@@ -1,5 +1,4 @@
--- Document 01, "A plan call": the places of a series and what is inserted there, over any kind of entry: a reading, or later a
--- pair of readings. Assumes nothing.
+-- Document 01, "A plan call": the places of a series and what is inserted there, over any kind of entry. Assumes nothing.
 use Prim.Native.Nat.{ℕ, zero, suc, _-_}
 use mathlib.Core.Bool.{Bool, cond}
 use mathlib.Core.List.{List, [], _∷_}

@@ -7,12 +7,12 @@ use mathlib.Core.List.{List, _++_}
 use lib.Dec.{eqb, ltb}
 use lib.ListN.{length, getD, drop}
 use lib.Ieee.{Float}
-use Rattle.trace.specs.Refusals.{refusal, _orElse_, arrayRefusal}
+use Rattle.trace.specs.Refusals.{refusal, _orElse_, tooMany, arrayRefusal}
 use Rattle.window.specs.Rows.{Plan, rows, rowStart, rowEnd, table}
 
 -- "4 lists differ in length or exceed 16,777,216 rows"
 abbrev pub badLists : Plan → Bool
-badLists p = not (eqb (length (p .starts)) (length (p .ends))) || ltb 16777216 (rows p)
+badLists p = not (eqb (length (p .starts)) (length (p .ends))) || tooMany (rows p)
 
 -- A row from s up to e of a plan over n places, after one from s' up to e': "5 start > end; 6 end > n; 7 start or end below the
 -- row before"

@@ -15,12 +15,15 @@ pub record Plan : Type 0 where
   pub starts : List ℕ
   pub ends : List ℕ
 
+-- how many rows a plan has
 abbrev pub rows : Plan → ℕ
 rows p = length (p .starts)
 
+-- "a row's window holds places start .."
 abbrev pub rowStart : Plan → ℕ → ℕ
 rowStart p k = getD (p .starts) k 0
 
+-- ".. up to but not including end"
 abbrev pub rowEnd : Plan → ℕ → ℕ
 rowEnd p k = getD (p .ends) k 0
 

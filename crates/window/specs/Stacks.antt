@@ -1,5 +1,6 @@
 -- The two stacks in the work slice, as the private contracts of crate `rolling` state them: what a window's numbers, its state and
--- the work slice say of the split account. No promise rests on this file. Assumes nothing.
+-- the work slice say of the split account. It stands here because a contract can cite specs/ alone; no promise rests on this file.
+-- Assumes nothing.
 use Prim.Native.Nat.{ℕ, _+_, _-_, _*_, _≤_, _<_}
 use mathlib.Core.Path.{_≡_}
 use mathlib.Core.Bool.{Bool, false, cond}
@@ -61,10 +62,6 @@ pub record Pushed (M : Moment) (t : Series (M .Entry)) (l₀ : List Float) (n ba
   pub bad-is : bad ≡ bad₀ + badCount t a e
   pub agg-is : s ≡ rising M s₀ (entries (t .valid) (t .entry) a e)
 
--- the state that is kept with n entries in the back stack
-unfoldable pub keptOf : (M : Moment) → M .State → ℕ → M .State
-keptOf M agg n = cond (eqb n 0) (M .empty) agg
-
 -- the state on the top of the front stack's n, or the empty one
 unfoldable pub topOf : (M : Moment) → List Float → ℕ → M .State
 topOf M work n = cond (eqb n 0) (M .empty) (M .inFront .load (drop (M .inFront .width * (n - 1)) work))
@@ -82,6 +79,23 @@ pub record Ready (w : Window) (s e n widest : ℕ) : Type 0 where
   pub within : e ≤ n
   pub old : w .end ≤ w .start + widest
   pub new : e ≤ s + widest
+
+-- where a step may begin: the window is held, and can move to the row from s up to e within a work slice of `each` doubles a place
+pub record Movable (M : Moment) (t : Series (M .Entry)) (each s e n widest : ℕ) (w : Window) (agg : M .State) (work : List Float) : Type 0 where
+  pub held : Held M t (M .inFront .width * widest) w agg work
+  pub ready : Ready w s e n widest
+  pub room : each * widest ≤ length work
+
+-- what a move leaves: a window that is held for the account a, and the work slice as it was from `kept` on
+pub record Moves (M : Moment) (t : Series (M .Entry)) (base kept : ℕ) (a : Account) (work₀ : List Float) (w : Window) (agg : M .State) (work : List Float) : Type 0 where
+  pub held : Held M t base w agg work
+  pub to : account w ≡ a
+  pub rest : drop kept work ≡ drop kept work₀
+
+-- how many of the places from a up to b are valid, and how many of those are not finite
+pub record Tallied {A : Type 0} (t : Series A) (a b valid bad : ℕ) : Type 0 where
+  pub valid-is : valid ≡ validCount t a b
+  pub bad-is : bad ≡ badCount t a b
 
 -- an accepted plan over n places, with no window wider than `widest`
 pub record Planned (n widest : ℕ) (p : Plan) : Type 0 where

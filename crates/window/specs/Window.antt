@@ -1,6 +1,6 @@
 -- Document 01, Window (001): the split account, "three whole numbers, start, end and split", the two parts that it tells, and the
 -- figure that it yields, over any moment and any kind of entry. Assumes nothing.
-use Prim.Native.Nat.{ℕ, zero, suc, _-_, _*_, max}
+use Prim.Native.Nat.{ℕ, zero, suc, _-_, max}
 use mathlib.Core.Path.{_≡_}
 use mathlib.Core.Bool.{Bool, cond, _&&_}
 use mathlib.Core.List.{List, _++_, foldl, foldr}
@@ -11,6 +11,7 @@ use Rattle.moment.specs.declared.Figure.{Figure}
 use Rattle.moment.specs.declared.Figure.the-variants.{Missing, Present}
 use Rattle.window.specs.Places.{Series, entries, badCount}
 
+-- "The split account .. three whole numbers, start, end and split"
 pub record Account : Type 0 where
   pub start : ℕ
   pub end : ℕ
@@ -75,11 +76,12 @@ rising M state l = foldl (M .insert) state l
 abbrev pub falling : (M : Moment) → List (M .Entry) → M .State
 falling M l = foldr (λ x state. M .insert state x) (M .empty) l
 
--- "a present figure is NaN" where n, the number of what is not finite in the window, is not 0
+-- "a present figure is NaN"
 abbrev pub asNan : Figure → Figure
 asNan Missing = Missing
 asNan (Present v) = Present nan
 
+-- "if the window has one": n is how many in the window are not finite
 unfoldable pub spoilt : ℕ → Figure → Figure
 spoilt n figure = cond (eqb n 0) figure (asNan figure)
 

@@ -62,7 +62,7 @@ returns : tie.Need-returns Inv-loop μ-loop
 returns c =
     let l = c .before .loop in
     let e : l .i ≡ c .before .before .before .before .args .b = omega arith in
-    rw (← e) (l .inv .2, l .inv .3)
+    rw (← e) (record { valid-is = l .inv .2; bad-is = l .inv .3 })
 
 pub count-spec : {M : Type 1} → statement M
 count-spec =

@@ -33,7 +33,7 @@ returns c =
     let s = c .before .before .before .before .before .before .before .before .before .before in
     let p = s .pre in
     let d = in-pushed (ofReadings kurtosis) _ _ _ (s .args .w .window) _ _ (p .0) (p .1) _ (p .3) (p .4) (p .5) _ _ _ _ (c .before .before .before .push .ensures) in
-    (d .0, (refl, d .1))
+    record { held = d .0; to = refl; rest = d .1 }
 
 pub extend-spec : {M : Type 1} → statement M
 extend-spec =

@@ -17,11 +17,11 @@ Inv-loop work₀ base n agg₀ at₀ j₀ work agg at j = Flipping kurtosis work
 abbrev μ-loop : tie.MeasureT-loop
 μ-loop work₀ base n agg₀ at₀ j₀ work agg at j = j
 
-default-requires : tie.Need-default-requires Inv-loop μ-loop
-default-requires c κs = search needs
+empty-requires : tie.Need-empty-requires Inv-loop μ-loop
+empty-requires c κs = search needs
 
 loop-holds : tie.Need-loop-holds Inv-loop μ-loop
-loop-holds c = flipping-start kurtosis _ _ _ (c .before .before .pre .0) (c .before .before .pre .1) _ (c .default .ensures)
+loop-holds c = flipping-start kurtosis _ _ _ (c .before .before .pre .0) (c .before .before .pre .1) _ (c .empty .ensures)
 
 sub-j : tie.Need-sub-j Inv-loop μ-loop
 sub-j c = search needs
@@ -106,7 +106,7 @@ flip-spec =
     (tie.spec
     Inv-loop
     μ-loop
-    default-requires
+    empty-requires
     loop-holds
     sub-j
     add-insert-one

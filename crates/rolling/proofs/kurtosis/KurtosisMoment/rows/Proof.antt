@@ -21,11 +21,11 @@ Inv-loop self values has-map map starts ends min-periods widest work₀ figures�
 abbrev μ-loop : tie.MeasureT-loop
 μ-loop self values has-map map starts ends min-periods widest work₀ figures₀ present₀ w₀ row₀ work figures present w row = length starts - row
 
-default-requires : tie.Need-default-requires Inv-loop μ-loop
-default-requires c κs = search needs
+empty-requires : tie.Need-empty-requires Inv-loop μ-loop
+empty-requires c κs = search needs
 
 loop-holds : tie.Need-loop-holds Inv-loop μ-loop
-loop-holds c = row-start (ofReadings kurtosis) _ _ _ _ _ _ _ _ _ _ _ (c .default .ensures)
+loop-holds c = row-start (ofReadings kurtosis) _ _ _ _ _ _ _ _ _ _ _ (c .empty .ensures)
 
 mul-place : tie.Need-mul-place Inv-loop μ-loop
 mul-place c = search needs
@@ -59,7 +59,11 @@ step-requires c κs =
     let row = i .before .loop .inv in
     let l = row .work-same in
     let y = s .pre .work-fits in
-    (row .held, row-ready (ofReadings kurtosis) _ _ _ _ _ _ (s .pre .plan) row (i .loop-test .taken) _ _ (r .before .before .place .ensures) (r .place2 .ensures), omega arith)
+    record {
+      held = row .held;
+      ready = row-ready (ofReadings kurtosis) _ _ _ _ _ _ (s .pre .plan) row (i .loop-test .taken) _ _ (r .before .before .place .ensures) (r .place2 .ensures);
+      room = omega arith;
+    }
 
 answer-requires : tie.Need-answer-requires Inv-loop μ-loop
 answer-requires c κs =
@@ -72,7 +76,7 @@ answer-requires c κs =
     let n = q .kept .0 in
     let y = s .pre .work-fits in
     row-fits (ofReadings kurtosis) _ _ _ _ _ _ (s .pre .plan) row (i .loop-test .taken) _ _ (r .before .before .place .ensures) (r .place2 .ensures)
-    (q .result .window) _ _ (q .ensures .1 .0) (q .ensures .0) (omega arith)
+    (q .result .window) _ _ (q .ensures .to) (q .ensures .held) (omega arith)
 
 write-requires : tie.Need-write-requires Inv-loop μ-loop
 write-requires c κs =
@@ -99,7 +103,7 @@ loop-again c =
     let q = c .before .before .before .before .before .before .before .before .before .before .before .step in
     let p = c .before .before .before .before .write .ensures in
     row-next (ofReadings kurtosis) _ _ _ _ _ _ (s .pre .plan) (i .before .loop .inv) (i .loop-test .taken) _ _ (r .before .before .place .ensures) (r .place2 .ensures)
-    (q .ensures .1 .0) (q .ensures .0) (q .kept .0) (q .ensures .1 .1) (c .before .before .before .before .before .before .before .answer .ensures)
+    (q .ensures .to) (q .ensures .held) (q .kept .0) (q .ensures .rest) (c .before .before .before .before .before .before .before .answer .ensures)
     (s .pre .figures-fit) (s .pre .present-fit) (p .0) (p .1)
 
 same-length : tie.Need-same-length Inv-loop μ-loop
@@ -124,7 +128,7 @@ rows-spec =
     (tie.spec
     Inv-loop
     μ-loop
-    default-requires
+    empty-requires
     loop-holds
     mul-place
     shared-slice-read-place

@@ -16,18 +16,20 @@ mul-base c = search needs
 pop-requires : tie.Need-pop-requires
 pop-requires c κs =
     let p = c .before .before .before .before .pre in
-    let k = held-counts (ofReadings kurtosis) _ _ _ _ _ (p .0) in
-    let r = p .1 in
-    (p .0, omega arith, omega arith, omega arith, omega arith, omega arith)
+    let k = held-counts (ofReadings kurtosis) _ _ _ _ _ (p .held) in
+    let r = p .ready in
+    let q = p .room in
+    (p .held, omega arith, omega arith, omega arith, omega arith, omega arith)
 
 extend-requires : tie.Need-extend-requires
 extend-requires c κs =
     let s = c .before .before .before .before .before .before .before .before in
     let o = c .before .before .before .pop in
-    let l = left-ends _ (s .args .w .window) (o .result .window) _ (o .ensures .1 .0) in
+    let l = left-ends _ (s .args .w .window) (o .result .window) _ (o .ensures .to) in
     let k = o .kept .0 in
-    let r = s .pre .1 in
-    (o .ensures .0, omega arith, omega arith, omega arith, omega arith, omega arith)
+    let r = s .pre .ready in
+    let q = s .pre .room in
+    (o .ensures .held, omega arith, omega arith, omega arith, omega arith, omega arith)
 
 same-length : tie.Need-same-length
 same-length c = search needs
@@ -38,7 +40,11 @@ returns c =
     let o = c .before .before .before .before .before .before .pop in
     let i = c .before .before .extend in
     let e : 6 * s .args .widest ≡ 5 * s .args .widest + 1 * s .args .widest = omega arith in
-    (i .ensures .0, (i .ensures .1 .0 ∙ ap (λ a. entered a (s .args .end)) (o .ensures .1 .0), rest-both _ _ _ _ _ _ e (i .ensures .1 .1) (o .ensures .1 .1)))
+    record {
+      held = i .ensures .held;
+      to = i .ensures .to ∙ ap (λ a. entered a (s .args .end)) (o .ensures .to);
+      rest = rest-both _ _ _ _ _ _ e (i .ensures .rest) (o .ensures .rest);
+    }
 
 pub update-spec : {M : Type 1} → statement M
 update-spec = tie.close (tie.spec mul-base pop-requires extend-requires same-length returns)

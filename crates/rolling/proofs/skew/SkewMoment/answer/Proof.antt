@@ -25,7 +25,7 @@ returns c =
     (rw (sym (c .before .before .before .before .before .before .before .before .is-valid .ensures) ∙ c .before .before .before .before .before .before .before .if1 .taken) (m .0), m .1)
 
 returns-2 : tie.Need-returns-2
-returns-2 c = (rw (sym (c .before .is-valid .ensures) ∙ c .if1 .left), c .before .before .before .before .before .before .pre .3)
+returns-2 c = (rw (sym (c .before .is-valid .ensures) ∙ c .if1 .left), c .before .before .before .before .before .before .pre .0 .slots)
 
 pub answer-spec : {M : Type 1} → statement M
 answer-spec =

@@ -37,7 +37,7 @@ returns c =
     let k = c .before .before .before .before .before .before .correction .ensures in
     let e = c .before .before .before .before .before .before .before .before .before .before .combine .ensures ∙ ap (skewCombine (a .args .w .«agg_back»)) (c .before .before .before .before .before .before .before .before .before .before .before .last .ensures) in (
       c .spoil .ensures ∙ ap (spoilt (a .args .w .window .bad))
-          (c .before .finalize-with .ensures ∙ by-count _ _ e _ _ _ (a .pre .3) (k .0)),
+          (c .before .finalize-with .ensures ∙ by-count _ _ e _ _ _ (a .pre .weight-is) (k .0)),
       k .1,
     )
 

@@ -14,8 +14,8 @@ leave-requires c κs = search needs
 flip-requires : tie.Need-flip-requires
 flip-requires c κs = search needs
 
-default-requires : tie.Need-default-requires
-default-requires c κs = search needs
+empty-requires : tie.Need-empty-requires
+empty-requires c κs = search needs
 
 same-length : tie.Need-same-length
 same-length c = search needs
@@ -26,29 +26,33 @@ returns c =
     let l = c .before .before .before .before .before .before .before .leave in
     let d =
     flipped-out skewness _ _ _ (s .args .w .window) (l .result .window) (l .result .flips) _ _ (s .pre .0) (l .ensures) (s .pre .1) (s .pre .4) (s .pre .5)
-    (c .before .before .before .before .before .if1 .taken) _ (c .before .before .before .flip .ensures) _ (c .default .ensures) in
-    (d .0, (l .ensures .to, d .1))
+    (c .before .before .before .before .before .if1 .taken) _ (c .before .before .before .flip .ensures) _ (c .empty .ensures) in
+    record { held = d .0; to = l .ensures .to; rest = d .1 }
 
-default-requires-2 : tie.Need-default-requires-2
-default-requires-2 c κs = search needs
+empty-requires-2 : tie.Need-empty-requires-2
+empty-requires-2 c κs = search needs
 
 returns-2 : tie.Need-returns-2
 returns-2 c =
     let s = c .before .before .before .before .before .before .before .before .before .before .before in
-    let l = c .before .before .before .before .before .leave in (
-      out-emptied (ofReadings skewness) _ _ _ (s .args .w .window) (l .result .window) (l .result .flips) _ _ (s .pre .0) (l .ensures) (s .pre .1)
-          (c .before .before .before .if1 .left) (c .before .if2 .taken) _ (c .default2 .ensures),
-      (l .ensures .to, refl),
-    )
+    let l = c .before .before .before .before .before .leave in
+    record {
+      held = out-emptied (ofReadings skewness) _ _ _ (s .args .w .window) (l .result .window) (l .result .flips) _ _ (s .pre .0) (l .ensures) (s .pre .1)
+          (c .before .before .before .if1 .left) (c .before .if2 .taken) _ (c .empty2 .ensures);
+      to = l .ensures .to;
+      rest = refl;
+    }
 
 returns-3 : tie.Need-returns-3
 returns-3 c =
     let s = c .before .before .before .before .before .before .before .before .before .before in
-    let l = c .before .before .before .before .leave in (
-      out-kept (ofReadings skewness) _ _ _ (s .args .w .window) (l .result .window) (l .result .flips) _ _ (s .pre .0) (l .ensures) (s .pre .1)
-          (c .before .before .if1 .left) (c .if2 .left),
-      (l .ensures .to, refl),
-    )
+    let l = c .before .before .before .before .leave in
+    record {
+      held = out-kept (ofReadings skewness) _ _ _ (s .args .w .window) (l .result .window) (l .result .flips) _ _ (s .pre .0) (l .ensures) (s .pre .1)
+          (c .before .before .if1 .left) (c .if2 .left);
+      to = l .ensures .to;
+      rest = refl;
+    }
 
 pub pop-spec : {M : Type 1} → statement M
 pop-spec =
@@ -56,9 +60,9 @@ pop-spec =
     (tie.spec
     leave-requires
     flip-requires
-    default-requires
+    empty-requires
     same-length
     returns
-    default-requires-2
+    empty-requires-2
     returns-2
     returns-3)

@@ -24,14 +24,14 @@ Inv-loop self values has-map map starts ends min-periods widest work₀ figures�
 abbrev μ-loop : tie.MeasureT-loop
 μ-loop self values has-map map starts ends min-periods widest work₀ figures₀ present₀ w₀ counts₀ none factors₀ row₀ work figures present w counts factors row = length starts - row
 
-default-requires : tie.Need-default-requires Inv-loop μ-loop
-default-requires c κs = search needs
+empty-requires : tie.Need-empty-requires Inv-loop μ-loop
+empty-requires c κs = search needs
 
 correction-requires : tie.Need-correction-requires Inv-loop μ-loop
 correction-requires c κs = search needs
 
 loop-holds : tie.Need-loop-holds Inv-loop μ-loop
-loop-holds c = (row-start (ofReadings skewness) _ _ _ _ _ _ _ _ _ _ _ (c .before .default .ensures), first-slots _ (c .correction .ensures))
+loop-holds c = (row-start (ofReadings skewness) _ _ _ _ _ _ _ _ _ _ _ (c .before .empty .ensures), first-slots _ (c .correction .ensures))
 
 mul-place : tie.Need-mul-place Inv-loop μ-loop
 mul-place c = search needs
@@ -65,7 +65,11 @@ step-requires c κs =
     let row = i .before .loop .inv .0 in
     let l = row .work-same in
     let y = s .pre .work-fits in
-    (row .held, row-ready (ofReadings skewness) _ _ _ _ _ _ (s .pre .plan) row (i .loop-test .taken) _ _ (r .before .before .place .ensures) (r .place2 .ensures), omega arith)
+    record {
+      held = row .held;
+      ready = row-ready (ofReadings skewness) _ _ _ _ _ _ (s .pre .plan) row (i .loop-test .taken) _ _ (r .before .before .place .ensures) (r .place2 .ensures);
+      room = omega arith;
+    }
 
 slice-aggregate-answer : tie.Need-slice-aggregate-answer Inv-loop μ-loop
 slice-aggregate-answer c = search needs
@@ -84,12 +88,19 @@ answer-requires c κs =
     let n = q .kept .0 in
     let y = s .pre .work-fits in
     let f = row-fits (ofReadings skewness) _ _ _ _ _ _ (s .pre .plan) row (i .loop-test .taken) _ _ (r .before .before .place .ensures) (r .place2 .ensures)
-    (q .result .window) _ _ (q .ensures .1 .0) (q .ensures .0) (omega arith) in
+    (q .result .window) _ _ (q .ensures .to) (q .ensures .held) (omega arith) in
     let o = row-inside (ofReadings skewness) _ _ _ _ _ _ (s .pre .plan) row (i .loop-test .taken) _ _ (r .before .before .place .ensures) (r .place2 .ensures)
-    (q .result .window) (q .ensures .1 .0) in
+    (q .result .window) (q .ensures .to) in
     let m = s .pre .few in
-    let k = f .1 in
-    (f .0, f .1, f .2, i .before .loop .inv .1, window-weight (λ z. skewFinalize z (s .args .self .bias)) _ _ (q .result .window) _ _ (q .ensures .0) (omega arith))
+    let k = f .1 in (
+      record {
+        room = f .0;
+        inside = f .1;
+        weight-is = window-weight (λ z. skewFinalize z (s .args .self .bias)) _ _ (q .result .window) _ _ (q .ensures .held) (omega arith);
+        slots = i .before .loop .inv .1;
+      },
+      f .2,
+    )
 
 write-requires : tie.Need-write-requires Inv-loop μ-loop
 write-requires c κs =
@@ -117,7 +128,7 @@ loop-again c =
     let p = c .before .before .before .before .write .ensures in
     let f = c .before .before .before .before .before .before .before .before .before .answer .ensures in (
       row-next (ofReadings skewness) _ _ _ _ _ _ (s .pre .plan) (i .before .loop .inv .0) (i .loop-test .taken) _ _ (r .before .before .place .ensures) (r .place2 .ensures)
-          (q .ensures .1 .0) (q .ensures .0) (q .kept .0) (q .ensures .1 .1) (f .0)
+          (q .ensures .to) (q .ensures .held) (q .kept .0) (q .ensures .rest) (f .0)
           (s .pre .figures-fit) (s .pre .present-fit) (p .0) (p .1),
       f .1,
     )
@@ -144,7 +155,7 @@ rows-spec =
     (tie.spec
     Inv-loop
     μ-loop
-    default-requires
+    empty-requires
     correction-requires
     loop-holds
     mul-place

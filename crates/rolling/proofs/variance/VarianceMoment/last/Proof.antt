@@ -7,12 +7,12 @@ use borrow.Author.Needs.{needs}
 use Rattle.rolling.proofs.variance.VarianceMoment.last.Statement.{statement}
 use Rattle.rolling.proofs.variance.VarianceMoment.last.Tie as tie
 
-default-requires : tie.Need-default-requires
-default-requires c κs = search needs
+empty-requires : tie.Need-empty-requires
+empty-requires c κs = search needs
 
 returns : tie.Need-returns
 unfolding topOf
-returns c = rw (eq-eqb _ _ (c .before .if1 .taken)) (c .default .ensures)
+returns c = rw (eq-eqb _ _ (c .before .if1 .taken)) (c .empty .ensures)
 
 sub-at : tie.Need-sub-at
 sub-at c = search needs
@@ -52,7 +52,7 @@ pub last-spec : {M : Type 1} → statement M
 last-spec =
     tie.close
     (tie.spec
-    default-requires
+    empty-requires
     returns
     sub-at
     mul-at

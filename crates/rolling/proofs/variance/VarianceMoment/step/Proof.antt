@@ -17,10 +17,15 @@ returns : tie.Need-returns
 returns c =
     let m = c .before .before .update .ensures in
     let g = c .before .before .before .before in
-    (m .0, (rw (sym (g .before .moves .ensures) ∙ g .if1 .taken) (m .1 .0), m .1 .1))
+    record { held = m .held; to = rw (sym (g .before .moves .ensures) ∙ g .if1 .taken) (m .to); rest = m .rest }
 
 returns-2 : tie.Need-returns-2
-returns-2 c = (c .before .before .before .before .before .pre .0, (rw (sym (c .before .moves .ensures) ∙ c .if1 .left), refl))
+returns-2 c =
+    record {
+      held = c .before .before .before .before .before .pre .held;
+      to = rw (sym (c .before .moves .ensures) ∙ c .if1 .left);
+      rest = refl;
+    }
 
 pub step-spec : {M : Type 1} → statement M
 step-spec = tie.close (tie.spec moves-requires update-requires same-length returns returns-2)
