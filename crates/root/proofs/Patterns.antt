@@ -194,6 +194,11 @@ shifted m zero h g = omega arith
 shifted m (suc zero) h g = omega arith
 shifted m (suc (suc p)) h g = absurd (omega arith)
 
+unshortened : (m p : ℕ) → p < 2 → m < 2 ^ 53 → (m * 2 ^ p) % 2 ^ 64 ≡ m * 2 ^ p
+unshortened m zero h g = omega arith
+unshortened m (suc zero) h g = omega arith
+unshortened m (suc (suc p)) h g = absurd (omega arith)
+
 in-range : (m p : ℕ) → p < 2 → 2 ^ 52 ≤ m → m < 2 ^ 53 → (2 ^ 104 ≤ m * 2 ^ (52 + p)) × (m * 2 ^ (52 + p) ≤ 2 ^ 106 - 2 ^ 53)
 in-range m zero h k g = omega arith
 in-range m (suc zero) h k g = omega arith
@@ -203,7 +208,7 @@ abbrev pub Normal : ℕ → ℕ → Type 0
 Normal m j = (2 ^ 52 ≤ m) × (m < 2 ^ 53) × (1022 ≤ j) × (j ≤ 3119)
 
 module _ (m j : ℕ) (normal : Normal m j) where
-  abbrev word : ℕ
+  abbrev pub word : ℕ
   word = (m * 2 ^ (j % 2)) % 2 ^ 64
 
   bit : j % 2 < 2
@@ -214,6 +219,9 @@ module _ (m j : ℕ) (normal : Normal m j) where
 
   range : (2 ^ 104 ≤ m * 2 ^ (52 + j % 2)) × (m * 2 ^ (52 + j % 2) ≤ 2 ^ 106 - 2 ^ 53)
   range = in-range m (j % 2) bit (normal .0) (normal .1)
+
+  pub word-whole : word ≡ m * 2 ^ (j % 2)
+  word-whole = unshortened m (j % 2) bit (normal .1)
 
   pub word-in : (2 ^ 52 ≤ word) × (word < 2 ^ 54)
   word-in = omega (arith, word-is, range)
@@ -290,6 +298,21 @@ high-root b h g =
     ∙ root-odd (2 ^ 52 + t) x p
     ∙ ap rootOfUnits (shift-sum (2 ^ 52 + t) x 1074 (1073 + b / 2 ^ 52) e)
     ∙ ap (λ (z : ℕ). rootOfUnits (z * 2 ^ (1073 + b / 2 ^ 52))) (omega arith)
+
+-- the exponent of its root is half of its own, which half of its bits holds
+pub normal-root : (b w q : ℕ) → 2 ^ 52 ≤ b → b < 0x7ff0000000000000
+    → w ≡ (b % 2 ^ 52 + 2 ^ 52) * 2 ^ ((1073 + b / 2 ^ 52) % 2) → q ≡ roundedRoot 0 (w * 2 ^ 52)
+    → let v = (b / 2 + 0x1fe8000000000000) / 2 ^ 52 * 2 ^ 52 + q in
+    (v < 0x7ff0000000000000) × (ofBits binary64 v ≡ root (ofBits binary64 b))
+normal-root b w q h g f is =
+    let m = b % 2 ^ 52 + 2 ^ 52 in
+    let j = 1073 + b / 2 ^ 52 in
+    let n : Normal m j = omega arith in
+    let k : (b / 2 + 0x1fe8000000000000) / 2 ^ 52 ≡ j / 2 - 26 = omega arith in
+    let r = root-bits m j n q (is ∙ ap (λ (x : ℕ). roundedRoot 0 (x * 2 ^ 52)) (f ∙ sym (word-whole m j n))) in (
+      omega (arith, r .0),
+      ap (λ (x : ℕ). ofBits binary64 (x * 2 ^ 52 + q)) k ∙ r .1 ∙ sym (high-root b h g),
+    )
 
 -- ---- below zero, minus infinity and NaN
 neg-fin : (m : ℕ) (e : ℤ) (a c : ℕ) → 0 < a → m * up e * c ≡ a * down e → root (fin true m e) ≡ nan

@@ -1,25 +1,23 @@
 -- `root::assemble` meets its contract: the exponent and the 53 digits of the rounded root, side by side, are the bits of
 -- the root. Assumes nothing.
 use borrow.Author.Needs.{needs}
+use mathlib.Core.Path.{_≡_, ap, _∙_}
+use Prim.Native.Nat.{ℕ, _+_, _-_, _*_, _/_, _^_, _<_}
 use native.Mathlib.Omega.{arith}
-use Rattle.root.proofs.Patterns.{word-in, root-bits}
+use lib.Ieee.{binary64, ofBits}
+use Rattle.root.specs.Root.{roundedRoot, rootOfUnits}
+use Rattle.root.proofs.Patterns.{word, word-in, root-bits}
 use Rattle.root.proofs.assemble.Statement.{statement}
 use Rattle.root.proofs.assemble.Tie as tie
 
-shl-nearest : tie.Need-shl-nearest
-shl-nearest c = search needs
+shl-digits : tie.Need-shl-digits
+shl-digits c = search needs
 
-add-nearest : tie.Need-add-nearest
-add-nearest c = search needs
+mul-digits : tie.Need-mul-digits
+mul-digits c = omega (arith, word-in (c .args .m) (c .args .j) (c .pre))
 
-mul-nearest : tie.Need-mul-nearest
-mul-nearest c = search needs
-
-add-nearest-2 : tie.Need-add-nearest-2
-add-nearest-2 c = search needs
-
-nearest-requires : tie.Need-nearest-requires
-nearest-requires c κs = omega (arith, word-in (c .args .m) (c .args .j) (c .pre))
+digits-requires : tie.Need-digits-requires
+digits-requires c κs = search needs
 
 sub-result : tie.Need-sub-result
 sub-result c = search needs
@@ -27,25 +25,27 @@ sub-result c = search needs
 mul-result : tie.Need-mul-result
 mul-result c = search needs
 
-add-result : tie.Need-add-result
-add-result c =
+bits : (c : tie.After-digits) → let s = c .before in let q = c .digits .result in let k = s .args .j / 2 - 26 in
+    (k * 2 ^ 52 + q < 0x7ff0000000000000) × (ofBits binary64 (k * 2 ^ 52 + q) ≡ rootOfUnits (s .args .m * 2 ^ s .args .j))
+bits c =
     let s = c .before in
-    omega (arith, root-bits (s .args .m) (s .args .j) (s .pre) (c .nearest .result) (c .nearest .ensures))
+    let w = word (s .args .m) (s .args .j) (s .pre) in
+    let e : w * 1024 * 2 ^ 42 ≡ w * 2 ^ 52 = omega arith in
+    root-bits (s .args .m) (s .args .j) (s .pre) (c .digits .result) (c .digits .ensures ∙ ap (λ (n : ℕ). roundedRoot 0 n) e)
+
+add-result : tie.Need-add-result
+add-result c = omega (arith, bits c)
 
 returns : tie.Need-returns
-returns c =
-    let s = c .before in
-    root-bits (s .args .m) (s .args .j) (s .pre) (c .nearest .result) (c .nearest .ensures)
+returns c = bits c
 
 pub assemble-spec : {M : Type 1} → statement M
 assemble-spec =
     tie.close
     (tie.spec
-    shl-nearest
-    add-nearest
-    mul-nearest
-    add-nearest-2
-    nearest-requires
+    shl-digits
+    mul-digits
+    digits-requires
     sub-result
     mul-result
     add-result

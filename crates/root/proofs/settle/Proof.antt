@@ -1,10 +1,9 @@
--- `root::settle` meets its contract: what it keeps of x * 2 ^ 52 - r * r is exact, and a remainder of less than three
--- times r puts the rounded root at r or beside it, told by where the remainder lies. Assumes nothing.
+-- `root::settle` meets its contract: no difference that passes its test has wrapped around, so what is left of x * 2 ^ 52
+-- and r is exact, and below four times r it puts the rounded root at r or at the next number. Assumes nothing.
 use borrow.Author.Needs.{needs}
 use mathlib.Core.Path.{_≡_, sym, ap, _∙_}
-use Prim.Native.Nat.{ℕ, zero, suc, _+_, _-_, _*_, _/_, _%_, _^_, _≤_, _<_}
-use native.Mathlib.Nat.{mul-le-mul, lt-of-not-le}
-use native.Mathlib.Decide.{decLe}
+use Prim.Native.Nat.{ℕ, _+_, _-_, _*_, _/_, _%_, _^_, _≤_, _<_}
+use native.Mathlib.Nat.{mul-le-mul}
 use native.Mathlib.Omega.{arith}
 use Rattle.root.specs.Root.{roundedRoot}
 use Rattle.root.proofs.IntegerRoot.{rounded-to}
@@ -13,194 +12,134 @@ use Rattle.root.proofs.settle.Tie as tie
 
 -- the products of the two parts of r fit a word
 record Parts (high low : ℕ) : Type 0 where
-  top : high * high < 2 ^ 52
+  top : high * high < 2 ^ 54
   cross : high * low < 2 ^ 53
-  bottom : low * low < 2 ^ 54
+  bottom : low * low < 2 ^ 52
 
-parts : (r : ℕ) → r < 2 ^ 53 → Parts (r / 0x8000000) (r % 0x8000000)
+parts : (r : ℕ) → r < 2 ^ 53 → Parts (r / 0x4000000) (r % 0x4000000)
 parts r b =
-    let H : r / 0x8000000 ≤ 2 ^ 26 - 1 = omega arith in
-    let L : r % 0x8000000 ≤ 2 ^ 27 - 1 = omega arith in
+    let H : r / 0x4000000 ≤ 2 ^ 27 - 1 = omega arith in
+    let L : r % 0x4000000 ≤ 2 ^ 26 - 1 = omega arith in
     record {
       top = omega (arith, mul-le-mul H H);
       cross = omega (arith, mul-le-mul H L);
       bottom = omega (arith, mul-le-mul L L);
     }
 
--- x * 2 ^ 52 - r * r is minuend - subtrahend
-difference : (x r h l : ℕ) → r ≡ h * 2 ^ 27 + l → h * h * 4 ≤ x + 8 → h * l ≤ (x + 8 - h * h * 4) * 2 ^ 24
-    → x * 2 ^ 52 + (l * l + 2 ^ 55) ≡ r * r + ((x + 8 - h * h * 4) * 2 ^ 24 - h * l) * 2 ^ 28
-difference x r h l e a b =
-    let f : r * r ≡ (h * 2 ^ 27 + l) * (h * 2 ^ 27 + l) = ap (λ (z : ℕ). z * z) e in
+-- what is left of x * 2 ^ 52
+exactly : (x r h l upper lower rest : ℕ) → r ≡ h * 2 ^ 26 + l → upper + h * h ≡ x + 1 → lower + h * l ≡ upper * 2 ^ 25
+    → rest + (l * l + (2 ^ 52 + 1)) ≡ lower * 2 ^ 27 + r → x * 2 ^ 52 + r ≡ r * r + rest + 1
+exactly x r h l upper lower rest e a b d =
+    let f : r * r ≡ (h * 2 ^ 26 + l) * (h * 2 ^ 26 + l) = ap (λ (z : ℕ). z * z) e in
     omega arith
 
--- f is 1 where a is above b, and 0 otherwise
-abbrev Exceeds : ℕ → ℕ → ℕ → Type 0
-Exceeds f a b = (f ≤ 1) × (b < a → f ≡ 1) × (a ≤ b → f ≡ 0)
+-- a difference below 2 ^ 63 of a number below 2 ^ 63 has not wrapped around
+unwrapped : (d a b : ℕ) → d < 2 ^ 63 → b < 2 ^ 63 → (d + b) % 2 ^ 64 ≡ a → d + b ≡ a
+unwrapped d a b h g e = omega arith
 
--- n is r * r + m - s, and not far from r * r
-module _ (n r m s : ℕ) (few : n < 2 ^ 106) (big : 1 < r) (e : n + s ≡ r * r + m)
-    (lo : s + 2 < m + r * 3) (hi : m ≤ s + r * 3 + 2) where
-  one-less : m + r ≤ s → roundedRoot 0 n ≡ r - 1
-  one-less h = go r big e h lo
-    where
-      go : (r : ℕ) → 1 < r → n + s ≡ r * r + m → m + r ≤ s → s + 2 < m + r * 3 → roundedRoot 0 n ≡ r - 1
-      go zero p e h g = absurd (omega arith)
-      go (suc q) p e h g = rounded-to n q few (omega arith) (omega arith) (omega arith) ∙ omega arith
+left : (c : tie.Else3) → let s = c .before .before .before .before .before .before in
+    s .args .x * 2 ^ 52 + s .args .r ≡ s .args .r * s .args .r + c .before .wrapping-sub-u643 .result + 1
+left c =
+    let s = c .before .before .before .before .before .before in
+    let r = s .args .r in
+    let p = parts r (s .pre .1) in
+    let upper = c .before .before .before .before .before .wrapping-sub-u64 in
+    let lower = c .before .before .before .wrapping-sub-u642 in
+    let rest = c .before .wrapping-sub-u643 in
+    exactly (s .args .x) r (r / 0x4000000) (r % 0x4000000) (upper .result) (lower .result) (rest .result) (omega arith)
+    (unwrapped (upper .result) _ _ (omega arith) (omega (arith, p)) (upper .ensures))
+    (unwrapped (lower .result) _ _ (omega arith) (omega (arith, p)) (lower .ensures))
+    (unwrapped (rest .result) _ _ (omega arith) (omega (arith, p)) (rest .ensures))
 
-  chosen : (up down : ℕ) → Exceeds up m (s + r) → Exceeds down (s + 1) (m + r) → r + up - down ≡ roundedRoot 0 n
-  chosen up down A B = elim (decLe (s + 1) (m + r)) [
-    | yes h ↦
-        let d : down ≡ 0 = B .2 h in
-        elim (decLe m (s + r)) [
-          | yes g ↦
-              let u : up ≡ 0 = A .2 g in
-              let t : r + up - down ≡ r = omega arith in
-              t ∙ sym (rounded-to n r few (omega arith) (omega arith) (omega arith))
-          | no g ↦
-              let g' : s + r < m = lt-of-not-le g in
-              let u : up ≡ 1 = A .1 g' in
-              let t : r + up - down ≡ r + 1 = omega arith in
-              t ∙ sym (rounded-to n (r + 1) few (omega arith) (omega arith) (omega arith))
-        ]
-    | no h ↦
-        let h' : m + r < s + 1 = lt-of-not-le h in
-        let u : up ≡ 0 = A .2 (omega arith) in
-        let d : down ≡ 1 = B .1 h' in
-        let t : r + up - down ≡ r - 1 = omega arith in
-        t ∙ sym (one-less (omega arith))
-  ]
+-- n is r * r + rest + 1 - r
+module _ (n r rest : ℕ) (few : n < 2 ^ 106) (e : n + r ≡ r * r + rest + 1) where
+  same : rest < r * 2 → r + 0 ≡ roundedRoot 0 n
+  same h = let z : r + 0 ≡ r = omega arith in z ∙ sym (rounded-to n r few (omega arith) (omega arith) (omega arith))
 
-mul-top : tie.Need-mul-top
-mul-top c = omega (arith, parts (c .args .r) (c .pre .2))
+  one-more : r * 2 ≤ rest → rest < r * 4 + 2 → r + 1 ≡ roundedRoot 0 n
+  one-more h g = sym (rounded-to n (r + 1) few (omega arith) (omega arith) (omega arith))
 
-mul-top-2 : tie.Need-mul-top-2
-mul-top-2 c = omega (arith, parts (c .args .r) (c .pre .2))
+add-wrapping-sub-u64 : tie.Need-add-wrapping-sub-u64
+add-wrapping-sub-u64 c = search needs
 
-add-if1 : tie.Need-add-if1
-add-if1 c = search needs
+mul-wrapping-sub-u64 : tie.Need-mul-wrapping-sub-u64
+mul-wrapping-sub-u64 c = omega (arith, parts (c .args .r) (c .pre .1))
+
+wrapping-sub-u64-requires : tie.Need-wrapping-sub-u64-requires
+wrapping-sub-u64-requires c κs = search needs
 
 returns : tie.Need-returns
 returns c = search needs
 
-add-upper : tie.Need-add-upper
-add-upper c = search needs
+mul-wrapping-sub-u64-2 : tie.Need-mul-wrapping-sub-u64-2
+mul-wrapping-sub-u64-2 c = search needs
 
-sub-upper : tie.Need-sub-upper
-sub-upper c = search needs
+mul-wrapping-sub-u64-3 : tie.Need-mul-wrapping-sub-u64-3
+mul-wrapping-sub-u64-3 c = omega (arith, parts (c .before .before .args .r) (c .before .before .pre .1))
+
+wrapping-sub-u64-requires-2 : tie.Need-wrapping-sub-u64-requires-2
+wrapping-sub-u64-requires-2 c κs = search needs
 
 returns-2 : tie.Need-returns-2
 returns-2 c = search needs
 
-mul-scaled : tie.Need-mul-scaled
-mul-scaled c = search needs
+mul-wrapping-sub-u64-4 : tie.Need-mul-wrapping-sub-u64-4
+mul-wrapping-sub-u64-4 c = search needs
 
-mul-cross : tie.Need-mul-cross
-mul-cross c = omega (arith, parts (c .before .before .args .r) (c .before .before .pre .2))
+add-wrapping-sub-u64-2 : tie.Need-add-wrapping-sub-u64-2
+add-wrapping-sub-u64-2 c = search needs
+
+mul-wrapping-sub-u64-5 : tie.Need-mul-wrapping-sub-u64-5
+mul-wrapping-sub-u64-5 c = omega (arith, parts (c .before .before .before .before .args .r) (c .before .before .before .before .pre .1))
+
+add-wrapping-sub-u64-3 : tie.Need-add-wrapping-sub-u64-3
+add-wrapping-sub-u64-3 c = omega (arith, parts (c .before .before .before .before .args .r) (c .before .before .before .before .pre .1))
+
+wrapping-sub-u64-requires-3 : tie.Need-wrapping-sub-u64-requires-3
+wrapping-sub-u64-requires-3 c κs = search needs
+
+mul-if3 : tie.Need-mul-if3
+mul-if3 c = search needs
+
+add-if3 : tie.Need-add-if3
+add-if3 c = search needs
 
 returns-3 : tie.Need-returns-3
 returns-3 c = search needs
 
+mul-if4 : tie.Need-mul-if4
+mul-if4 c = search needs
+
 returns-4 : tie.Need-returns-4
-returns-4 c = search needs
-
-mul-minuend : tie.Need-mul-minuend
-mul-minuend c = search needs
-
-mul-subtrahend : tie.Need-mul-subtrahend
-mul-subtrahend c = omega (arith, parts (c .before .before .before .before .args .r) (c .before .before .before .before .pre .2))
-
-add-subtrahend : tie.Need-add-subtrahend
-add-subtrahend c = omega (arith, parts (c .before .before .before .before .args .r) (c .before .before .before .before .pre .2))
-
-mul-if5 : tie.Need-mul-if5
-mul-if5 c = search needs
-
-add-if5 : tie.Need-add-if5
-add-if5 c = search needs
-
-add-if5-2 : tie.Need-add-if5-2
-add-if5-2 c = omega (arith, parts (c .before .before .before .before .args .r) (c .before .before .before .before .pre .2))
+returns-4 c =
+    let s = c .before .before .before .before .before .before .before in
+    λ _. one-more (s .args .x * 2 ^ 52) (s .args .r) _ (omega arith) (left (c .before)) (c .if4 .taken) (c .before .if3 .left)
 
 returns-5 : tie.Need-returns-5
-returns-5 c = search needs
-
-mul-if6 : tie.Need-mul-if6
-mul-if6 c = search needs
-
-add-if6 : tie.Need-add-if6
-add-if6 c = search needs
-
-add-if6-2 : tie.Need-add-if6-2
-add-if6-2 c = search needs
-
-returns-6 : tie.Need-returns-6
-returns-6 c = search needs
-
-add-exceeds : tie.Need-add-exceeds
-add-exceeds c = search needs
-
-exceeds-requires : tie.Need-exceeds-requires
-exceeds-requires c κs = search needs
-
-add-result : tie.Need-add-result
-add-result c = search needs
-
-add-exceeds-2 : tie.Need-add-exceeds-2
-add-exceeds-2 c = search needs
-
-add-exceeds-3 : tie.Need-add-exceeds-3
-add-exceeds-3 c = search needs
-
-exceeds-requires-2 : tie.Need-exceeds-requires-2
-exceeds-requires-2 c κs = search needs
-
-sub-result : tie.Need-sub-result
-sub-result c = search needs
-
-returns-7 : tie.Need-returns-7
-returns-7 c =
-    let s = c .before .before .before .before .before .before .before .before in
-    let x = s .args .x in
-    let r = s .args .r in
-    let top = c .before .before .before .before .before .before .before .if1 .left in
-    let cross = c .before .before .before .before .before .if3 .left in
-    let e = difference x r (r / 0x8000000) (r % 0x8000000) (omega arith) top cross in
-    let lo = c .before .before .before .if5 .left in
-    let hi = c .before .before .if6 .left in
-    λ _. chosen (x * 2 ^ 52) r _ _ (omega arith) (omega arith) e lo hi _ _ (c .before .exceeds .ensures) (c .exceeds2 .ensures)
+returns-5 c =
+    let s = c .before .before .before .before .before .before .before in
+    λ _. same (s .args .x * 2 ^ 52) (s .args .r) _ (omega arith) (left (c .before)) (c .if4 .left)
 
 pub settle-spec : {M : Type 1} → statement M
 settle-spec =
     tie.close
     (tie.spec
-    mul-top
-    mul-top-2
-    add-if1
+    add-wrapping-sub-u64
+    mul-wrapping-sub-u64
+    wrapping-sub-u64-requires
     returns
-    add-upper
-    sub-upper
+    mul-wrapping-sub-u64-2
+    mul-wrapping-sub-u64-3
+    wrapping-sub-u64-requires-2
     returns-2
-    mul-scaled
-    mul-cross
+    mul-wrapping-sub-u64-4
+    add-wrapping-sub-u64-2
+    mul-wrapping-sub-u64-5
+    add-wrapping-sub-u64-3
+    wrapping-sub-u64-requires-3
+    mul-if3
+    add-if3
     returns-3
+    mul-if4
     returns-4
-    mul-minuend
-    mul-subtrahend
-    add-subtrahend
-    mul-if5
-    add-if5
-    add-if5-2
-    returns-5
-    mul-if6
-    add-if6
-    add-if6-2
-    returns-6
-    add-exceeds
-    exceeds-requires
-    add-result
-    add-exceeds-2
-    add-exceeds-3
-    exceeds-requires-2
-    sub-result
-    returns-7)
+    returns-5)
