@@ -1,9 +1,10 @@
 // Kurtosis: the source's `KurtosisState`.
 ghost use mathlib.Core.Path.{_≡_};
+ghost use Rattle.float.specs.Operators.{zero64};
 ghost use Prim.Native.Nat.{_+_, _^_, _<_};
 ghost use lib.ListN.{length};
 ghost use Rattle.trace.specs.Trace.{validAt, validFrom};
-ghost use Rattle.moment.specs.Kurtosis.{kurtosisEmpty, kurtosisAbout, kurtosisNew, kurtosisClear, kurtosisInsert, kurtosisMerge, kurtosisCombine, kurtosisBiased, kurtosisUnbiased, lessThree, kurtosisFinalize};
+ghost use Rattle.moment.specs.Kurtosis.{kurtosisEmpty, kurtosisAbout, kurtosisNew, kurtosisInsert, kurtosisMerge, kurtosisCombine, kurtosisBiased, kurtosisUnbiased, lessThree, kurtosisFinalize};
 ghost use Rattle.moment.specs.Arrays.{kurtosisRange};
 use crate::Figure;
 use crate::KurtosisAnswer;
@@ -124,25 +125,27 @@ impl KurtosisState {
         KurtosisState::about(x, weight, mean)
     }
 
-    fn clear_zero_weight_nan(self) -> Self
-        ensures { λ r. ⌜ r ≡ kurtosisClear self ⌝ }
+    // The source's `clear_zero_weight_nan`, of a state whose weight is zero. The weight is tested before the other members are worked
+    // out: after them the compiler picks each member without a branch, which is slow.
+    fn zero_weight(weight: f64) -> Self
+        ensures { λ r. ⌜ r ≡ record { weight = weight; mean = zero64; m2 = zero64; m3 = zero64; m4 = zero64 } ⌝ }
     {
-        if self.weight == 0.0 {
-            return KurtosisState {
-                weight: self.weight,
-                mean: 0.0,
-                m2: 0.0,
-                m3: 0.0,
-                m4: 0.0,
-            };
+        KurtosisState {
+            weight,
+            mean: 0.0,
+            m2: 0.0,
+            m3: 0.0,
+            m4: 0.0,
         }
-        self
     }
 
     pub fn insert_one(self, x: f64) -> Self
         ensures { λ r. ⌜ r ≡ kurtosisInsert self x ⌝ }
     {
         let new_weight = self.weight + 1.0;
+        if new_weight == 0.0 {
+            return KurtosisState::zero_weight(new_weight);
+        }
         let delta_mean = x - self.mean;
         let delta_mean_weight = delta_mean / new_weight;
         let new_mean = self.mean + delta_mean_weight;
@@ -162,7 +165,7 @@ impl KurtosisState {
             m2: new_m2,
             m3: new_m3,
             m4: new_m4,
-        }.clear_zero_weight_nan()
+        }
     }
 
     // `combine` after its tests of weights.
@@ -170,6 +173,9 @@ impl KurtosisState {
         ensures { λ r. ⌜ r ≡ kurtosisMerge self other ⌝ }
     {
         let new_weight = self.weight + other.weight;
+        if new_weight == 0.0 {
+            return KurtosisState::zero_weight(new_weight);
+        }
         let delta_mean = other.mean - self.mean;
         let delta_mean_weight = delta_mean / new_weight;
         let new_mean = self.mean + other.weight * delta_mean_weight;
@@ -198,7 +204,7 @@ impl KurtosisState {
             m2: new_m2,
             m3: new_m3,
             m4: new_m4,
-        }.clear_zero_weight_nan()
+        }
     }
 
     pub fn combine(self, other: KurtosisState) -> Self

@@ -1,9 +1,10 @@
 // Skewness: the source's `SkewState`.
 ghost use mathlib.Core.Path.{_≡_};
+ghost use Rattle.float.specs.Operators.{zero64};
 ghost use Prim.Native.Nat.{_+_, _^_, _<_};
 ghost use lib.ListN.{length};
 ghost use Rattle.trace.specs.Trace.{validAt, validFrom};
-ghost use Rattle.moment.specs.Skew.{skewEmpty, skewAbout, skewNew, skewClear, skewInsert, skewMerge, skewCombine, skewBiased, skewCorrection, skewFinalize, skewFinalizeWith};
+ghost use Rattle.moment.specs.Skew.{skewEmpty, skewAbout, skewNew, skewInsert, skewMerge, skewCombine, skewBiased, skewCorrection, skewFinalize, skewFinalizeWith};
 ghost use Rattle.moment.specs.Arrays.{skewRange};
 use crate::Figure;
 use crate::SkewAnswer;
@@ -114,24 +115,26 @@ impl SkewState {
         SkewState::about(x, weight, mean)
     }
 
-    fn clear_zero_weight_nan(self) -> Self
-        ensures { λ r. ⌜ r ≡ skewClear self ⌝ }
+    // The source's `clear_zero_weight_nan`, of a state whose weight is zero. The weight is tested before the other members are worked
+    // out: after them the compiler picks each member without a branch, which is slow.
+    fn zero_weight(weight: f64) -> Self
+        ensures { λ r. ⌜ r ≡ record { weight = weight; mean = zero64; m2 = zero64; m3 = zero64 } ⌝ }
     {
-        if self.weight == 0.0 {
-            return SkewState {
-                weight: self.weight,
-                mean: 0.0,
-                m2: 0.0,
-                m3: 0.0,
-            };
+        SkewState {
+            weight,
+            mean: 0.0,
+            m2: 0.0,
+            m3: 0.0,
         }
-        self
     }
 
     pub fn insert_one(self, x: f64) -> Self
         ensures { λ r. ⌜ r ≡ skewInsert self x ⌝ }
     {
         let new_weight = self.weight + 1.0;
+        if new_weight == 0.0 {
+            return SkewState::zero_weight(new_weight);
+        }
         let delta_mean = x - self.mean;
         let delta_mean_weight = delta_mean / new_weight;
         let new_mean = self.mean + delta_mean_weight;
@@ -144,7 +147,7 @@ impl SkewState {
             mean: new_mean,
             m2: new_m2,
             m3: new_m3,
-        }.clear_zero_weight_nan()
+        }
     }
 
     // `combine` after its tests of weights.
@@ -152,6 +155,9 @@ impl SkewState {
         ensures { λ r. ⌜ r ≡ skewMerge self other ⌝ }
     {
         let new_weight = self.weight + other.weight;
+        if new_weight == 0.0 {
+            return SkewState::zero_weight(new_weight);
+        }
         let delta_mean = other.mean - self.mean;
         let delta_mean_weight = delta_mean / new_weight;
         let new_mean = self.mean + other.weight * delta_mean_weight;
@@ -169,7 +175,7 @@ impl SkewState {
             mean: new_mean,
             m2: new_m2,
             m3: new_m3,
-        }.clear_zero_weight_nan()
+        }
     }
 
     pub fn combine(self, other: SkewState) -> Self

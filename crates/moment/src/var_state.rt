@@ -1,6 +1,7 @@
 // Variance: the source's `VarState`.
 ghost use mathlib.Core.Path.{_≡_};
-ghost use Rattle.moment.specs.Var.{varEmpty, varNew, varClear, varInsert, varMerge, varCombine, notNegative, varFinalize};
+ghost use Rattle.float.specs.Operators.{zero64};
+ghost use Rattle.moment.specs.Var.{varEmpty, varNew, varInsert, varMerge, varCombine, notNegative, varFinalize};
 use crate::Figure;
 use crate::sums;
 
@@ -41,30 +42,32 @@ impl VarState {
         VarState { weight, mean, dp }
     }
 
-    fn clear_zero_weight_nan(self) -> Self
-        ensures { λ r. ⌜ r ≡ varClear self ⌝ }
+    // The source's `clear_zero_weight_nan`, of a state whose weight is zero. The weight is tested before the other members are worked
+    // out: after them the compiler picks each member without a branch, which is slow.
+    fn zero_weight(weight: f64) -> Self
+        ensures { λ r. ⌜ r ≡ record { weight = weight; mean = zero64; dp = zero64 } ⌝ }
     {
-        if self.weight == 0.0 {
-            return VarState {
-                weight: self.weight,
-                mean: 0.0,
-                dp: 0.0,
-            };
+        VarState {
+            weight,
+            mean: 0.0,
+            dp: 0.0,
         }
-        self
     }
 
     pub fn insert_one(self, x: f64) -> Self
         ensures { λ r. ⌜ r ≡ varInsert self x ⌝ }
     {
         let new_weight = self.weight + 1.0;
+        if new_weight == 0.0 {
+            return VarState::zero_weight(new_weight);
+        }
         let delta_mean = x - self.mean;
         let new_mean = self.mean + delta_mean / new_weight;
         VarState {
             weight: new_weight,
             mean: new_mean,
             dp: self.dp + (x - new_mean) * delta_mean,
-        }.clear_zero_weight_nan()
+        }
     }
 
     // `combine` after its tests of weights.
@@ -72,6 +75,9 @@ impl VarState {
         ensures { λ r. ⌜ r ≡ varMerge self other ⌝ }
     {
         let new_weight = self.weight + other.weight;
+        if new_weight == 0.0 {
+            return VarState::zero_weight(new_weight);
+        }
         let other_weight_frac = other.weight / new_weight;
         let delta_mean = other.mean - self.mean;
         let new_mean = self.mean + delta_mean * other_weight_frac;
@@ -79,7 +85,7 @@ impl VarState {
             weight: new_weight,
             mean: new_mean,
             dp: self.dp + (other.dp + other.weight * (other.mean - new_mean) * delta_mean),
-        }.clear_zero_weight_nan()
+        }
     }
 
     pub fn combine(self, other: VarState) -> Self

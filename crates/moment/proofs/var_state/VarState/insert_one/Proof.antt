@@ -1,0 +1,19 @@
+-- By the test of the weight. Assumes nothing.
+use borrow.Author.Needs.{needs}
+use Rattle.moment.specs.Var.{varClear}
+use Rattle.moment.proofs.var_state.VarState.insert_one.Statement.{statement}
+use Rattle.moment.proofs.var_state.VarState.insert_one.Tie as tie
+
+zero-weight-requires : tie.Need-zero-weight-requires
+zero-weight-requires c κs = search needs
+
+returns : tie.Need-returns
+unfolding varClear
+returns c = rw (c .before .if1 .taken) (c .zero-weight .ensures)
+
+returns-2 : tie.Need-returns-2
+unfolding varClear
+returns-2 c = rw (c .before .before .before .if1 .left)
+
+pub insert-one-spec : {M : Type 1} → statement M
+insert-one-spec = tie.close (tie.spec zero-weight-requires returns returns-2)
