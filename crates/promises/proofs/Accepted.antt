@@ -25,7 +25,7 @@ use Rattle.window.proofs.Tables.{table-length, table-at}
 use Rattle.window.proofs.Plans.{taken}
 use Rattle.rolling.specs.Calls.{Trace, Ask, Lent, each, yields, Written, decoded}
 use Rattle.promises.specs.Table.{p7, trace7}
-use Rattle.promises.specs.Demands.{answerIn, ofFigure, Accepted, planCall, hostCall}
+use Rattle.promises.specs.Demands.{answerIn, ofFigure, AcceptedCall, planCall, hostCall}
 
 pub record Known (q : Ask) (t : Trace) (l : Lent) : Type 0 where
   pub few : length (t .readings) ≤ 16777216
@@ -76,7 +76,7 @@ known-of q t l₀ l short w e =
       answers = answered q t l₀ l w;
     }
 
-pub known : (q : Ask) (t : Trace) (l : Lent) → Accepted q t l → Known q t l
+pub known : (q : Ask) (t : Trace) (l : Lent) → AcceptedCall q t l → Known q t l
 known q t l (planCall {l₀ = l₀} c) = known-of q t l₀ l _ (c .written) (sym (c .number-is))
 known q t l (hostCall {bytes = bytes} {has = has} {map = map} {readings₀ = readings₀} {l₀ = l₀} c) =
     known-of q (decoded bytes has map) l₀ l (ltb (length readings₀) (length bytes / 8)) (c .written)
@@ -89,7 +89,7 @@ p7Lent = record { figures = table (λ i. one64) 4; present = table (λ i. 7) 4; 
 abbrev p7Left : Lent
 p7Left = record { figures = two64 ∷ two64 ∷ zero64 ∷ one64 ∷ []; present = 1 ∷ 1 ∷ 0 ∷ 7 ∷ []; work = table (λ i. zero64) 8 }
 
-pub p7-accepted : Accepted p7 trace7 p7Left
+pub p7-accepted : AcceptedCall p7 trace7 p7Left
 unfolding table refusal _orElse_ wrongMap planRefusal filled kept ofBits ofInt add sub mul div eq lt le varClear varCombine varFinalize entriesFrom splitAfter figureOf insertedAt badAt answerAt validAt
 p7-accepted =
     planCall {l₀ = p7Lent}

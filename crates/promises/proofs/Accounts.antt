@@ -1,6 +1,6 @@
--- The split account over an accepted plan: it lies before every later row, it depends on which places are valid and on no reading,
--- and the figure that it yields depends on its own window alone, because a move adds and takes away places in order. Assumes
--- nothing.
+-- The split account over an accepted plan: it lies before every later row, it depends on which places are valid and which rows move
+-- the window, and on no reading, and the figure that it yields depends on its own window alone, because a move adds and takes away
+-- places in order. Assumes nothing.
 use Prim.Native.Nat.{ℕ, zero, suc, _+_, _-_, _≤_, _<_, max}
 use mathlib.Core.Path.{_≡_, refl, ap}
 use mathlib.Core.Bool.{Bool, true, false, cond, _&&_, _||_}
@@ -48,16 +48,19 @@ module _ (v v′ : ℕ → Bool) where
       ap (λ (p : ℕ). entered (record { start = s; end = restarted a s .end; split = p }) e)
       (split-same (s - restarted a s .start) (restarted a s .start) (restarted a s .end) (restarted a s .split) (λ j h g. f j (omega arith)))
 
-  -- the account depends on which places are valid, and on no reading
-  pub account-same : (mapped : Bool) (least n widest : ℕ) (p : Plan) → Planned n widest p → ((i : ℕ) → i < n → v i ≡ v′ i)
-      → (k : ℕ) → k ≤ rows p → accountAt v mapped least p k ≡ accountAt v′ mapped least p k
+  -- the account depends on which places are valid and on which rows move the window, and on no reading
+  pub account-same : (mapped mapped′ : Bool) (least n widest : ℕ) (p : Plan) → Planned n widest p → ((i : ℕ) → i < n → v i ≡ v′ i)
+      → (k : ℕ) → k ≤ rows p
+      → ((j : ℕ) → j < k → moves mapped least j (rowStart p j) (rowEnd p j) ≡ moves mapped′ least j (rowStart p j) (rowEnd p j))
+      → accountAt v mapped least p k ≡ accountAt v′ mapped′ least p k
   unfolding accountAt
-  account-same mapped least n widest p plan f zero h = refl
-  account-same mapped least n widest p plan f (suc k) h =
+  account-same mapped mapped′ least n widest p plan f zero h m = refl
+  account-same mapped mapped′ least n widest p plan f (suc k) h m =
       let r = plan .row k (omega arith) in
       rw (
-        account-same mapped least n widest p plan f k (omega arith),
-        moved-same (accountAt v′ mapped least p k) (rowStart p k) (rowEnd p k) (λ j g. f j (omega arith)),
+        m k (omega arith),
+        account-same mapped mapped′ least n widest p plan f k (omega arith) (λ j g. m j (omega arith)),
+        moved-same (accountAt v′ mapped′ least p k) (rowStart p k) (rowEnd p k) (λ j g. f j (omega arith)),
       )
 
 -- the figure of an account depends on the places of its window
@@ -141,11 +144,3 @@ module _ {A : Type 0} (t : Series A) where
       → (accountAt (t .valid) (t .mapped) least p (suc k) .start ≡ rowStart p k) × (accountAt (t .valid) (t .mapped) least p (suc k) .end ≡ rowEnd p k)
   unfolding accountAt
   row-account least p k h = rw (meets least k (rowStart p k) (rowEnd p k) h) (refl, refl)
-
--- ---- a map of ones is not no map: minimum 4, rows (0,4), (3,6), (5,9), the second of which is too short
-abbrev onesPlan : Plan
-onesPlan = record { starts = 0 ∷ 3 ∷ 5 ∷ []; ends = 4 ∷ 6 ∷ 9 ∷ [] }
-
-pub ones-are-a-map : (accountAt (λ i. true) true 4 onesPlan 3 .split ≡ 6) × (accountAt (λ i. true) false 4 onesPlan 3 .split ≡ 5)
-unfolding accountAt splitAfter
-ones-are-a-map = (refl, refl)

@@ -1,7 +1,7 @@
--- Demand 3: a row's answer depends on the account, which no reading moves, and on the places of its own window; a variance's weight
--- is the valid count, which tells where it is missing. Assumes nothing.
-use Prim.Native.Nat.{ℕ, suc, _+_, _-_, _^_, _≤_, _<_}
-use mathlib.Core.Path.{_≡_, refl, sym, ap, _∙_}
+-- Demand 3: a row's answer depends on the account, which no reading moves, and on the places of its own window, and where the minimum
+-- is not met there is no answer to compare; a variance's weight is the valid count, which tells where it is missing. Assumes nothing.
+use Prim.Native.Nat.{ℕ, zero, suc, _+_, _-_, _^_, _≤_, _<_}
+use mathlib.Core.Path.{_≡_, refl, sym, ap, _∙_, subst}
 use mathlib.Core.Bool.{Bool, true, false, cond, not, _&&_, _||_}
 use mathlib.Core.List.{List, [], _∷_}
 use mathlib.Core.Logic.{_⊎_, inl, inr}
@@ -10,7 +10,7 @@ use lib.Dec.{T, leb, eqb}
 use lib.ListN.{length, length-append}
 use lib.Ieee.{Float, isNan}
 use lib.Ieee.Scale.{finite}
-use borrow.Author.Tests.{leb-true, leb-false, eqb-true}
+use borrow.Author.Tests.{le-leb, leb-true, leb-false, eqb-true}
 use Rattle.float.specs.Operators.{_⊖_, _⊘_, count}
 use Rattle.float.proofs.Counts.{zero-is}
 use Rattle.float.proofs.Signs.{nan-or-at-least-zero}
@@ -24,14 +24,54 @@ use Rattle.moment.proofs.Figures.{var-missing}
 use Rattle.window.specs.Places.{Series, entries, validCount, badCount}
 use Rattle.window.specs.Window.{Account, front, back, rising, falling, asNan, spoilt, figureOf}
 use Rattle.window.specs.Readings.{readingOf, insertedAt, badAt, ofReadings}
-use Rattle.window.specs.Rows.{rows, rowStart, rowEnd, accountAt, counted, answerOf, answerAt}
+use Rattle.window.specs.Rows.{rows, rowStart, rowEnd, moves, accountAt, counted, answerOf, answerAt}
 use Rattle.window.specs.Stacks.{Planned}
-use Rattle.window.proofs.Places.{entries-split, entries-cons, count-le, count-all, two-counts}
+use Rattle.window.proofs.Places.{Or, here, there, order, entries-split, entries-cons, count-le, count-all, two-counts}
 use Rattle.rolling.specs.Moments.{Asked, variance, momentOf, finalOf}
 use Rattle.rolling.specs.Calls.{Trace, Ask, Lent, seriesOf, yields}
-use Rattle.promises.specs.Demands.{ofFigure, validOf, Alike, Agree, SomeNotFinite, VarianceRow, Yielded, DemandThree}
-use Rattle.promises.proofs.Accounts.{entries-same, account-same, figure-same, lies, row-account}
+use Rattle.promises.specs.Demands.{ofFigure, validOf, Alike, movesAt, SameMoves, Agree, SomeNotFinite, VarianceRow, Yielded, DemandThree}
+use Rattle.promises.proofs.Accounts.{entries-same, account-same, figure-same, lies, meets, row-account}
 use Rattle.promises.proofs.Accepted.{Known, known}
+
+-- the minimum is compared with the valid count: without a map every place is valid
+counted-is : (t : Trace) (s e : ℕ) → counted (seriesOf t) s e ≡ validCount (seriesOf t) s e
+unfolding validAt
+counted-is t s e = go (t .mapped)
+  where
+    go : (m : Bool)
+        → cond m (length (entries (validAt m (t .map)) (insertedAt (t .readings)) s e)) (e - s)
+        ≡ length (entries (validAt m (t .map)) (insertedAt (t .readings)) s e)
+    go true = refl
+    go false = sym (count-all (validAt false (t .map)) (insertedAt (t .readings)) (λ i. refl) s e)
+
+-- ---- where the same rows move the window
+-- a map for both traces, or for neither
+pub both-or-neither : (q : Ask) (t t′ : Trace) (k : ℕ) → t .mapped ≡ t′ .mapped → SameMoves q t t′ k
+both-or-neither q t t′ k e j h = rw e
+
+-- a row that is long enough moves every window
+long-moves : (m : Bool) (least k s e : ℕ) → least ≤ e - s → moves m least k s e ≡ true
+long-moves m least k s e h = rw (le-leb least (e - s) h) (go m (eqb k 0))
+  where
+    go : (a b : Bool) → (a || (b || true)) ≡ true
+    go true b = refl
+    go false true = refl
+    go false false = refl
+
+-- no row but row 0 is shorter than the minimum
+pub none-shorter : (q : Ask) (t t′ : Trace) (k : ℕ) → ((j : ℕ) → 0 < j → j < k → q .least ≤ rowEnd (q .plan) j - rowStart (q .plan) j)
+    → SameMoves q t t′ k
+none-shorter q t t′ k f zero h = go (t .mapped) (t′ .mapped)
+  where
+    go : (m m′ : Bool) → moves m (q .least) 0 (rowStart (q .plan) 0) (rowEnd (q .plan) 0) ≡ moves m′ (q .least) 0 (rowStart (q .plan) 0) (rowEnd (q .plan) 0)
+    go true true = refl
+    go true false = refl
+    go false true = refl
+    go false false = refl
+none-shorter q t t′ k f (suc j) h =
+    let l = f (suc j) (omega arith) h in
+    long-moves (t .mapped) (q .least) (suc j) (rowStart (q .plan) (suc j)) (rowEnd (q .plan) (suc j)) l
+    ∙ sym (long-moves (t′ .mapped) (q .least) (suc j) (rowStart (q .plan) (suc j)) (rowEnd (q .plan) (suc j)) l)
 
 -- ---- two traces
 module _ (q : Ask) (t t′ : Trace) (a : Alike t t′) (widest : ℕ) (plan : Planned (length (t .readings)) widest (q .plan)) where
@@ -62,7 +102,7 @@ module _ (q : Ask) (t t′ : Trace) (a : Alike t t′) (widest : ℕ) (plan : Pl
       go true g = refl
       go false g = g
 
-  module _ (k : ℕ) (h : k < rows (q .plan)) (g : Agree t t′ (rowStart (q .plan) k) (rowEnd (q .plan) k)) where
+  module _ (k : ℕ) (h : k < rows (q .plan)) (m : SameMoves q t t′ k) (g : Agree t t′ (rowStart (q .plan) k) (rowEnd (q .plan) k)) where
     abbrev S : ℕ
     S = rowStart (q .plan) k
 
@@ -75,11 +115,12 @@ module _ (q : Ask) (t t′ : Trace) (a : Alike t t′) (widest : ℕ) (plan : Pl
     entry-in : (i : ℕ) → S ≤ i → i < E → validOf t i ≡ true → u .entry i ≡ u′ .entry i
     entry-in i p l v = entry-same i (g i p l v)
 
-    -- with a map or without one, as the traces are alike
+    -- with a map or without one
     counted-same : counted u S E ≡ counted u′ S E
     counted-same =
-        rw (entries-same (u .valid) (u′ .valid) (u .entry) (u′ .entry) S E valid-in entry-in)
-        (ap (λ (m : Bool). cond m (validCount u′ S E) (E - S)) (a .mapped))
+        counted-is t S E
+        ∙ ap length (entries-same (u .valid) (u′ .valid) (u .entry) (u′ .entry) S E valid-in entry-in)
+        ∙ sym (counted-is t′ S E)
 
     bad-count : badCount u S E ≡ badCount u′ S E
     bad-count =
@@ -89,18 +130,30 @@ module _ (q : Ask) (t t′ : Trace) (a : Alike t t′) (widest : ℕ) (plan : Pl
     abbrev A : Account
     A = accountAt (u .valid) (t .mapped) (q .least) (q .plan) (suc k)
 
-    accounts : A ≡ accountAt (u′ .valid) (t′ .mapped) (q .least) (q .plan) (suc k)
-    accounts =
-        account-same (u .valid) (u′ .valid) (t .mapped) (q .least) (length (t .readings)) widest (q .plan) plan (a .places) (suc k) h
-        ∙ ap (λ (m : Bool). accountAt (u′ .valid) m (q .least) (q .plan) (suc k)) (a .mapped)
+    -- a row that meets the minimum moves both windows, as the same rows before it do
+    row-moves : leb (q .least) (counted u S E) ≡ true → SameMoves q t t′ (suc k)
+    row-moves e j o = go (order k j)
+      where
+        this : movesAt q t k ≡ movesAt q t′ k
+        this = meets u (q .least) k S E e ∙ sym (meets u′ (q .least) k S E (rw (← counted-same) e))
+
+        go : Or (k ≤ j) (j < k) → movesAt q t j ≡ movesAt q t′ j
+        go (here l) = let z : k ≡ j = omega arith in subst (λ (i : ℕ). movesAt q t i ≡ movesAt q t′ i) z this
+        go (there l) = m j l
+
+    accounts : leb (q .least) (counted u S E) ≡ true → A ≡ accountAt (u′ .valid) (t′ .mapped) (q .least) (q .plan) (suc k)
+    accounts e =
+        account-same (u .valid) (u′ .valid) (t .mapped) (t′ .mapped) (q .least) (length (t .readings)) widest (q .plan) plan (a .places) (suc k) h
+        (row-moves e)
 
     pub yields-same : yields q t k ≡ yields q t′ k
     unfolding answerAt answerOf
     yields-same =
-        rw (← accounts, ← counted-same) (go (leb (q .least) (counted u S E)) refl)
+        rw (← counted-same) (go (leb (q .least) (counted u S E)) refl)
       where
         go : (b : Bool) → leb (q .least) (counted u S E) ≡ b
-            → cond b (figureOf (momentOf (q .figure)) (finalOf (q .figure)) u A) Missing ≡ cond b (figureOf (momentOf (q .figure)) (finalOf (q .figure)) u′ A) Missing
+            → cond b (figureOf (momentOf (q .figure)) (finalOf (q .figure)) u A) Missing
+            ≡ cond b (figureOf (momentOf (q .figure)) (finalOf (q .figure)) u′ (accountAt (u′ .valid) (t′ .mapped) (q .least) (q .plan) (suc k))) Missing
         go true e =
             let f = row-account u (q .least) (q .plan) k e in
             let x = f .0 in
@@ -108,6 +161,7 @@ module _ (q : Ask) (t t′ : Trace) (a : Alike t t′) (widest : ℕ) (plan : Pl
             let l = lies (u .valid) (t .mapped) (q .least) (length (t .readings)) widest (q .plan) plan (suc k) h in
             figure-same (momentOf (q .figure)) (finalOf (q .figure)) u u′ A (l .start-le) (l .split-le) (λ i p o. valid-in i (omega arith) (omega arith))
             (λ i p o v. entry-in i (omega arith) (omega arith) v) (rw (x, y) bad-count)
+            ∙ ap (figureOf (momentOf (q .figure)) (finalOf (q .figure)) u′) (accounts e)
         go false e = refl
 
 -- ---- a variance's weight
@@ -160,15 +214,6 @@ module _ (q : Ask) (t : Trace) (l : Lent) (c : Known q t l) where
     abbrev value : Float
     value = notNegative (state .dp ⊘ (state .weight ⊖ count ddof))
 
-    -- without a map every place is valid
-    counted-is : counted w s e ≡ N
-    unfolding validAt
-    counted-is = go (t .mapped)
-      where
-        go : (m : Bool) → cond m (length (entries (validAt m (t .map)) (w .entry) s e)) (e - s) ≡ length (entries (validAt m (t .map)) (w .entry) s e)
-        go true = refl
-        go false = sym (count-all (validAt false (t .map)) (w .entry) (λ i. refl) s e)
-
     figure-is : B .start ≡ s → B .end ≡ e
         → figureOf (ofReadings variance) (λ z. varFinalize z ddof) w B ≡ spoilt (badCount w s e) (cond (leb N ddof) Missing (Present value))
     unfolding figureOf
@@ -191,7 +236,7 @@ module _ (q : Ask) (t : Trace) (l : Lent) (c : Known q t l) where
     unfolding answerAt answerOf
     shape =
         go (leb (q .least) (counted w s e)) refl
-        ∙ ap (λ (z : ℕ). cond (leb (q .least) z) (spoilt (badCount w s e) (cond (leb N ddof) Missing (Present value))) Missing) counted-is
+        ∙ ap (λ (z : ℕ). cond (leb (q .least) z) (spoilt (badCount w s e) (cond (leb N ddof) Missing (Present value))) Missing) (counted-is t s e)
       where
         go : (b : Bool) → leb (q .least) (counted w s e) ≡ b
             → cond b (figureOf (ofReadings variance) (λ z. varFinalize z ddof) w B) Missing ≡ cond b (spoilt (badCount w s e) (cond (leb N ddof) Missing (Present value))) Missing
@@ -256,7 +301,7 @@ demand-three q t t′ l l′ c c′ =
     let a = known q t l c in
     let a′ = known q t′ l′ c′ in
     record {
-      same = λ alike k h g. a .answers k h ∙ ap ofFigure (yields-same q t t′ alike (a .widest) (a .plan) k h g) ∙ sym (a′ .answers k h);
+      same = λ alike k h m g. a .answers k h ∙ ap ofFigure (yields-same q t t′ alike (a .widest) (a .plan) k h m g) ∙ sym (a′ .answers k h);
       first = yielded q t l a;
       second = yielded q t′ l′ a′;
     }

@@ -15,14 +15,15 @@ use Rattle.moment.specs.declared.Figure.{Figure}
 use Rattle.moment.specs.declared.Figure.the-variants.{Missing}
 use Rattle.window.specs.Places.{validCount}
 use Rattle.window.specs.Readings.{readingOf}
-use Rattle.window.specs.Rows.{Plan, rows, rowStart, rowEnd}
+use Rattle.window.specs.Rows.{Plan, rows, rowStart, rowEnd, moves}
 use Rattle.rolling.specs.Moments.{Variance, readingMomentOf, finalOf}
 use Rattle.rolling.specs.Calls.{Trace, Ask, Lent, seriesOf, yields, Called, decoded, CalledBytes}
 use Rattle.promises.specs.SourceWindow.{Rust}
 use Rattle.promises.specs.SourceRows.{rollingNoNulls, rollingNulls, rowOf}
 
--- "one double and one byte (1 present, 0 missing) a row, together the row's answer". Doubles that are equal here have the same
--- bits: a NaN is one value, and every figure is written with the one pattern 7FF8000000000000.
+-- "one double and one byte (1 present, 0 missing) a row, together the row's answer". Doubles that are equal here and no NaN have the
+-- same bits. NaN is one value here: that its bits are 7FF8000000000000 is carried by the code, for `write` of rolling's src/row.rt
+-- stores the constant 0.0 / 0.0, which the compiler folds to them, and is seen by the oracle's `fuzz`, which compares bits.
 pub record Answer : Type 0 where
   pub double : Float
   pub byte : ℕ
@@ -37,10 +38,10 @@ ofFigure figure = record { double = doubleOf figure; byte = byteOf figure }
 
 -- An accepted call, its number 0, on the trace t with a plan and a setting q, that leaves the lists l: a plan call or a host call,
 -- whatever the lists held before
-pub data Accepted (q : Ask) : Trace → Lent → Type 0 where
-  planCall : {t : Trace} {l₀ l : Lent} → Called q t l₀ l 0 → Accepted q t l
+pub data AcceptedCall (q : Ask) : Trace → Lent → Type 0 where
+  planCall : {t : Trace} {l₀ l : Lent} → Called q t l₀ l 0 → AcceptedCall q t l
   hostCall : {bytes : List ℕ} {has : Bool} {map : List ℕ} {readings₀ readings : List Float} {l₀ l : Lent}
-      → CalledBytes q bytes has map readings₀ readings l₀ l 0 → Accepted q (decoded bytes has map) l
+      → CalledBytes q bytes has map readings₀ readings l₀ l 0 → AcceptedCall q (decoded bytes has map) l
 
 -- ---- demand 2
 -- a plan's rows as `det_offsets_fn`
@@ -59,7 +60,7 @@ sourceRow rust q t k =
 -- "every state and figure equals the Rust's", for windows: of every accepted call, every row's answer
 abbrev pub DemandTwo : Type 0
 DemandTwo =
-    (rust : Rust) (q : Ask) (t : Trace) (l : Lent) → Accepted q t l → (k : ℕ) → k < rows (q .plan)
+    (rust : Rust) (q : Ask) (t : Trace) (l : Lent) → AcceptedCall q t l → (k : ℕ) → k < rows (q .plan)
     → answerIn l k ≡ ofFigure (sourceRow rust q t k)
 
 -- ---- demand 3
@@ -67,15 +68,25 @@ DemandTwo =
 abbrev pub validOf : Trace → ℕ → Bool
 validOf t i = validAt (t .mapped) (t .map) i
 
--- "Two traces of equal length that miss the same places", both with a map or both without one. A map of ones misses what no map
--- misses, and yet is not the same: with it a row below the minimum moves the window, and the split of later rows can differ
--- (`ones-are-a-map` of proofs/Accounts).
+-- "Two traces of equal length that miss the same places"
 pub record Alike (t t′ : Trace) : Type 0 where
   pub long : length (t .readings) ≡ length (t′ .readings)
-  pub mapped : t .mapped ≡ t′ .mapped
   pub places : (i : ℕ) → i < length (t .readings) → validOf t i ≡ validOf t′ i
 
--- "both hold the same at every valid place" from s up to e
+-- whether row k of an asked plan moves the window of a trace
+abbrev pub movesAt : Ask → Trace → ℕ → Bool
+movesAt q t k = moves (t .mapped) (q .least) k (rowStart (q .plan) k) (rowEnd (q .plan) k)
+
+-- The same rows before row k move the window. The demand's sentence needs it because of Rows: with a map every row moves the window,
+-- but "Without one, a row shorter than the minimum .. doesn't move the window", so that a map of ones, which misses what no map
+-- misses, can leave another split, and other bits in a later row (`ones-are-a-map` of proofs/Witnesses). It holds where both traces
+-- are lent a map or neither is, and where no row but row 0 is shorter than the minimum (`both-or-neither`, `none-shorter` of
+-- proofs/DemandThree).
+abbrev pub SameMoves : Ask → Trace → Trace → ℕ → Type 0
+SameMoves q t t′ k = (j : ℕ) → j < k → movesAt q t j ≡ movesAt q t′ j
+
+-- both hold "the same bits at every valid place" from s up to e. Readings with the same bits are equal here, and so are two NaNs
+-- with other bits: the hypothesis is the weaker, and the theorem the stronger.
 abbrev pub Agree : Trace → Trace → ℕ → ℕ → Type 0
 Agree t t′ s e = (i : ℕ) → s ≤ i → i < e → validOf t i ≡ true → readingOf (t .readings) i ≡ readingOf (t′ .readings) i
 
@@ -104,11 +115,11 @@ pub record Yielded (q : Ask) (t : Trace) (l : Lent) : Type 0 where
 
 -- What holds of two traces' answers with the same plan and setting: the same bits at every row in whose window both hold the same
 pub record Promised (q : Ask) (t t′ : Trace) (l l′ : Lent) : Type 0 where
-  pub same : Alike t t′ → (k : ℕ) → k < rows (q .plan) → Agree t t′ (rowStart (q .plan) k) (rowEnd (q .plan) k)
-      → answerIn l k ≡ answerIn l′ k
+  pub same : Alike t t′ → (k : ℕ) → k < rows (q .plan) → SameMoves q t t′ k
+      → Agree t t′ (rowStart (q .plan) k) (rowEnd (q .plan) k) → answerIn l k ≡ answerIn l′ k
   pub first : Yielded q t l
   pub second : Yielded q t′ l′
 
 -- "one statement about a whole plan, from its first row to its last", for any two accepted calls
 abbrev pub DemandThree : Type 0
-DemandThree = (q : Ask) (t t′ : Trace) (l l′ : Lent) → Accepted q t l → Accepted q t′ l′ → Promised q t t′ l l′
+DemandThree = (q : Ask) (t t′ : Trace) (l l′ : Lent) → AcceptedCall q t l → AcceptedCall q t′ l′ → Promised q t t′ l l′
