@@ -1,30 +1,23 @@
 -- What is known of an accepted call, by whichever entry: its number is 0, so no refusal applies, its plan is in order, and its
 -- lists hold every row's answer. Assumes nothing.
 use Prim.Native.Nat.{ℕ, _+_, _/_, _≤_, _<_}
-use mathlib.Core.Path.{_≡_, refl, sym}
+use mathlib.Core.Path.{_≡_, sym}
 use mathlib.Core.Bool.{Bool, true, false, _||_}
-use mathlib.Core.List.{List, [], _∷_}
+use mathlib.Core.List.{List}
 use lib.Dec.{ltb, lit≤}
 use lib.ListN.{length, drop}
-use lib.Ieee.{nan, ofBits, ofInt, add, sub, mul, div, eq, lt, le}
+use lib.Ieee.{nan}
 use borrow.Author.Tests.{eqb-true, not-false}
-use Rattle.float.specs.Operators.{zero64, one64, two64}
 use Rattle.float.specs.Bytes.{readingAt}
-use Rattle.trace.specs.Trace.{validAt}
 use Rattle.trace.specs.Refusals.{refusal, _orElse_, tooMany, wrongMap, arrayRefusal}
 use Rattle.trace.proofs.Accepted.{none-of, not-refused}
 use Rattle.moment.specs.Figure.{doubleOf, byteOf}
-use Rattle.moment.specs.Var.{varClear, varCombine, varFinalize}
-use Rattle.window.specs.Rows.{Plan, rows, answerAt, table}
-use Rattle.window.specs.Refusals.{badLists, rowsRefusal, needed, planRefusal, filled, kept}
-use Rattle.window.specs.Places.{entriesFrom}
-use Rattle.window.specs.Window.{splitAfter, figureOf}
-use Rattle.window.specs.Readings.{insertedAt, badAt}
+use Rattle.window.specs.Rows.{Plan, rows}
+use Rattle.window.specs.Refusals.{badLists, rowsRefusal, needed, planRefusal, filled}
 use Rattle.window.specs.Stacks.{Planned}
 use Rattle.window.proofs.Tables.{table-length, table-at}
 use Rattle.window.proofs.Plans.{taken}
 use Rattle.rolling.specs.Calls.{Trace, Ask, Lent, each, yields, Written, decoded}
-use Rattle.promises.specs.Table.{p7, trace7}
 use Rattle.promises.specs.Demands.{answerIn, ofFigure, AcceptedCall, planCall, hostCall}
 
 pub record Known (q : Ask) (t : Trace) (l : Lent) : Type 0 where
@@ -81,16 +74,3 @@ known q t l (planCall {l₀ = l₀} c) = known-of q t l₀ l _ (c .written) (sym
 known q t l (hostCall {bytes = bytes} {has = has} {map = map} {readings₀ = readings₀} {l₀ = l₀} c) =
     known-of q (decoded bytes has map) l₀ l (ltb (length readings₀) (length bytes / 8)) (c .written)
     (rw (table-length (readingAt bytes) (length bytes / 8)) (none-of _ _ (sym (c .number-is)) .1))
-
--- there are such calls: P7's, which keeps what stands in the place past the last row
-abbrev p7Lent : Lent
-p7Lent = record { figures = table (λ i. one64) 4; present = table (λ i. 7) 4; work = table (λ i. zero64) 8 }
-
-abbrev p7Left : Lent
-p7Left = record { figures = two64 ∷ two64 ∷ zero64 ∷ one64 ∷ []; present = 1 ∷ 1 ∷ 0 ∷ 7 ∷ []; work = table (λ i. zero64) 8 }
-
-pub p7-accepted : AcceptedCall p7 trace7 p7Left
-unfolding table refusal _orElse_ wrongMap planRefusal filled kept ofBits ofInt add sub mul div eq lt le varClear varCombine varFinalize entriesFrom splitAfter figureOf insertedAt badAt answerAt validAt
-p7-accepted =
-    planCall {l₀ = p7Lent}
-    record { number-is = refl; written = record { figures-are = refl; present-are = refl; work-kept = refl } }

@@ -1,4 +1,4 @@
--- Laws by subject: whole arrays; the account over a plan; the source's windows and rows; then the demands, and the table.
+-- Laws by subject: whole arrays; the account over a plan; the source's windows and rows; then the demands, calls that are accepted, and the table.
 pub mod Source
 pub mod Accounts
 pub mod SourceWindow
@@ -6,4 +6,5 @@ pub mod SourceRows
 pub mod Accepted
 pub mod DemandTwo
 pub mod DemandThree
+pub mod Witnesses
 pub mod Table

@@ -27,7 +27,7 @@ use Rattle.moment.specs.Arrays.{pearsonAnswer, skewRange, kurtosisRange}
 use Rattle.window.specs.Rows.{rows}
 use Rattle.window.specs.Refusals.{needed, planRefusal}
 use Rattle.rolling.specs.Moments.{Variance}
-use Rattle.rolling.specs.Calls.{Trace, Ask, each, yields}
+use Rattle.rolling.specs.Calls.{Trace, Ask, ask, traceOf, each, yields}
 use Rattle.promises.specs.SourceWindow.{someRust}
 use Rattle.promises.specs.Demands.{sourceRow}
 
@@ -40,8 +40,8 @@ abbrev pub gives : Figure → ℕ → Float → Bool
 gives figure byte x = eqb (byteOf figure) byte && same (doubleOf figure) x
 
 -- a reading that is a whole number
-abbrev pub reading : ℕ → Float
-reading n = count n
+abbrev pub whole : ℕ → Float
+whole n = count n
 
 unfoldable pub every : List Bool → Bool
 every [] = true
@@ -63,15 +63,7 @@ correlationOf (pearson.Refused number) = zero64
 
 -- 2 and 4 inserted
 abbrev pub twoInserted : VarState
-twoInserted = foldl varInsert varEmpty (reading 2 ∷ reading 4 ∷ [])
-
--- a plan of two lists, a minimum, and the variance at ddof 1
-abbrev pub variances : List ℕ → List ℕ → ℕ → Ask
-variances starts ends least = record { plan = record { starts = starts; ends = ends }; least = least; figure = Variance 1 }
-
--- a trace without a map
-abbrev pub unmapped : List Float → Trace
-unmapped readings = record { readings = readings; mapped = false; map = [] }
+twoInserted = foldl varInsert varEmpty (whole 2 ∷ whole 4 ∷ [])
 
 -- a call with output lists and a work slice that are just long enough is accepted
 abbrev pub accepted : Ask → Trace → Bool
@@ -86,22 +78,22 @@ abbrev pub rowGives : Ask → Trace → ℕ → ℕ → Float → Bool
 rowGives q t k byte x = gives (yields q t k) byte x && gives (sourceRow someRust q t k) byte x
 
 abbrev pub p7 : Ask
-p7 = variances (0 ∷ 1 ∷ 3 ∷ []) (2 ∷ 3 ∷ 4 ∷ []) 1
+p7 = ask (0 ∷ 1 ∷ 3 ∷ []) (2 ∷ 3 ∷ 4 ∷ []) 1 (Variance 1)
 
 abbrev pub trace7 : Trace
-trace7 = unmapped (reading 2 ∷ reading 4 ∷ reading 6 ∷ reading 8 ∷ [])
+trace7 = traceOf (whole 2 ∷ whole 4 ∷ whole 6 ∷ whole 8 ∷ []) false []
 
 abbrev pub p8 : Ask
-p8 = variances (0 ∷ 1 ∷ []) (2 ∷ 3 ∷ []) 1
+p8 = ask (0 ∷ 1 ∷ []) (2 ∷ 3 ∷ []) 1 (Variance 1)
 
 abbrev pub trace8 : Trace
-trace8 = unmapped (nan ∷ reading 4 ∷ reading 6 ∷ [])
+trace8 = traceOf (nan ∷ whole 4 ∷ whole 6 ∷ []) false []
 
 abbrev pub p9 : ℕ → Ask
-p9 least = variances (0 ∷ []) (3 ∷ []) least
+p9 least = ask (0 ∷ []) (3 ∷ []) least (Variance 1)
 
 abbrev pub trace9 : Trace
-trace9 = record { readings = reading 2 ∷ reading 7 ∷ reading 4 ∷ []; mapped = true; map = 5 ∷ [] }
+trace9 = traceOf (whole 2 ∷ whole 7 ∷ whole 4 ∷ []) true (5 ∷ [])
 
 -- P1 empty variance, ddof 0: missing. P2 insert 2, 4: ddof 0, 1, 2 gives 1, 2, missing. P3 empty combined with (weight 1,
 -- mean infinity, dp 0): NaN at ddof 0. P4 Pearson of (1,2),(3,4): 1; of one pair: NaN. P5 range 0,0,0,0,5, biased skewness:
@@ -111,29 +103,29 @@ trace9 = record { readings = reading 2 ∷ reading 7 ∷ reading 4 ∷ []; mappe
 unfoldable pub cases : List Bool
 cases =
     gives (varFinalize varEmpty 0) 0 zero64
-    ∷ gives (varFinalize twoInserted 0) 1 (reading 1)
-    ∷ gives (varFinalize twoInserted 1) 1 (reading 2)
+    ∷ gives (varFinalize twoInserted 0) 1 (whole 1)
+    ∷ gives (varFinalize twoInserted 1) 1 (whole 2)
     ∷ gives (varFinalize twoInserted 2) 0 zero64
     ∷ gives (varFinalize (varCombine varEmpty (record { weight = one64; mean = inf false; dp = zero64 })) 0) 1 nan
-    ∷ same (correlationOf (pearsonAnswer (reading 1 ∷ reading 3 ∷ []) false [] (reading 2 ∷ reading 4 ∷ []) false [])) (reading 1)
-    ∷ same (correlationOf (pearsonAnswer (reading 1 ∷ []) false [] (reading 2 ∷ []) false [])) nan
+    ∷ same (correlationOf (pearsonAnswer (whole 1 ∷ whole 3 ∷ []) false [] (whole 2 ∷ whole 4 ∷ []) false [])) (whole 1)
+    ∷ same (correlationOf (pearsonAnswer (whole 1 ∷ []) false [] (whole 2 ∷ []) false [])) nan
     ∷ gives
-    (skewnessOf (skewRange (reading 0 ∷ reading 0 ∷ reading 0 ∷ reading 0 ∷ reading 5 ∷ []) false [] 0 5))
+    (skewnessOf (skewRange (whole 0 ∷ whole 0 ∷ whole 0 ∷ whole 0 ∷ whole 5 ∷ []) false [] 0 5))
     1
     (ofBits binary64 0x3FF8000000000000)
-    ∷ gives (kurtosisOf false (kurtosisRange (reading 1 ∷ reading 3 ∷ []) false [] 0 2)) 1 (reading 1)
-    ∷ gives (kurtosisOf true (kurtosisRange (reading 1 ∷ reading 3 ∷ []) false [] 0 2)) 1 (ofInt binary64 (negsuc 1))
+    ∷ gives (kurtosisOf false (kurtosisRange (whole 1 ∷ whole 3 ∷ []) false [] 0 2)) 1 (whole 1)
+    ∷ gives (kurtosisOf true (kurtosisRange (whole 1 ∷ whole 3 ∷ []) false [] 0 2)) 1 (ofInt binary64 (negsuc 1))
     ∷ accepted p7 trace7
-    ∷ rowGives p7 trace7 0 1 (reading 2)
-    ∷ rowGives p7 trace7 1 1 (reading 2)
+    ∷ rowGives p7 trace7 0 1 (whole 2)
+    ∷ rowGives p7 trace7 1 1 (whole 2)
     ∷ rowGives p7 trace7 2 0 zero64
     ∷ accepted p8 trace8
     ∷ rowGives p8 trace8 0 1 nan
-    ∷ rowGives p8 trace8 1 1 (reading 2)
+    ∷ rowGives p8 trace8 1 1 (whole 2)
     ∷ accepted (p9 2) trace9
-    ∷ rowGives (p9 2) trace9 0 1 (reading 2)
+    ∷ rowGives (p9 2) trace9 0 1 (whole 2)
     ∷ accepted (p9 3) trace9
     ∷ rowGives (p9 3) trace9 0 0 zero64
-    ∷ same (root (reading 2)) (ofBits binary64 0x3FF6A09E667F3BCD)
+    ∷ same (root (whole 2)) (ofBits binary64 0x3FF6A09E667F3BCD)
     ∷ same (root (ofBits binary64 1)) (ofBits binary64 0x1E60000000000000)
     ∷ []

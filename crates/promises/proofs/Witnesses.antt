@@ -1,0 +1,112 @@
+-- Accepted calls, by computation: P7 as a plan call, P8 as a host call, P9 with a map; and two calls that show why demand 3 asks that
+-- the same rows move the window. Assumes nothing.
+use Prim.Native.Nat.{ℕ, zero, suc, _<_}
+use mathlib.Core.Path.{_≡_, refl, ap}
+use mathlib.Core.Bool.{true, false}
+use mathlib.Core.List.{List, [], _∷_}
+use native.Mathlib.Omega.{arith}
+use lib.Ieee.{Float, nan, binary64, ofBits, toBits, ofInt, add, sub, mul, div, eq, lt, le}
+use Rattle.float.specs.Operators.{zero64, one64, two64}
+use Rattle.trace.specs.Trace.{validAt}
+use Rattle.trace.specs.Refusals.{refusal, _orElse_, wrongMap}
+use Rattle.moment.specs.Var.{varClear, varCombine, varFinalize}
+use Rattle.window.specs.Places.{entriesFrom}
+use Rattle.window.specs.Window.{splitAfter, figureOf}
+use Rattle.window.specs.Readings.{insertedAt, badAt}
+use Rattle.window.specs.Rows.{rows, rowStart, rowEnd, answerAt, table}
+use Rattle.window.specs.Refusals.{planRefusal, filled, kept}
+use Rattle.rolling.specs.Moments.{Variance}
+use Rattle.rolling.specs.Calls.{Trace, Ask, Lent, ask, lent, traceOf, decoded}
+use Rattle.promises.specs.Table.{whole, p7, trace7, p8, p9, trace9}
+use Rattle.promises.specs.Demands.{Answer, answerIn, AcceptedCall, planCall, hostCall, Alike, Agree}
+
+-- ---- there are accepted calls
+-- four places to each output list, each place with something in it, and a work slice of zeros
+abbrev fourLent : ℕ → Lent
+fourLent work = lent (table (λ i. one64) 4) (table (λ i. 7) 4) (table (λ i. zero64) work)
+
+-- what is left of such lists
+abbrev fourLeft : ℕ → List Float → List ℕ → Lent
+fourLeft work figures present = lent figures present (table (λ i. zero64) work)
+
+-- P7, which keeps what stands in the place past the last row
+pub p7-accepted : AcceptedCall p7 trace7 (fourLeft 8 (two64 ∷ two64 ∷ zero64 ∷ one64 ∷ []) (1 ∷ 1 ∷ 0 ∷ 7 ∷ []))
+unfolding table refusal _orElse_ wrongMap planRefusal filled kept ofBits ofInt add sub mul div eq lt le varClear varCombine varFinalize entriesFrom splitAfter figureOf insertedAt badAt answerAt validAt
+p7-accepted =
+    planCall {l₀ = fourLent 8}
+    record { number-is = refl; written = record { figures-are = refl; present-are = refl; work-kept = refl } }
+
+-- P8's readings as bytes: NaN, 4, 6
+abbrev bytes8 : List ℕ
+bytes8 =
+    0 ∷ 0 ∷ 0 ∷ 0 ∷ 0 ∷ 0 ∷ 0xF8 ∷ 0x7F ∷ 0 ∷ 0 ∷ 0 ∷ 0 ∷ 0 ∷ 0 ∷ 0x10 ∷ 0x40 ∷ 0 ∷ 0 ∷ 0 ∷ 0 ∷ 0 ∷ 0 ∷ 0x18 ∷ 0x40 ∷ []
+
+-- P8, with a place past the readings that keeps what it holds
+pub p8-accepted : AcceptedCall p8 (decoded bytes8 false []) (fourLeft 8 (nan ∷ two64 ∷ one64 ∷ one64 ∷ []) (1 ∷ 1 ∷ 7 ∷ 7 ∷ []))
+unfolding table refusal _orElse_ wrongMap planRefusal filled kept ofBits ofInt add sub mul div eq lt le varClear varCombine varFinalize entriesFrom splitAfter figureOf insertedAt badAt answerAt validAt
+p8-accepted =
+    hostCall {bytes = bytes8} {has = false} {map = []} {readings₀ = table (λ i. one64) 4} {readings = nan ∷ whole 4 ∷ whole 6 ∷ one64 ∷ []} {l₀ = fourLent 8}
+    record { number-is = refl; readings-are = refl; written = record { figures-are = refl; present-are = refl; work-kept = refl } }
+
+-- P9 with minimum 2
+pub p9-accepted : AcceptedCall (p9 2) trace9 (fourLeft 12 (two64 ∷ one64 ∷ one64 ∷ one64 ∷ []) (1 ∷ 7 ∷ 7 ∷ 7 ∷ []))
+unfolding table refusal _orElse_ wrongMap planRefusal filled kept ofBits ofInt add sub mul div eq lt le varClear varCombine varFinalize entriesFrom splitAfter figureOf insertedAt badAt answerAt validAt
+p9-accepted =
+    planCall {l₀ = fourLent 12}
+    record { number-is = refl; written = record { figures-are = refl; present-are = refl; work-kept = refl } }
+
+-- ---- a map of ones is not no map
+-- Minimum 3, rows (0,0), (0,2), (1,4). Row 1 is too short: with a map it moves the window, and row 2 inserts reading 1 apart from
+-- readings 2 and 3; without one it does not, and row 2 inserts all three in rising order.
+abbrev shortRow : Ask
+shortRow = ask (0 ∷ 0 ∷ 1 ∷ []) (0 ∷ 2 ∷ 4 ∷ []) 3 (Variance 1)
+
+abbrev ones : Trace
+ones = traceOf (whole 2 ∷ whole 0 ∷ whole 1 ∷ whole 3 ∷ []) true (15 ∷ [])
+
+abbrev noMap : Trace
+noMap = traceOf (whole 2 ∷ whole 0 ∷ whole 1 ∷ whole 3 ∷ []) false []
+
+-- the two calls' lists, which differ in one bit of row 2's double
+abbrev onesLeft : Lent
+onesLeft = fourLeft 12 (zero64 ∷ zero64 ∷ ofBits binary64 0x4002AAAAAAAAAAAB ∷ one64 ∷ []) (0 ∷ 0 ∷ 1 ∷ 7 ∷ [])
+
+abbrev noMapLeft : Lent
+noMapLeft = fourLeft 12 (zero64 ∷ zero64 ∷ ofBits binary64 0x4002AAAAAAAAAAAA ∷ one64 ∷ []) (0 ∷ 0 ∷ 1 ∷ 7 ∷ [])
+
+ones-accepted : AcceptedCall shortRow ones onesLeft
+unfolding table refusal _orElse_ wrongMap planRefusal filled kept ofBits ofInt add sub mul div eq lt le varClear varCombine varFinalize entriesFrom splitAfter figureOf insertedAt badAt answerAt validAt
+ones-accepted =
+    planCall {l₀ = fourLent 12}
+    record { number-is = refl; written = record { figures-are = refl; present-are = refl; work-kept = refl } }
+
+no-map-accepted : AcceptedCall shortRow noMap noMapLeft
+unfolding table refusal _orElse_ wrongMap planRefusal filled kept ofBits ofInt add sub mul div eq lt le varClear varCombine varFinalize entriesFrom splitAfter figureOf insertedAt badAt answerAt validAt
+no-map-accepted =
+    planCall {l₀ = fourLent 12}
+    record { number-is = refl; written = record { figures-are = refl; present-are = refl; work-kept = refl } }
+
+ones-alike : Alike ones noMap
+unfolding validAt
+ones-alike = record { long = refl; places = place }
+  where
+    place : (i : ℕ) → i < 4 → validAt true (15 ∷ []) i ≡ validAt false [] i
+    place zero h = refl
+    place (suc zero) h = refl
+    place (suc (suc zero)) h = refl
+    place (suc (suc (suc zero))) h = refl
+    place (suc (suc (suc (suc i)))) h = absurd (omega arith)
+
+-- demand 3's sentence without `SameMoves`
+abbrev AnyMoves : Type 0
+AnyMoves =
+    (q : Ask) (t t′ : Trace) (l l′ : Lent) → AcceptedCall q t l → AcceptedCall q t′ l′ → Alike t t′ → (k : ℕ) → k < rows (q .plan)
+    → Agree t t′ (rowStart (q .plan) k) (rowEnd (q .plan) k) → answerIn l k ≡ answerIn l′ k
+
+-- it does not hold: the traces hold the same readings and miss no place, and row 2's answers have other bits
+pub ones-are-a-map : AnyMoves → ⊥
+unfolding ofBits toBits
+ones-are-a-map all =
+    let same = all shortRow ones noMap onesLeft noMapLeft ones-accepted no-map-accepted ones-alike 2 (omega arith) (λ i s e v. refl) in
+    let bits : _≡_ {A = ℕ} 0x4002AAAAAAAAAAAB 0x4002AAAAAAAAAAAA = ap (λ (a : Answer). toBits binary64 (a .double)) same in
+    omega arith
