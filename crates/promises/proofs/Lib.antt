@@ -1,4 +1,5 @@
--- Laws by subject: whole arrays; the account over a plan; the source's windows and rows; then the demands, calls that are accepted, and the table.
+-- Laws by subject: whole arrays; the account over a plan; the source's windows and rows; then the demands, accepted calls that bear
+-- witness, and the table.
 pub mod Source
 pub mod Accounts
 pub mod SourceWindow

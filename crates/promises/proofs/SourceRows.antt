@@ -22,7 +22,7 @@ use Rattle.window.specs.Readings.{series, insertedAt, badAt, ReadingMoment, ofR
 use Rattle.window.specs.Rows.{Plan, rows, rowStart, rowEnd, moves, accountAt, counted, answerOf, answerAt, table}
 use Rattle.window.specs.Stacks.{Planned}
 use Rattle.window.proofs.Places.{Or, here, there, order}
-use Rattle.promises.specs.SourceWindow.{Rust, combined, mapNan, MomentWindow, newImpl, getMoment, updateNoNulls, updateNulls, isValid}
+use Rattle.promises.specs.SourceWindow.{Rust, Bitmap, combined, mapNan, MomentWindow, newImpl, getMoment, updateNoNulls, updateNulls, isValid}
 use Rattle.promises.specs.SourceRows.{outNoNulls, rollingNoNulls, tooShort, headSet, tailSet, createValidity, Array, matched, outNulls, rollingNulls}
 use Rattle.promises.specs.Demands.{offsets}
 use Rattle.promises.proofs.Accounts.{lies, meets}
@@ -98,7 +98,7 @@ module _ (M : ReadingMoment) (rust : Rust) (neutral : Neutral M) (final : M .Sta
       rw (h .start-is, h .end-is, h .nulls-is, x) (ap (leb least) (y ∙ n))
 
   -- ---- the rows of a plan
-  module _ (least widest : ℕ) (p : Plan) (plan : Planned (length xs) widest p) where
+  module _ (least widest : ℕ) (p : Plan) (plan : Planned (length xs) widest p) (few : length xs ≤ 16777216) where
     abbrev S : ℕ → ℕ
     S k = rowStart p k
 
@@ -169,7 +169,7 @@ module _ (M : ReadingMoment) (rust : Rust) (neutral : Neutral M) (final : M .Sta
     before-zero h =
         let r = plan .row 0 h in
         let o = row-zero in
-        let w = moved-whole M rust (validAt has map) xs fresh newImpl (new-whole M rust (validAt has map) xs) (S 0) (E 0) (omega arith) (omega arith) (r .0) in
+        let w = moved-whole M rust (validAt has map) xs fresh newImpl (new-whole M rust (validAt has map) xs) (S 0) (E 0) (omega arith) (omega arith) (r .0) (omega arith) in
         record {
           acc = record { start = S 0; end = E 0; split = S 0 };
           whole = rw (one-move (S 0) (E 0)) at w;
@@ -184,7 +184,7 @@ module _ (M : ReadingMoment) (rust : Rust) (neutral : Neutral M) (final : M .Sta
     after : (k : ℕ) (w : MomentWindow M) → k < rows p → Before k w → moves has least k (S k) (E k) ≡ true → Stands (A (suc k)) (update w k)
     after k w h c e =
         let r = plan .row k h in
-        rw (c .next e) at (moved-whole M rust (validAt has map) xs (c .acc) w (c .whole) (S k) (E k) (c .starts) (c .ends) (r .0))
+        rw (c .next e) at (moved-whole M rust (validAt has map) xs (c .acc) w (c .whole) (S k) (E k) (c .starts) (c .ends) (r .0) (omega arith))
 
     answer-no : (k : ℕ) → leb least (counted t (S k) (E k)) ≡ false → answer k ≡ Missing
     unfolding answerAt answerOf
@@ -214,7 +214,7 @@ module _ (M : ReadingMoment) (rust : Rust) (neutral : Neutral M) (final : M .Sta
       update-no : (a : Account) (w : MomentWindow M) (k : ℕ) → k < rows p → Stands a w → a .start ≤ S k → a .end ≤ E k → updateNoNulls rust xs w (S k) (E k) ≡ update w k
       update-no a w k h whole hs he =
           let r = plan .row k h in
-          no-nulls-same M rust (validAt has map) xs a w whole (S k) (E k) hs he (r .0) every (r .1)
+          no-nulls-same M rust (validAt has map) xs a w whole (S k) (E k) hs he (r .0) (omega arith) every (r .1)
 
       abbrev out : ℕ → ℕ → MomentWindow M → List Figure
       out k i w = outNoNulls M rust final xs least (offsets p) k i w
@@ -260,13 +260,16 @@ module _ (M : ReadingMoment) (rust : Rust) (neutral : Neutral M) (final : M .Sta
       other : (j : ℕ) → (j ≡ i → ⊥) → getD m j false ≡ getD l j false
       this : (enough ≡ true → getD l i false ≡ true) → i < length l → cond (getD m i false) (Present x) Missing ≡ cond enough f Missing
 
-    matched-is : (i : ℕ) (f : Figure) (enough : Bool) (l : List Bool) → Matched i f enough l (matched i f enough l .0) (matched i f enough l .1)
-    matched-is i (Present x) true l = record { long = refl; other = λ j h. refl; this = λ h k. rw (h refl) }
-    matched-is i (Present x) false l =
+    matched-is : (i : ℕ) (f : Figure) (enough : Bool) (l : List Bool) → i < length l → Matched i f enough l (matched rust i f enough l .0) (matched rust i f enough l .1)
+    matched-is i (Present x) true l o = record { long = refl; other = λ j h. refl; this = λ h k. rw (h refl) }
+    matched-is i (Present x) false l o =
+        rw (rust .unset-is l i o)
         record { long = length-set l i false; other = λ j h. getD-set-other l i j false false h; this = λ h k. rw (getD-set-same l i false false k) }
-    matched-is i Missing true l =
+    matched-is i Missing true l o =
+        rw (rust .unset-is l i o)
         record { long = length-set l i false; other = λ j h. getD-set-other l i j false false h; this = λ h k. rw (getD-set-same l i false false k) }
-    matched-is i Missing false l =
+    matched-is i Missing false l o =
+        rw (rust .unset-is l i o)
         record { long = length-set l i false; other = λ j h. getD-set-other l i j false false h; this = λ h k. rw (getD-set-same l i false false k) }
 
     -- marks that are off, of the rows from i on, are of rows that are too short
@@ -280,6 +283,9 @@ module _ (M : ReadingMoment) (rust : Rust) (neutral : Neutral M) (final : M .Sta
     abbrev Marks : List Bool → List Bool → Type 0
     Marks l m = From 0 m × (length m ≡ length l)
 
+    unset-long : (l : List Bool) (i : ℕ) → i < length l → length (rust .unset l i) ≡ length l
+    unset-long l i o = ap length (rust .unset-is l i o) ∙ length-set l i false
+
     short-set : (l : List Bool) (i : ℕ) → short i ≡ true → From 0 l → From 0 (set l i false)
     short-set l i h f j o k e = go (eqb j i) refl
       where
@@ -287,23 +293,30 @@ module _ (M : ReadingMoment) (rust : Rust) (neutral : Neutral M) (final : M .Sta
         go true q = rw (eqb-true j i q) h
         go false q = f j o (rw length-set at k) (sym (getD-set-other l i j false false (eqb-false j i q)) ∙ e)
 
+    short-unset : (l : List Bool) (i : ℕ) → i < length l → short i ≡ true → From 0 l → From 0 (rust .unset l i)
+    short-unset l i o h f = subst (From 0) (sym (rust .unset-is l i o)) (short-set l i h f)
+
     -- a row is marked and the loop goes on, or the loop ends
-    either : (i : ℕ) (l m : List Bool) → From 0 l → (short i ≡ true → Marks (set l i false) m) → Marks l (cond (short i) m l)
-    either i l m f g = go (short i) refl
+    either : (i : ℕ) (l m : List Bool) → i < length l → From 0 l → (short i ≡ true → Marks (rust .unset l i) m) → Marks l (cond (short i) m l)
+    either i l m o f g = go (short i) refl
       where
         go : (u : Bool) → short i ≡ u → Marks l (cond u m l)
-        go true q = (g q .0, g q .1 ∙ length-set l i false)
+        go true q = (g q .0, g q .1 ∙ unset-long l i o)
         go false q = (f, refl)
 
-    head-marks : (k i : ℕ) (l : List Bool) → From 0 l → Marks l (headSet rust least (offsets p) k i l)
+    head-marks : (k i : ℕ) (l : List Bool) → i + k ≤ length l → From 0 l → Marks l (headSet rust least (offsets p) k i l)
     unfolding headSet
-    head-marks zero i l f = (f, refl)
-    head-marks (suc k) i l f = either i l _ f (λ h. head-marks k (suc i) (set l i false) (short-set l i h f))
+    head-marks zero i l o f = (f, refl)
+    head-marks (suc k) i l o f =
+        let n = unset-long l i (omega arith) in
+        either i l _ (omega arith) f (λ h. head-marks k (suc i) (rust .unset l i) (omega arith) (short-unset l i (omega arith) h f))
 
-    tail-marks : (k : ℕ) (l : List Bool) → From 0 l → Marks l (tailSet rust least (offsets p) k l)
+    tail-marks : (k : ℕ) (l : List Bool) → k ≤ length l → From 0 l → Marks l (tailSet rust least (offsets p) k l)
     unfolding tailSet
-    tail-marks zero l f = (f, refl)
-    tail-marks (suc k) l f = either k l _ f (λ h. tail-marks k (set l k false) (short-set l k h f))
+    tail-marks zero l o f = (f, refl)
+    tail-marks (suc k) l o f =
+        let n = unset-long l k (omega arith) in
+        either k l _ (omega arith) f (λ h. tail-marks k (rust .unset l k) (omega arith) (short-unset l k (omega arith) h f))
 
     all-marks : (n : ℕ) → From 0 (replicate n true)
     all-marks n j o h e = absurd (let z : _≡_ {A = ℕ} 0 1 = cc (getD-replicate n j true false (rw length-replicate at h), e) in omega arith)
@@ -320,12 +333,14 @@ module _ (M : ReadingMoment) (rust : Rust) (neutral : Neutral M) (final : M .Sta
       where
         go : (u : Bool) → From 0 (Option·getD (cond u (some (ends-set n)) none) (replicate n true)) × (length (Option·getD (cond u (some (ends-set n)) none) (replicate n true)) ≡ n)
         go true =
-            let h = head-marks n 0 (replicate n true) (all-marks n) in
-            let e = tail-marks n (headSet rust least (offsets p) n 0 (replicate n true)) (h .0) in
-            (e .0, e .1 ∙ h .1 ∙ length-replicate n true)
+            let r = length-replicate n true in
+            let h = head-marks n 0 (replicate n true) (omega arith) (all-marks n) in
+            let g = h .1 in
+            let e = tail-marks n (headSet rust least (offsets p) n 0 (replicate n true)) (omega arith) (h .0) in
+            (e .0, e .1 ∙ g ∙ r)
         go false = (all-marks n, length-replicate n true)
 
-    module _ (yes : has ≡ true) (bits : (i : ℕ) → i < length xs → rust .bit map i ≡ validAt has map i) where
+    module _ (yes : has ≡ true) (bitmap : Bitmap) (bits : (i : ℕ) → i < length xs → rust .bit bitmap i ≡ validAt has map i) where
       counted-yes : (s e : ℕ) → counted t s e ≡ validCount t s e
       counted-yes s e = ap (λ (m : Bool). cond m (validCount t s e) (e - s)) yes
 
@@ -375,13 +390,13 @@ module _ (M : ReadingMoment) (rust : Rust) (neutral : Neutral M) (final : M .Sta
                 absurd (omega arith)
 
         abbrev X : Float
-        X = matched i (getMoment final W′) (isValid rust W′ least) l .0
+        X = matched rust i (getMoment final W′) (isValid rust W′ least) l .0
 
         abbrev L′ : List Bool
-        L′ = matched i (getMoment final W′) (isValid rust W′ least) l .1
+        L′ = matched rust i (getMoment final W′) (isValid rust W′ least) l .1
 
         marks : Matched i (getMoment final W′) (isValid rust W′ least) l X L′
-        marks = matched-is i (getMoment final W′) (isValid rust W′ least) l
+        marks = matched-is i (getMoment final W′) (isValid rust W′ least) l (omega arith)
 
         from′ : From (suc i) L′
         from′ j o q e =
@@ -400,16 +415,16 @@ module _ (M : ReadingMoment) (rust : Rust) (neutral : Neutral M) (final : M .Sta
             at zero q = rw (add-zero, s .before i (omega arith)) (marks .this marked (omega arith) ∙ sym answer-is)
             at (suc m) q = let z : i + suc m ≡ suc i + m = omega arith in rw z (s .row m (omega arith))
 
-      update-yes : (w : MomentWindow M) (k : ℕ) → k < rows p → updateNulls rust map xs w (S k) (E k) ≡ update w k
-      update-yes w k h = let r = plan .row k h in nulls-same M rust (validAt has map) xs map bits w (S k) (E k) (omega arith) (r .1)
+      update-yes : (w : MomentWindow M) (k : ℕ) → k < rows p → updateNulls rust bitmap xs w (S k) (E k) ≡ update w k
+      update-yes w k h = let r = plan .row k h in nulls-same M rust (validAt has map) xs bitmap bits w (S k) (E k) (omega arith) (r .1)
 
       abbrev array : ℕ → ℕ → MomentWindow M → List Bool → Array
-      array k i w l = outNulls M rust final xs map least (offsets p) k i w l
+      array k i w l = outNulls M rust final xs bitmap least (offsets p) k i w l
 
       -- the rows after one, its window updated
       abbrev rest : ℕ → ℕ → List Bool → MomentWindow M → Array
       rest k i l w =
-          let m = matched i (getMoment final w) (isValid rust w least) l in
+          let m = matched rust i (getMoment final w) (isValid rust w least) l in
           let a = array k (suc i) w (m .1) in
           record { values = m .0 ∷ a .values; validity = a .validity }
 
@@ -423,9 +438,9 @@ module _ (M : ReadingMoment) (rust : Rust) (neutral : Neutral M) (final : M .Sta
           (rows-yes k (suc i) (W′ k i w l h g f d) (L′ k i w l h g f d) (omega arith) (marks k i w l h g f d .long ∙ g) (from′ k i w l h g f d)
           (λ q. before-suc i (W′ k i w l h g f d) (omega arith) (whole′ k i w l h g f d))))
 
-      pub rolled-yes : Rolls (rows p) 0 (created (rows p)) (rollingNulls M rust final xs map least (offsets p) (rows p))
+      pub rolled-yes : Rolls (rows p) 0 (created (rows p)) (rollingNulls M rust final xs bitmap least (offsets p) (rows p))
       unfolding rollingNulls
       rolled-yes =
           let m = created-marks (rows p) in
-          rows-yes (rows p) 0 (updateNulls rust map xs newImpl (S 0) (E 0)) (created (rows p)) (zero-add (rows p)) (m .1) (m .0)
+          rows-yes (rows p) 0 (updateNulls rust bitmap xs newImpl (S 0) (E 0)) (created (rows p)) (zero-add (rows p)) (m .1) (m .0)
           (λ h. rw (update-yes newImpl 0 h) (before-zero h))

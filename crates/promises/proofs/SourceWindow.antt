@@ -19,8 +19,8 @@ use Rattle.window.specs.Places.{entries}
 use Rattle.window.specs.Window.{Account, splitAfter, rising, falling, moved}
 use Rattle.window.specs.Window as paper
 use Rattle.window.specs.Readings.{insertedAt, ReadingMoment, ofReadings}
-use Rattle.window.proofs.Places.{Or, here, there, order, entries-self, entries-none, entries-cons, entries-snoc, count-more}
-use Rattle.promises.specs.SourceWindow.{Rust, turns, forIn, popped, flipped, MomentWindow, setNonFiniteCount, setNullCount, setStart, setEnd, newImpl, reset, pushed, push, flip, pop, restarted, updateNoNulls, popAt, pushAt, updateNulls}
+use Rattle.window.proofs.Places.{Or, here, there, order, entries-self, entries-none, entries-cons, entries-snoc, count-le, count-more}
+use Rattle.promises.specs.SourceWindow.{Rust, Bitmap, turns, forIn, popped, flipped, MomentWindow, setNonFiniteCount, setNullCount, setStart, setEnd, newImpl, reset, pushed, push, flip, pop, restarted, updateNoNulls, popAt, pushAt, updateNulls}
 use Rattle.promises.proofs.Accounts.{split-le}
 
 -- the front `Vec` of a list of readings: on its top the state of them all
@@ -69,7 +69,7 @@ module _ (M : ReadingMoment) (rust : Rust) (v : ℕ → Bool) (xs : List Float) 
 
   pushOn : ℕ → MomentWindow M → MomentWindow M
   unfolding push
-  pushOn i w = cond (v i) (push w (getD xs i nan)) (setNullCount w (w .nullCount + 1))
+  pushOn i w = cond (v i) (push rust w (getD xs i nan)) (setNullCount w (rust .plus (w .nullCount) 1))
 
   -- `update` with the places that v calls valid
   pub updateOn : MomentWindow M → ℕ → ℕ → MomentWindow M
@@ -85,19 +85,19 @@ module _ (M : ReadingMoment) (rust : Rust) (v : ℕ → Bool) (xs : List Float) 
   unfolding popOn
   pop-all all i w = rw (all i)
 
-  push-all : ((i : ℕ) → v i ≡ true) → (i : ℕ) (w : MomentWindow M) → push w (getD xs i nan) ≡ pushOn i w
+  push-all : ((i : ℕ) → v i ≡ true) → (i : ℕ) (w : MomentWindow M) → push rust w (getD xs i nan) ≡ pushOn i w
   unfolding pushOn
   push-all all i w = rw (all i)
 
   -- the bodies of 003's loops, where the map's bits are v's
-  abbrev Bits : List ℕ → Type 0
+  abbrev Bits : Bitmap → Type 0
   Bits map = (i : ℕ) → i < length xs → rust .bit map i ≡ v i
 
-  pop-bits : (map : List ℕ) → Bits map → (i : ℕ) (w : MomentWindow M) → i < length xs → popAt rust map xs i w ≡ popOn i w
+  pop-bits : (map : Bitmap) → Bits map → (i : ℕ) (w : MomentWindow M) → i < length xs → popAt rust map xs i w ≡ popOn i w
   unfolding popAt popOn
   pop-bits map bits i w p = rw (bits i p, rust .get-is xs i p)
 
-  push-bits : (map : List ℕ) → Bits map → (i : ℕ) (w : MomentWindow M) → i < length xs → pushAt rust map xs i w ≡ pushOn i w
+  push-bits : (map : Bitmap) → Bits map → (i : ℕ) (w : MomentWindow M) → i < length xs → pushAt rust map xs i w ≡ pushOn i w
   unfolding pushAt pushOn
   push-bits map bits i w p = rw (bits i p, rust .get-is xs i p)
 
@@ -222,7 +222,11 @@ module _ (M : ReadingMoment) (rust : Rust) (v : ℕ → Bool) (xs : List Float) 
       (split-le v 1 i e p g))
 
   -- ---- a place enters
-  module _ (st en i e p : ℕ) (w : MomentWindow M) (held : Holds st en i e p w) (h : i ≤ e) (k : p ≤ e) where
+  module _ (st en i e p : ℕ) (w : MomentWindow M) (held : Holds st en i e p w) (h : i ≤ e) (k : p ≤ e) (few : e ≤ 16777216) where
+    -- the counts that grow are of no more places than a trace has
+    one-more : (u : ℕ → Bool) (n : ℕ) → n ≡ length (entries u r i e) → rust .plus n 1 ≡ n + 1
+    one-more u n f = let g = count-le u r i e in rust .plus-is n 1 (omega arith)
+
     snoc : (t : Bool) → v e ≡ t → entries v r (max i p) (suc e) ≡ entries v r (max i p) e ++ cond t (r e ∷ []) []
     snoc t q = ap (λ (z : ℕ). entries v r (max i p) z) (sym (add-one e)) ∙ entries-snoc v r (max i p) e (omega arith) ∙ rw q
 
@@ -244,16 +248,16 @@ module _ (M : ReadingMoment) (rust : Rust) (v : ℕ → Bool) (xs : List Float) 
           nulls-is = omega arith;
         }
 
-    push-one : v e ≡ true → Holds st en i (suc e) p (push w (getD xs e nan))
+    push-one : v e ≡ true → Holds st en i (suc e) p (push rust w (getD xs e nan))
     unfolding push insertedAt
     push-one q = go (finite (getD xs e nan)) refl
       where
         go : (t : Bool) → finite (getD xs e nan) ≡ t
-            → Holds st en i (suc e) p (cond (finite (getD xs e nan)) (pushed w (getD xs e nan)) (setNonFiniteCount (pushed w zero64) (w .nonFiniteCount + 1)))
+            → Holds st en i (suc e) p (cond (finite (getD xs e nan)) (pushed w (getD xs e nan)) (setNonFiniteCount (pushed w zero64) (rust .plus (w .nonFiniteCount) 1)))
         go true f = rw f (push-in (getD xs e nan) (w .nonFiniteCount) q (rw f) (rw f (sym (add-zero _))))
-        go false f = rw f (push-in zero64 (w .nonFiniteCount + 1) q (rw f) (rw f))
+        go false f = rw f (push-in zero64 (rust .plus (w .nonFiniteCount) 1) q (rw f) (one-more b (w .nonFiniteCount) (held .bad-is) ∙ rw f))
 
-    push-null : v e ≡ false → Holds st en i (suc e) p (setNullCount w (w .nullCount + 1))
+    push-null : v e ≡ false → Holds st en i (suc e) p (setNullCount w (rust .plus (w .nullCount) 1))
     push-null q =
         let s = snoc false q ∙ append-nil (entries v r (max i p) e) in
         let f = held .bad-is in
@@ -267,23 +271,23 @@ module _ (M : ReadingMoment) (rust : Rust) (v : ℕ → Bool) (xs : List Float) 
           back-is = held .back-is ∙ sym s;
           agg-is = rw s (held .agg-is);
           bad-is = omega arith;
-          nulls-is = omega arith;
+          nulls-is = one-more nv (w .nullCount) (held .nulls-is) ∙ omega arith;
         }
 
     push-on : Holds st en i (suc e) p (pushOn e w)
     unfolding pushOn
     push-on = go (v e) refl
       where
-        go : (t : Bool) → v e ≡ t → Holds st en i (suc e) p (cond (v e) (push w (getD xs e nan)) (setNullCount w (w .nullCount + 1)))
+        go : (t : Bool) → v e ≡ t → Holds st en i (suc e) p (cond (v e) (push rust w (getD xs e nan)) (setNullCount w (rust .plus (w .nullCount) 1)))
         go true q = rw q (push-one q)
         go false q = rw q (push-null q)
 
-  pushes : (st en k i e p : ℕ) (w : MomentWindow M) → Holds st en i e p w → i ≤ e → p ≤ e → Holds st en i (e + k) p (turns pushOn k e w)
+  pushes : (st en k i e p : ℕ) (w : MomentWindow M) → Holds st en i e p w → i ≤ e → p ≤ e → e + k ≤ 16777216 → Holds st en i (e + k) p (turns pushOn k e w)
   unfolding turns
-  pushes st en zero i e p w held h g = rw add-zero held
-  pushes st en (suc k) i e p w held h g =
+  pushes st en zero i e p w held h g few = rw add-zero held
+  pushes st en (suc k) i e p w held h g few =
       let z : e + suc k ≡ suc e + k = omega arith in
-      rw z (pushes st en k i (suc e) p (pushOn e w) (push-on st en i e p w held h g) (omega arith) (omega arith))
+      rw z (pushes st en k i (suc e) p (pushOn e w) (push-on st en i e p w held h g (omega arith)) (omega arith) (omega arith) (omega arith))
 
   -- ---- a window between two rows
   abbrev At : Account → MomentWindow M → Type 0
@@ -313,7 +317,7 @@ module _ (M : ReadingMoment) (rust : Rust) (v : ℕ → Bool) (xs : List Float) 
   new-whole = record { start-le = omega arith; split-le = omega arith; at = none 0 newImpl }
 
   -- steps 1 and 2 of a move, and its end
-  module _ (a : Account) (w : MomentWindow M) (whole : Whole a w) (s e : ℕ) (hs : a .start ≤ s) (he : a .end ≤ e) (hr : s ≤ e) where
+  module _ (a : Account) (w : MomentWindow M) (whole : Whole a w) (s e : ℕ) (hs : a .start ≤ s) (he : a .end ≤ e) (hr : s ≤ e) (few : e ≤ 16777216) where
     abbrev F : Account
     F = paper.restarted a s
 
@@ -381,7 +385,7 @@ module _ (M : ReadingMoment) (rust : Rust) (v : ℕ → Bool) (xs : List Float) 
         let h = t .high in
         let z : F .end + (e - F .end) ≡ e = omega arith in
         let p = split-le v (s - F .start) (F .start) (F .end) (F .split) (t .split-le) in
-        let g = pushes (F .start) (F .end) (e - F .end) s (F .end) P W₂ out-at m p in
+        let g = pushes (F .start) (F .end) (e - F .end) s (F .end) P W₂ out-at m p (omega arith) in
         subst (λ (x : ℕ). Holds (F .start) (F .end) s e P (forIn x e pushOn W₂)) (sym (out-at .end-is))
         (subst (λ (y : ℕ). Holds (F .start) (F .end) s y P (forIn (F .end) e pushOn W₂)) z g)
 
@@ -414,10 +418,10 @@ module _ (M : ReadingMoment) (rust : Rust) (v : ℕ → Bool) (xs : List Float) 
         let t = restart in
         let l = t .low in
         let h = t .high in
-        ap (λ (u : MomentWindow M). setEnd (setStart (foldl push u (rust .part xs (u .end) e)) s) e)
+        ap (λ (u : MomentWindow M). setEnd (setStart (foldl (push rust) u (rust .part xs (u .end) e)) s) e)
         (over (pop rust) popOn (pop-all all) W₁ (W₁ .start) s (subst (λ (x : ℕ). x ≤ s) (sym (t .at .start-is)) l) (omega arith))
         ∙ ap (λ (u : MomentWindow M). setEnd (setStart u s) e)
-        (over push pushOn (push-all all) W₂ (W₂ .end) e (subst (λ (x : ℕ). x ≤ e) (sym (out-at .end-is)) h) k)
+        (over (push rust) pushOn (push-all all) W₂ (W₂ .end) e (subst (λ (x : ℕ). x ≤ e) (sym (out-at .end-is)) h) k)
       where
         over : (f : MomentWindow M → Float → MomentWindow M) (g : ℕ → MomentWindow M → MomentWindow M)
             → ((i : ℕ) (u : MomentWindow M) → f u (getD xs i nan) ≡ g i u) → (u : MomentWindow M) (i z : ℕ) → i ≤ z → z ≤ length xs
@@ -430,7 +434,7 @@ module _ (M : ReadingMoment) (rust : Rust) (v : ℕ → Bool) (xs : List Float) 
             ∙ turns-same (λ j x. f x (getD xs j nan)) g (z - i) i u (λ j x o q. same j x)
 
   -- 003's `update`: no bit and no reading past the end is read
-  pub nulls-same : (map : List ℕ) → Bits map → (w : MomentWindow M) (s e : ℕ) → s ≤ length xs → e ≤ length xs
+  pub nulls-same : (map : Bitmap) → Bits map → (w : MomentWindow M) (s e : ℕ) → s ≤ length xs → e ≤ length xs
       → updateNulls rust map xs w s e ≡ updateOn w s e
   unfolding updateNulls updateOn
   nulls-same map bits w s e h k =

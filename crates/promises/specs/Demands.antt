@@ -18,7 +18,7 @@ use Rattle.window.specs.Readings.{readingOf}
 use Rattle.window.specs.Rows.{Plan, rows, rowStart, rowEnd, moves}
 use Rattle.rolling.specs.Moments.{Variance, readingMomentOf, finalOf}
 use Rattle.rolling.specs.Calls.{Trace, Ask, Lent, seriesOf, yields, Called, decoded, CalledBytes}
-use Rattle.promises.specs.SourceWindow.{Rust}
+use Rattle.promises.specs.SourceWindow.{Rust, Bitmap}
 use Rattle.promises.specs.SourceRows.{rollingNoNulls, rollingNulls, rowOf}
 
 -- "one double and one byte (1 present, 0 missing) a row, together the row's answer". Doubles that are equal here and no NaN have the
@@ -48,13 +48,17 @@ pub data AcceptedCall (q : Ask) : Trace → Lent → Type 0 where
 abbrev pub offsets : Plan → ℕ → ℕ × ℕ
 offsets p k = (rowStart p k, rowEnd p k)
 
+-- a trace's map as the Rust's `Bitmap`: "one bit a place"
+abbrev pub bitmapOf : Trace → Bitmap
+bitmapOf t = record { bytes = t .map; bits = length (t .readings) }
+
 -- row k of the Rust's `rolling_apply_agg_window`, driven with the plan's rows: 003 with a map, 002 without one
 abbrev pub sourceRow : Rust → Ask → Trace → ℕ → Figure
 sourceRow rust q t k =
     let M = readingMomentOf (q .figure) in
     let bounds = offsets (q .plan) in
     cond (t .mapped)
-    (rowOf (rollingNulls M rust (finalOf (q .figure)) (t .readings) (t .map) (q .least) bounds (rows (q .plan))) k)
+    (rowOf (rollingNulls M rust (finalOf (q .figure)) (t .readings) (bitmapOf t) (q .least) bounds (rows (q .plan))) k)
     (getD (rollingNoNulls M rust (finalOf (q .figure)) (t .readings) (q .least) bounds (rows (q .plan))) k Missing)
 
 -- "every state and figure equals the Rust's", for windows: of every accepted call, every row's answer
@@ -86,7 +90,7 @@ abbrev pub SameMoves : Ask → Trace → Trace → ℕ → Type 0
 SameMoves q t t′ k = (j : ℕ) → j < k → movesAt q t j ≡ movesAt q t′ j
 
 -- both hold "the same bits at every valid place" from s up to e. Readings with the same bits are equal here, and so are two NaNs
--- with other bits: the hypothesis is the weaker, and the theorem the stronger.
+-- whose bits differ: the hypothesis is the weaker, and the theorem the stronger.
 abbrev pub Agree : Trace → Trace → ℕ → ℕ → Type 0
 Agree t t′ s e = (i : ℕ) → s ≤ i → i < e → validOf t i ≡ true → readingOf (t .readings) i ≡ readingOf (t′ .readings) i
 

@@ -6,13 +6,13 @@ use mathlib.Core.Bool.{Bool, true, false, cond}
 use mathlib.Core.List.{List, [], _∷_}
 use mathlib.Core.Option.{Option, none, some, Option·getD}
 use lib.Dec.{ltb}
-use lib.ListN.{getD, set, replicate}
+use lib.ListN.{getD, replicate}
 use lib.Ieee.{Float, nan}
 use Rattle.float.specs.Operators.{zero64}
 use Rattle.moment.specs.declared.Figure.{Figure}
 use Rattle.moment.specs.declared.Figure.the-variants.{Missing, Present}
 use Rattle.window.specs.Readings.{ReadingMoment}
-use Rattle.promises.specs.SourceWindow.{Rust, MomentWindow, updateNoNulls, newNoNulls, updateNulls, newNulls, getMoment, isValid}
+use Rattle.promises.specs.SourceWindow.{Rust, Bitmap, MomentWindow, updateNoNulls, newNoNulls, updateNulls, newNulls, getMoment, isValid}
 
 -- ---- 002
 module _ (M : ReadingMoment) (rust : Rust) (finalize : M .State → Figure) (values : List Float) (minPeriods : ℕ)
@@ -42,12 +42,12 @@ module _ (rust : Rust) (minPeriods : ℕ) (detOffsets : ℕ → ℕ × ℕ) wher
   -- "Head.": the k rows from i on, up to the first that is not too short
   unfoldable pub headSet : ℕ → ℕ → List Bool → List Bool
   headSet zero i validity = validity
-  headSet (suc k) i validity = cond (tooShort i) (headSet k (suc i) (set validity i false)) validity
+  headSet (suc k) i validity = cond (tooShort i) (headSet k (suc i) (rust .unset validity i)) validity
 
   -- "Tail.": the first rows, from the last of them down
   unfoldable pub tailSet : ℕ → List Bool → List Bool
   tailSet zero validity = validity
-  tailSet (suc i) validity = cond (tooShort i) (tailSet i (set validity i false)) validity
+  tailSet (suc i) validity = cond (tooShort i) (tailSet i (rust .unset validity i)) validity
 
   -- `create_validity`
   unfoldable pub createValidity : ℕ → Option (List Bool)
@@ -65,12 +65,12 @@ abbrev pub rowOf : Array → ℕ → Figure
 rowOf array k = cond (getD (array .validity) k false) (Present (getD (array .values) k nan)) Missing
 
 -- the `match` on `get_agg(idx)`, whose guard is `is_valid`: the row's value, and the validity after it
-abbrev pub matched : ℕ → Figure → Bool → List Bool → Float × List Bool
-matched idx (Present val) true validity = (val, validity)
-matched idx (Present val) false validity = (zero64, set validity idx false)
-matched idx Missing valid validity = (zero64, set validity idx false)
+abbrev pub matched : Rust → ℕ → Figure → Bool → List Bool → Float × List Bool
+matched rust idx (Present val) true validity = (val, validity)
+matched rust idx (Present val) false validity = (zero64, rust .unset validity idx)
+matched rust idx Missing valid validity = (zero64, rust .unset validity idx)
 
-module _ (M : ReadingMoment) (rust : Rust) (finalize : M .State → Figure) (values : List Float) (map : List ℕ) (minPeriods : ℕ)
+module _ (M : ReadingMoment) (rust : Rust) (finalize : M .State → Figure) (values : List Float) (map : Bitmap) (minPeriods : ℕ)
     (detOffsets : ℕ → ℕ × ℕ) where
   -- `out`: the k rows from idx on, with the window and the validity as the row before left them
   unfoldable pub outNulls : ℕ → ℕ → MomentWindow M → List Bool → Array
@@ -79,7 +79,7 @@ module _ (M : ReadingMoment) (rust : Rust) (finalize : M .State → Figure) (val
   outNulls (suc k) idx aggWindow validity =
       let (start, end) = detOffsets idx in
       let updated = updateNulls rust map values aggWindow start end in
-      let (value, after) = matched idx (getMoment finalize updated) (isValid rust updated minPeriods) validity in
+      let (value, after) = matched rust idx (getMoment finalize updated) (isValid rust updated minPeriods) validity in
       let rest = outNulls k (suc idx) updated after in
       record { values = value ∷ rest .values; validity = rest .validity }
 

@@ -1,13 +1,13 @@
 -- Demand 2, for windows: 001's `MomentWindow` as functions on values, as literally as lists allow; each definition is the
 -- function that its comment names. `slice`, `validity` and `moment`, which no function changes, are parameters. A `Vec` is a
 -- list whose head is the last element: push puts in front, pop takes the head off, last reads it. Assumes nothing.
-use Prim.Native.Nat.{ℕ, zero, suc, _+_, _-_, _/_, _≤_, _<_}
+use Prim.Native.Nat.{ℕ, zero, suc, _+_, _-_, _*_, _^_, _≤_, _<_}
 use mathlib.Core.Path.{_≡_, refl}
 use mathlib.Core.Bool.{Bool, true, false, cond, not}
 use mathlib.Core.List.{List, [], _∷_, foldl}
 use mir.Val.{boolByte}
 use lib.Dec.{ltb, leb}
-use lib.ListN.{length, getD}
+use lib.ListN.{length, getD, set}
 use lib.Seq.{slice}
 use lib.Ieee.{Float, nan}
 use lib.Ieee.Scale.{finite}
@@ -17,9 +17,18 @@ use Rattle.moment.specs.declared.Figure.{Figure}
 use Rattle.moment.specs.declared.Figure.the-variants.{Missing, Present}
 use Rattle.window.specs.Readings.{ReadingMoment}
 
--- What Rust defines for some arguments only, and elsewhere panics or leaves undefined: known where it is defined, else left open.
--- So what holds of every such `Rust` holds without leaning on a difference below zero or on a place past the end.
+-- `Bitmap`: bytes, and how many of their bits count, the lowest first
+pub record Bitmap : Type 0 where
+  pub bytes : List ℕ
+  pub bits : ℕ
+
+-- What Rust defines for some arguments only, and elsewhere panics, wraps or leaves undefined: known where it is defined, else left
+-- open. So what holds of every such `Rust` holds without leaning on a sum past 64 bits, a difference below zero or a place past the
+-- end.
 pub record Rust : Type 0 where
+  -- `a + b` of two `usize`
+  pub plus : ℕ → ℕ → ℕ
+  pub plus-is : (a b : ℕ) → a + b < 2 ^ 64 → plus a b ≡ a + b
   -- `a - b` of two `usize`
   pub minus : ℕ → ℕ → ℕ
   pub minus-is : (a b : ℕ) → b ≤ a → minus a b ≡ a - b
@@ -29,22 +38,30 @@ pub record Rust : Type 0 where
   -- `*l.get_unchecked(i)`
   pub get : List Float → ℕ → Float
   pub get-is : (l : List Float) (i : ℕ) → i < length l → get l i ≡ getD l i nan
-  -- `validity.get_bit_unchecked(i)`, of a map's bytes
-  pub bit : List ℕ → ℕ → Bool
-  pub bit-is : (map : List ℕ) (i : ℕ) → i / 8 < length map → bit map i ≡ validAt true map i
+  -- `validity.get_bit_unchecked(i)`, of a bitmap whose bytes hold its bits
+  pub bit : Bitmap → ℕ → Bool
+  pub bit-is : (validity : Bitmap) (i : ℕ) → validity .bits ≤ 8 * length (validity .bytes) → i < validity .bits
+      → bit validity i ≡ validAt true (validity .bytes) i
+  -- `validity.set(i, false)` and `validity.set_unchecked(i, false)`, of a `MutableBitmap` as the list of its bits
+  pub unset : List Bool → ℕ → List Bool
+  pub unset-is : (validity : List Bool) (i : ℕ) → i < length validity → unset validity i ≡ set validity i false
 
--- one such: subtraction that stops at 0, and what is past the end not there
+-- one such: sums without a limit, subtraction that stops at 0, and what is past the end not there
 abbrev pub someRust : Rust
 someRust =
     record {
+      plus = _+_;
+      plus-is = λ a b h. refl;
       minus = _-_;
       minus-is = λ a b h. refl;
       part = λ l a b. slice a b l;
       part-is = λ l a b h k. refl;
       get = λ l i. getD l i nan;
       get-is = λ l i h. refl;
-      bit = validAt true;
-      bit-is = λ map i h. refl;
+      bit = λ validity i. validAt true (validity .bytes) i;
+      bit-is = λ validity i h k. refl;
+      unset = λ validity i. set validity i false;
+      unset-is = λ validity i h. refl;
     }
 
 -- `for idx in a..b`, whose body takes w to f idx w: b - a turns
@@ -204,8 +221,9 @@ module _ {M : ReadingMoment} where
   pushed w x = setAggBack (setBack w (x ∷ w .back)) (M .insert (w .aggBack) x)
 
   -- `push`
-  unfoldable pub push : MomentWindow M → Float → MomentWindow M
-  push w val = cond (finite val) (pushed w val) (setNonFiniteCount (pushed w zero64) (w .nonFiniteCount + 1))
+  unfoldable pub push : Rust → MomentWindow M → Float → MomentWindow M
+  push rust w val =
+      cond (finite val) (pushed w val) (setNonFiniteCount (pushed w zero64) (rust .plus (w .nonFiniteCount) 1))
 
   -- `flip`
   unfoldable pub flip : MomentWindow M → MomentWindow M
@@ -241,7 +259,7 @@ module _ {M : ReadingMoment} where
   updateNoNulls rust values w newStart newEnd =
       let w₁ = restarted w newStart in
       let w₂ = foldl (pop rust) w₁ (rust .part values (w₁ .start) newStart) in
-      let w₃ = foldl push w₂ (rust .part values (w₂ .end) newEnd) in
+      let w₃ = foldl (push rust) w₂ (rust .part values (w₂ .end) newEnd) in
       setEnd (setStart w₃ newStart) newEnd
 
   -- `new`
@@ -250,19 +268,19 @@ module _ {M : ReadingMoment} where
 
   -- ---- `impl RollingAggWindowNulls`
   -- the body of the first loop of `update`
-  unfoldable pub popAt : Rust → List ℕ → List Float → ℕ → MomentWindow M → MomentWindow M
+  unfoldable pub popAt : Rust → Bitmap → List Float → ℕ → MomentWindow M → MomentWindow M
   unfolding pop
   popAt rust validity values idx w =
       cond (rust .bit validity idx) (pop rust w (rust .get values idx)) (setNullCount w (rust .minus (w .nullCount) 1))
 
   -- the body of its second loop
-  unfoldable pub pushAt : Rust → List ℕ → List Float → ℕ → MomentWindow M → MomentWindow M
+  unfoldable pub pushAt : Rust → Bitmap → List Float → ℕ → MomentWindow M → MomentWindow M
   unfolding push
   pushAt rust validity values idx w =
-      cond (rust .bit validity idx) (push w (rust .get values idx)) (setNullCount w (w .nullCount + 1))
+      cond (rust .bit validity idx) (push rust w (rust .get values idx)) (setNullCount w (rust .plus (w .nullCount) 1))
 
   -- `update`
-  unfoldable pub updateNulls : Rust → List ℕ → List Float → MomentWindow M → ℕ → ℕ → MomentWindow M
+  unfoldable pub updateNulls : Rust → Bitmap → List Float → MomentWindow M → ℕ → ℕ → MomentWindow M
   unfolding turns popAt pushAt
   updateNulls rust validity values w newStart newEnd =
       let w₁ = restarted w newStart in
@@ -270,8 +288,8 @@ module _ {M : ReadingMoment} where
       let w₃ = forIn (w₂ .end) newEnd (pushAt rust validity values) w₂ in
       setEnd (setStart w₃ newStart) newEnd
 
-  -- `new`; its `assert!` holds of every row of an accepted plan
-  abbrev pub newNulls : Rust → List ℕ → List Float → ℕ → ℕ → MomentWindow M
+  -- `new`; its `assert!` holds of the one row that it is called with: row 0 of an accepted plan, or (0, 0) for an empty plan
+  abbrev pub newNulls : Rust → Bitmap → List Float → ℕ → ℕ → MomentWindow M
   newNulls rust validity values start end = updateNulls rust validity values newImpl start end
 
   -- `is_valid`

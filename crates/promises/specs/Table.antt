@@ -43,6 +43,7 @@ gives figure byte x = eqb (byteOf figure) byte && same (doubleOf figure) x
 abbrev pub whole : ℕ → Float
 whole n = count n
 
+-- all of a list of tests hold
 unfoldable pub every : List Bool → Bool
 every [] = true
 every (b ∷ bs) = b && every bs
@@ -77,6 +78,7 @@ accepted q t =
 abbrev pub rowGives : Ask → Trace → ℕ → ℕ → Float → Bool
 rowGives q t k byte x = gives (yields q t k) byte x && gives (sourceRow someRust q t k) byte x
 
+-- ---- what P7, P8 and P9 ask, and of which trace
 abbrev pub p7 : Ask
 p7 = ask (0 ∷ 1 ∷ 3 ∷ []) (2 ∷ 3 ∷ 4 ∷ []) 1 (Variance 1)
 
