@@ -17,7 +17,7 @@ use Rattle.window.specs.Rows.{rows, rowStart, rowEnd, answerAt, table}
 use Rattle.window.specs.Refusals.{planRefusal, filled, kept}
 use Rattle.rolling.specs.Moments.{Variance}
 use Rattle.rolling.specs.Calls.{Trace, Ask, Lent, ask, lent, traceOf, decoded}
-use Rattle.promises.specs.Table.{whole, p7, trace7, p8, p9, trace9}
+use Rattle.promises.specs.Table.{whole, p7, trace7, p8, trace8, p9, trace9}
 use Rattle.promises.specs.Demands.{Answer, answerIn, AcceptedCall, planCall, hostCall, Alike, Agree}
 
 -- ---- there are accepted calls
@@ -40,6 +40,10 @@ p7-accepted =
 abbrev bytes8 : List ℕ
 bytes8 =
     0 ∷ 0 ∷ 0 ∷ 0 ∷ 0 ∷ 0 ∷ 0xF8 ∷ 0x7F ∷ 0 ∷ 0 ∷ 0 ∷ 0 ∷ 0 ∷ 0 ∷ 0x10 ∷ 0x40 ∷ 0 ∷ 0 ∷ 0 ∷ 0 ∷ 0 ∷ 0 ∷ 0x18 ∷ 0x40 ∷ []
+
+bytes8-are : decoded bytes8 false [] ≡ trace8
+unfolding table ofBits ofInt
+bytes8-are = refl
 
 -- P8, with a place past the readings that keeps what it holds
 pub p8-accepted : AcceptedCall p8 (decoded bytes8 false []) (fourLeft 8 (nan ∷ two64 ∷ one64 ∷ one64 ∷ []) (1 ∷ 1 ∷ 7 ∷ 7 ∷ []))
