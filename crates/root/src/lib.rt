@@ -78,7 +78,7 @@ fn longhand(x: f64) -> f64
 }
 
 // A guess at the root of x, from half of its bits: the bits of one over the root are near a constant less that half, a
-// polynomial of degree five in x * y * y mends them to 30 digits, and one step of Newton's method does the rest. It aims
+// polynomial of degree five in x * y * y mends them to 30 binary digits, and one step of Newton's method does the rest. It aims
 // half a unit in the last place too low, by a factor a little below 1, so that the root is the guess or the next number.
 // Nothing is claimed of it, since `settle` checks it.
 fn guess(x: f64, half: u64) -> f64
