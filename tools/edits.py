@@ -17,7 +17,7 @@ for edit in sorted(glob.glob("crates/*/must-fail/*.edit")):
         print(f"{crate}/{label}: not tried"); bad += 1; continue
     text = open(log, encoding="utf-8").read()
     errors = [l for l in text.split("\n") if re.match(r"\S+:\d+:\d+: error", l) and "was not admitted" not in l]
-    if "can be named from here" in text:  # it may stand on a line after the error's own
+    if re.search(r"can be named from here|^  has no field `", text, re.M):  # on a line after the error's own
         print(f"{crate}/{label}: a proof file is unfit for the edited code"); bad += 1
     for name in re.findall(r"^# refuses: (\S+)$", open(edit, encoding="utf-8").read(), re.M):
         path = "/" + name.replace("::", "/") + "/Proof.antt:"
