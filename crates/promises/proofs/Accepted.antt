@@ -13,7 +13,7 @@ use Rattle.trace.specs.Refusals.{refusal, _orElse_, tooMany, wrongMap, arrayRef
 use Rattle.trace.proofs.Accepted.{none-of, not-refused}
 use Rattle.moment.specs.Figure.{doubleOf, byteOf}
 use Rattle.window.specs.Rows.{Plan, rows}
-use Rattle.window.specs.Refusals.{badLists, rowsRefusal, needed, planRefusal, filled}
+use Rattle.window.specs.Refusals.{wrongLists, rowsRefusal, needed, planRefusal, filled}
 use Rattle.window.specs.Stacks.{Planned}
 use Rattle.window.proofs.Tables.{table-length, table-at}
 use Rattle.window.proofs.Plans.{taken}
@@ -42,7 +42,7 @@ map-accepted : (per n : ℕ) (has : Bool) (map : List ℕ) (p : Plan) (short : B
 unfolding planRefusal
 map-accepted per n has map p short figures present work e =
     map-long n has map
-    (first-of (arrayRefusal n has map) (refusal 4 (badLists p)) (rowsRefusal n p (rows p))
+    (first-of (arrayRefusal n has map) (refusal 4 (wrongLists p)) (rowsRefusal n p (rows p))
     (refusal 12 (short || (ltb figures (rows p) || ltb present (rows p)))) (refusal 13 (ltb work (needed per p))) e)
 
 -- what a call leaves, where its number is 0

@@ -46,15 +46,15 @@ pub rows-same : (rust : Rust) (q : Ask) (t : Trace) (widest : ℕ) → Planned (
 rows-same rust q t widest plan few fits k h = go (t .mapped) fits
   where
     go : (m : Bool) → (m ≡ true → length (t .map) ≡ (length (t .readings) + 7) / 8)
-        → cond m (rowOf (rollingNulls (readingMomentOf (q .figure)) rust (finalOf (q .figure)) (t .readings) (bitmapOf t) (q .least) (offsets (q .plan)) (rows (q .plan))) k)
-        (getD (rollingNoNulls (readingMomentOf (q .figure)) rust (finalOf (q .figure)) (t .readings) (q .least) (offsets (q .plan)) (rows (q .plan))) k Missing)
-        ≡ answerAt (momentOf (q .figure)) (finalOf (q .figure)) (series m (t .map) (t .readings)) (q .least) (q .plan) k
+        → cond m (rowOf (rollingNulls (readingMomentOf (q .figure)) rust (finalOf (q .figure)) (t .readings) (bitmapOf t) (q .minPeriods) (offsets (q .plan)) (rows (q .plan))) k)
+        (getD (rollingNoNulls (readingMomentOf (q .figure)) rust (finalOf (q .figure)) (t .readings) (q .minPeriods) (offsets (q .plan)) (rows (q .plan))) k Missing)
+        ≡ answerAt (momentOf (q .figure)) (finalOf (q .figure)) (series m (t .map) (t .readings)) (q .minPeriods) (q .plan) k
     go true f =
-        let r = rolled-yes (readingMomentOf (q .figure)) rust (neutral (q .figure)) (finalOf (q .figure)) true (t .map) (t .readings) (q .least) widest (q .plan) plan few refl (bitmapOf t)
+        let r = rolled-yes (readingMomentOf (q .figure)) rust (neutral (q .figure)) (finalOf (q .figure)) true (t .map) (t .readings) (q .minPeriods) widest (q .plan) plan few refl (bitmapOf t)
         (λ i g. rust .bit-is (bitmapOf t) i (bits-fit (length (t .readings)) (length (t .map)) (f refl)) g) in
         rw zero-add at (r .row k h)
     go false f =
-        rw (rolled-no (readingMomentOf (q .figure)) rust (neutral (q .figure)) (finalOf (q .figure)) false (t .map) (t .readings) (q .least) widest (q .plan) plan few refl)
+        rw (rolled-no (readingMomentOf (q .figure)) rust (neutral (q .figure)) (finalOf (q .figure)) false (t .map) (t .readings) (q .minPeriods) widest (q .plan) plan few refl)
         (ap (λ (l : List Figure). getD l k Missing) (sym (append-nil (table _ (rows (q .plan))))) ∙ table-at _ (rows (q .plan)) k _ Missing h)
 
 pub demand-two : DemandTwo

@@ -16,9 +16,9 @@ use borrow.Author.Tests.{le-leb, lt-leb, lt-ltb, leb-true, ltb-true, ltb-false, 
 use Rattle.trace.specs.Trace.{validAt}
 use Rattle.moment.specs.declared.Figure.{Figure}
 use Rattle.moment.specs.declared.Figure.the-variants.{Missing, Present}
-use Rattle.window.specs.Places.{Series, entriesFrom, entries, validCount, badCount}
-use Rattle.window.specs.Window.{Account, fresh, splitAfter, front, back, moved, rising, falling, spoilt, figureOf}
-use Rattle.window.specs.Readings.{series, insertedAt, badAt, ReadingMoment, ofReadings}
+use Rattle.window.specs.Places.{Series, entriesFrom, entries, validCount, nonfiniteCount}
+use Rattle.window.specs.Window.{Account, fresh, splitAfter, front, back, moved, rising, falling, orNan, figureOf}
+use Rattle.window.specs.Readings.{series, insertedAt, nonfiniteAt, ReadingMoment, ofReadings}
 use Rattle.window.specs.Rows.{Plan, rows, rowStart, rowEnd, moves, accountAt, counted, answerOf, answerAt, table}
 use Rattle.window.specs.Stacks.{Planned}
 use Rattle.window.proofs.Places.{Or, here, there, order}
@@ -60,11 +60,11 @@ both v r (suc k) i = go (v i) (both v r k (suc i))
     go true h = omega arith
     go false h = omega arith
 
-spoilt-is : (n : ℕ) (f : Figure) → cond (ltb 0 n) (mapNan f) f ≡ spoilt n f
-unfolding spoilt
-spoilt-is zero f = refl
-spoilt-is (suc n) (Present x) = rw (lt-ltb 0 (suc n) (omega arith), ne-eqb (suc n) 0 (λ z. omega arith))
-spoilt-is (suc n) Missing = rw (lt-ltb 0 (suc n) (omega arith), ne-eqb (suc n) 0 (λ z. omega arith))
+orNan-is : (n : ℕ) (f : Figure) → cond (ltb 0 n) (mapNan f) f ≡ orNan n f
+unfolding orNan
+orNan-is zero f = refl
+orNan-is (suc n) (Present x) = rw (lt-ltb 0 (suc n) (omega arith), ne-eqb (suc n) 0 (λ z. omega arith))
+orNan-is (suc n) Missing = rw (lt-ltb 0 (suc n) (omega arith), ne-eqb (suc n) 0 (λ z. omega arith))
 
 -- ---- what a window yields
 module _ (M : ReadingMoment) (rust : Rust) (neutral : Neutral M) (final : M .State → Figure) (has : Bool) (map : List ℕ) (xs : List Float) where
@@ -80,25 +80,25 @@ module _ (M : ReadingMoment) (rust : Rust) (neutral : Neutral M) (final : M .Sta
   combined-is agg (x ∷ l) = refl
 
   moment-is : (a : Account) (w : MomentWindow M) → Stands a w → getMoment final w ≡ figureOf (ofReadings M) final t a
-  unfolding getMoment figureOf badAt
+  unfolding getMoment figureOf nonfiniteAt
   moment-is a w whole =
       let h = whole .at in
-      rw (h .front-is, h .agg-is, h .bad-is)
-      (ap (λ (s : M .State). cond (ltb 0 (badCount t (a .start) (a .end))) (mapNan (final s)) (final s)) (combined-is (rising (ofReadings M) (M .empty) (back t a)) (front t a))
-      ∙ spoilt-is (badCount t (a .start) (a .end)) (final (M .combine (rising (ofReadings M) (M .empty) (back t a)) (falling (ofReadings M) (front t a)))))
+      rw (h .front-is, h .agg-is, h .nonfinite-is)
+      (ap (λ (s : M .State). cond (ltb 0 (nonfiniteCount t (a .start) (a .end))) (mapNan (final s)) (final s)) (combined-is (rising (ofReadings M) (M .empty) (back t a)) (front t a))
+      ∙ orNan-is (nonfiniteCount t (a .start) (a .end)) (final (M .combine (rising (ofReadings M) (M .empty) (back t a)) (falling (ofReadings M) (front t a)))))
 
-  valid-is : (a : Account) (w : MomentWindow M) (least : ℕ) → Stands a w → isValid rust w least ≡ leb least (validCount t (a .start) (a .end))
-  valid-is a w least whole =
+  valid-is : (a : Account) (w : MomentWindow M) (minPeriods : ℕ) → Stands a w → isValid rust w minPeriods ≡ leb minPeriods (validCount t (a .start) (a .end))
+  valid-is a w minPeriods whole =
       let h = whole .at in
       let nulls = length (entries (λ j. not (validAt has map j)) (insertedAt xs) (a .start) (a .end)) in
       let c = both (validAt has map) (insertedAt xs) (a .end - a .start) (a .start) in
       let n : (a .end - a .start) - nulls ≡ validCount t (a .start) (a .end) = omega arith in
       let x : rust .minus (a .end) (a .start) ≡ a .end - a .start = rust .minus-is (a .end) (a .start) (whole .start-le) in
       let y = rust .minus-is (a .end - a .start) nulls (omega arith) in
-      rw (h .start-is, h .end-is, h .nulls-is, x) (ap (leb least) (y ∙ n))
+      rw (h .start-is, h .end-is, h .nulls-is, x) (ap (leb minPeriods) (y ∙ n))
 
   -- ---- the rows of a plan
-  module _ (least widest : ℕ) (p : Plan) (plan : Planned (length xs) widest p) (few : length xs ≤ 16777216) where
+  module _ (minPeriods widest : ℕ) (p : Plan) (plan : Planned (length xs) widest p) (few : length xs ≤ 16777216) where
     abbrev S : ℕ → ℕ
     S k = rowStart p k
 
@@ -106,10 +106,10 @@ module _ (M : ReadingMoment) (rust : Rust) (neutral : Neutral M) (final : M .Sta
     E k = rowEnd p k
 
     abbrev A : ℕ → Account
-    A k = accountAt (validAt has map) has least p k
+    A k = accountAt (validAt has map) has minPeriods p k
 
     abbrev answer : ℕ → Figure
-    answer k = answerAt (ofReadings M) final t least p k
+    answer k = answerAt (ofReadings M) final t minPeriods p k
 
     abbrev update : MomentWindow M → ℕ → MomentWindow M
     update w k = updateOn M rust (validAt has map) xs w (S k) (E k)
@@ -120,14 +120,14 @@ module _ (M : ReadingMoment) (rust : Rust) (neutral : Neutral M) (final : M .Sta
       whole : Stands acc w
       starts : acc .start ≤ S k
       ends : acc .end ≤ E k
-      next : moves has least k (S k) (E k) ≡ true → moved (validAt has map) acc (S k) (E k) ≡ A (suc k)
-      stay : moves has least k (S k) (E k) ≡ false → acc ≡ A (suc k)
+      next : moves has minPeriods k (S k) (E k) ≡ true → moved (validAt has map) acc (S k) (E k) ≡ A (suc k)
+      stay : moves has minPeriods k (S k) (E k) ≡ false → acc ≡ A (suc k)
       first : k ≡ 0 → acc ≡ A (suc k)
 
     before-suc : (k : ℕ) (w : MomentWindow M) → suc k < rows p → Stands (A (suc k)) w → Before (suc k) w
     unfolding accountAt
     before-suc k w h whole =
-        let l = lies (validAt has map) has least (length xs) widest p plan (suc k) (omega arith) in
+        let l = lies (validAt has map) has minPeriods (length xs) widest p plan (suc k) (omega arith) in
         let x = l .ahead (suc k) (omega arith) h in
         record {
           acc = A (suc k);
@@ -139,7 +139,7 @@ module _ (M : ReadingMoment) (rust : Rust) (neutral : Neutral M) (final : M .Sta
           first = λ e. absurd (omega arith);
         }
 
-    moves-zero : (m : Bool) (s e : ℕ) → moves m least 0 s e ≡ true
+    moves-zero : (m : Bool) (s e : ℕ) → moves m minPeriods 0 s e ≡ true
     moves-zero true s e = refl
     moves-zero false s e = refl
 
@@ -181,16 +181,16 @@ module _ (M : ReadingMoment) (rust : Rust) (neutral : Neutral M) (final : M .Sta
         }
 
     -- a row that moves the window
-    after : (k : ℕ) (w : MomentWindow M) → k < rows p → Before k w → moves has least k (S k) (E k) ≡ true → Stands (A (suc k)) (update w k)
+    after : (k : ℕ) (w : MomentWindow M) → k < rows p → Before k w → moves has minPeriods k (S k) (E k) ≡ true → Stands (A (suc k)) (update w k)
     after k w h c e =
         let r = plan .row k h in
         rw (c .next e) at (moved-whole M rust (validAt has map) xs (c .acc) w (c .whole) (S k) (E k) (c .starts) (c .ends) (r .0) (omega arith))
 
-    answer-no : (k : ℕ) → leb least (counted t (S k) (E k)) ≡ false → answer k ≡ Missing
+    answer-no : (k : ℕ) → leb minPeriods (counted t (S k) (E k)) ≡ false → answer k ≡ Missing
     unfolding answerAt answerOf
     answer-no k e = rw e
 
-    answer-yes : (k : ℕ) → leb least (counted t (S k) (E k)) ≡ true → answer k ≡ figureOf (ofReadings M) final t (A (suc k))
+    answer-yes : (k : ℕ) → leb minPeriods (counted t (S k) (E k)) ≡ true → answer k ≡ figureOf (ofReadings M) final t (A (suc k))
     unfolding answerAt answerOf
     answer-yes k e = rw e
 
@@ -203,12 +203,12 @@ module _ (M : ReadingMoment) (rust : Rust) (neutral : Neutral M) (final : M .Sta
       counted-no : (s e : ℕ) → counted t s e ≡ e - s
       counted-no s e = ap (λ (m : Bool). cond m (validCount t s e) (e - s)) no
 
-      stays : (k : ℕ) (w : MomentWindow M) → (c : Before k w) → leb least (E k - S k) ≡ false → c .acc ≡ A (suc k)
+      stays : (k : ℕ) (w : MomentWindow M) → (c : Before k w) → leb minPeriods (E k - S k) ≡ false → c .acc ≡ A (suc k)
       stays k w c e = go k refl
         where
           go : (i : ℕ) → k ≡ i → c .acc ≡ A (suc k)
           go zero z = c .first z
-          go (suc i) z = c .stay (ap (λ (m : Bool). m || (eqb k 0 || leb least (E k - S k))) no ∙ rw (e, ne-eqb k 0 (λ y. omega arith)))
+          go (suc i) z = c .stay (ap (λ (m : Bool). m || (eqb k 0 || leb minPeriods (E k - S k))) no ∙ rw (e, ne-eqb k 0 (λ y. omega arith)))
 
       -- 002's `update` with row k, of a window that stands before it
       update-no : (a : Account) (w : MomentWindow M) (k : ℕ) → k < rows p → Stands a w → a .start ≤ S k → a .end ≤ E k → updateNoNulls rust xs w (S k) (E k) ≡ update w k
@@ -217,36 +217,36 @@ module _ (M : ReadingMoment) (rust : Rust) (neutral : Neutral M) (final : M .Sta
           no-nulls-same M rust (validAt has map) xs a w whole (S k) (E k) hs he (r .0) (omega arith) every (r .1)
 
       abbrev out : ℕ → ℕ → MomentWindow M → List Figure
-      out k i w = outNoNulls M rust final xs least (offsets p) k i w
+      out k i w = outNoNulls M rust final xs minPeriods (offsets p) k i w
 
       rows-no : (k i : ℕ) (w : MomentWindow M) → i + k ≡ rows p → (0 < k → Before i w) → out k i w ≡ span answer k i
       unfolding outNoNulls span
       rows-no zero i w h c = refl
       rows-no (suc k) i w h c =
           let r = plan .row i (omega arith) in
-          ap (λ (n : ℕ). cond (ltb n least) (Missing ∷ out k (suc i) w)
+          ap (λ (n : ℕ). cond (ltb n minPeriods) (Missing ∷ out k (suc i) w)
           (getMoment final (updateNoNulls rust xs w (S i) (E i)) ∷ out k (suc i) (updateNoNulls rust xs w (S i) (E i))))
           (rust .minus-is (E i) (S i) (r .0))
-          ∙ go (ltb (E i - S i) least) refl (c (omega arith)) (λ (w′ : MomentWindow M). rows-no k (suc i) w′ (omega arith))
+          ∙ go (ltb (E i - S i) minPeriods) refl (c (omega arith)) (λ (w′ : MomentWindow M). rows-no k (suc i) w′ (omega arith))
         where
-          go : (u : Bool) → ltb (E i - S i) least ≡ u → Before i w → ((w′ : MomentWindow M) → (0 < k → Before (suc i) w′) → out k (suc i) w′ ≡ span answer k (suc i))
+          go : (u : Bool) → ltb (E i - S i) minPeriods ≡ u → Before i w → ((w′ : MomentWindow M) → (0 < k → Before (suc i) w′) → out k (suc i) w′ ≡ span answer k (suc i))
               → cond u (Missing ∷ out k (suc i) w)
               (getMoment final (updateNoNulls rust xs w (S i) (E i)) ∷ out k (suc i) (updateNoNulls rust xs w (S i) (E i)))
               ≡ answer i ∷ span answer k (suc i)
           go true e c ih =
-              let q : leb least (E i - S i) ≡ false = lt-leb least (E i - S i) (ltb-true _ _ e) in
+              let q : leb minPeriods (E i - S i) ≡ false = lt-leb minPeriods (E i - S i) (ltb-true _ _ e) in
               let whole = subst (λ (a : Account). Stands a w) (stays i w c q) (c .whole) in
-              rw (ih w (λ l. before-suc i w (omega arith) whole), answer-no i (ap (leb least) (counted-no (S i) (E i)) ∙ q))
+              rw (ih w (λ l. before-suc i w (omega arith) whole), answer-no i (ap (leb minPeriods) (counted-no (S i) (E i)) ∙ q))
           go false e c ih =
-              let q : leb least (E i - S i) ≡ true = le-leb least (E i - S i) (ltb-false _ _ e) in
-              let y = ap (leb least) (counted-no (S i) (E i)) ∙ q in
+              let q : leb minPeriods (E i - S i) ≡ true = le-leb minPeriods (E i - S i) (ltb-false _ _ e) in
+              let y = ap (leb minPeriods) (counted-no (S i) (E i)) ∙ q in
               let u = update-no (c .acc) w i (omega arith) (c .whole) (c .starts) (c .ends) in
-              let whole = after i w (omega arith) c (meets t least i (S i) (E i) y) in
+              let whole = after i w (omega arith) c (meets t minPeriods i (S i) (E i) y) in
               ap (λ (z : MomentWindow M). getMoment final z ∷ out k (suc i) z) u
               ∙ ap (λ (f : Figure). f ∷ out k (suc i) (update w i)) (moment-is (A (suc i)) (update w i) whole ∙ sym (answer-yes i y))
               ∙ ap (λ (l : List Figure). answer i ∷ l) (ih (update w i) (λ l. before-suc i (update w i) (omega arith) whole))
 
-      pub rolled-no : rollingNoNulls M rust final xs least (offsets p) (rows p) ≡ table answer (rows p)
+      pub rolled-no : rollingNoNulls M rust final xs minPeriods (offsets p) (rows p) ≡ table answer (rows p)
       unfolding rollingNoNulls
       rolled-no = rows-no (rows p) 0 (updateNoNulls rust xs newImpl (S 0) (E 0)) (zero-add (rows p)) start ∙ span-table answer (rows p)
         where
@@ -274,10 +274,10 @@ module _ (M : ReadingMoment) (rust : Rust) (neutral : Neutral M) (final : M .Sta
 
     -- marks that are off, of the rows from i on, are of rows that are too short
     abbrev From : ℕ → List Bool → Type 0
-    From i l = (j : ℕ) → i ≤ j → j < length l → getD l j false ≡ false → tooShort rust least (offsets p) j ≡ true
+    From i l = (j : ℕ) → i ≤ j → j < length l → getD l j false ≡ false → tooShort rust minPeriods (offsets p) j ≡ true
 
     abbrev short : ℕ → Bool
-    short i = tooShort rust least (offsets p) i
+    short i = tooShort rust minPeriods (offsets p) i
 
     -- marks that `create_validity` may leave of l
     abbrev Marks : List Bool → List Bool → Type 0
@@ -304,14 +304,14 @@ module _ (M : ReadingMoment) (rust : Rust) (neutral : Neutral M) (final : M .Sta
         go true q = (g q .0, g q .1 ∙ unset-long l i o)
         go false q = (f, refl)
 
-    head-marks : (k i : ℕ) (l : List Bool) → i + k ≤ length l → From 0 l → Marks l (headSet rust least (offsets p) k i l)
+    head-marks : (k i : ℕ) (l : List Bool) → i + k ≤ length l → From 0 l → Marks l (headSet rust minPeriods (offsets p) k i l)
     unfolding headSet
     head-marks zero i l o f = (f, refl)
     head-marks (suc k) i l o f =
         let n = unset-long l i (omega arith) in
         either i l _ (omega arith) f (λ h. head-marks k (suc i) (rust .unset l i) (omega arith) (short-unset l i (omega arith) h f))
 
-    tail-marks : (k : ℕ) (l : List Bool) → k ≤ length l → From 0 l → Marks l (tailSet rust least (offsets p) k l)
+    tail-marks : (k : ℕ) (l : List Bool) → k ≤ length l → From 0 l → Marks l (tailSet rust minPeriods (offsets p) k l)
     unfolding tailSet
     tail-marks zero l o f = (f, refl)
     tail-marks (suc k) l o f =
@@ -322,21 +322,21 @@ module _ (M : ReadingMoment) (rust : Rust) (neutral : Neutral M) (final : M .Sta
     all-marks n j o h e = absurd (let z : _≡_ {A = ℕ} 0 1 = cc (getD-replicate n j true false (rw length-replicate at h), e) in omega arith)
 
     abbrev created : ℕ → List Bool
-    created n = Option·getD (createValidity rust least (offsets p) n) (replicate n true)
+    created n = Option·getD (createValidity rust minPeriods (offsets p) n) (replicate n true)
 
     abbrev ends-set : ℕ → List Bool
-    ends-set n = tailSet rust least (offsets p) n (headSet rust least (offsets p) n 0 (replicate n true))
+    ends-set n = tailSet rust minPeriods (offsets p) n (headSet rust minPeriods (offsets p) n 0 (replicate n true))
 
     created-marks : (n : ℕ) → From 0 (created n) × (length (created n) ≡ n)
     unfolding createValidity
-    created-marks n = go (ltb 1 least)
+    created-marks n = go (ltb 1 minPeriods)
       where
         go : (u : Bool) → From 0 (Option·getD (cond u (some (ends-set n)) none) (replicate n true)) × (length (Option·getD (cond u (some (ends-set n)) none) (replicate n true)) ≡ n)
         go true =
             let r = length-replicate n true in
             let h = head-marks n 0 (replicate n true) (omega arith) (all-marks n) in
             let g = h .1 in
-            let e = tail-marks n (headSet rust least (offsets p) n 0 (replicate n true)) (omega arith) (h .0) in
+            let e = tail-marks n (headSet rust minPeriods (offsets p) n 0 (replicate n true)) (omega arith) (h .0) in
             (e .0, e .1 ∙ g ∙ r)
         go false = (all-marks n, length-replicate n true)
 
@@ -344,8 +344,8 @@ module _ (M : ReadingMoment) (rust : Rust) (neutral : Neutral M) (final : M .Sta
       counted-yes : (s e : ℕ) → counted t s e ≡ validCount t s e
       counted-yes s e = ap (λ (m : Bool). cond m (validCount t s e) (e - s)) yes
 
-      moves-yes : (k : ℕ) → moves has least k (S k) (E k) ≡ true
-      moves-yes k = ap (λ (m : Bool). m || (eqb k 0 || leb least (E k - S k))) yes
+      moves-yes : (k : ℕ) → moves has minPeriods k (S k) (E k) ≡ true
+      moves-yes k = ap (λ (m : Bool). m || (eqb k 0 || leb minPeriods (E k - S k))) yes
 
       -- what the k rows from i on leave of the marks l, with their values
       pub record Rolls (k i : ℕ) (l : List Bool) (a : Array) : Type 0 where
@@ -364,18 +364,18 @@ module _ (M : ReadingMoment) (rust : Rust) (neutral : Neutral M) (final : M .Sta
         unfolding accountAt
         ends-at = rw (moves-yes i) (refl, refl)
 
-        enough : isValid rust W′ least ≡ leb least (counted t (S i) (E i))
-        enough = valid-is (A (suc i)) W′ least whole′ ∙ rw (ends-at .0, ends-at .1, counted-yes (S i) (E i))
+        enough : isValid rust W′ minPeriods ≡ leb minPeriods (counted t (S i) (E i))
+        enough = valid-is (A (suc i)) W′ minPeriods whole′ ∙ rw (ends-at .0, ends-at .1, counted-yes (S i) (E i))
 
-        answer-is : answer i ≡ cond (isValid rust W′ least) (getMoment final W′) Missing
-        answer-is = go (leb least (counted t (S i) (E i))) refl
+        answer-is : answer i ≡ cond (isValid rust W′ minPeriods) (getMoment final W′) Missing
+        answer-is = go (leb minPeriods (counted t (S i) (E i))) refl
           where
-            go : (u : Bool) → leb least (counted t (S i) (E i)) ≡ u → answer i ≡ cond (isValid rust W′ least) (getMoment final W′) Missing
+            go : (u : Bool) → leb minPeriods (counted t (S i) (E i)) ≡ u → answer i ≡ cond (isValid rust W′ minPeriods) (getMoment final W′) Missing
             go true e = answer-yes i e ∙ sym (ap (λ (u : Bool). cond u (getMoment final W′) Missing) (enough ∙ e) ∙ moment-is (A (suc i)) W′ whole′)
             go false e = answer-no i e ∙ sym (ap (λ (u : Bool). cond u (getMoment final W′) Missing) (enough ∙ e))
 
         -- a row with enough valid places has kept its mark
-        marked : isValid rust W′ least ≡ true → getD l i false ≡ true
+        marked : isValid rust W′ minPeriods ≡ true → getD l i false ≡ true
         marked e = go (getD l i false) refl
           where
             go : (u : Bool) → getD l i false ≡ u → u ≡ true
@@ -383,20 +383,20 @@ module _ (M : ReadingMoment) (rust : Rust) (neutral : Neutral M) (final : M .Sta
             go false q =
                 let r = plan .row i (omega arith) in
                 let d = rust .minus-is (E i) (S i) (r .0) in
-                let s = ltb-true (rust .minus (E i) (S i)) least (f i (omega arith) (omega arith) q) in
-                let y = leb-true least (counted t (S i) (E i)) (sym enough ∙ e) in
+                let s = ltb-true (rust .minus (E i) (S i)) minPeriods (f i (omega arith) (omega arith) q) in
+                let y = leb-true minPeriods (counted t (S i) (E i)) (sym enough ∙ e) in
                 let n = rw (counted-yes (S i) (E i)) at y in
                 let o = both (validAt has map) (insertedAt xs) (E i - S i) (S i) in
                 absurd (omega arith)
 
         abbrev X : Float
-        X = matched rust i (getMoment final W′) (isValid rust W′ least) l .0
+        X = matched rust i (getMoment final W′) (isValid rust W′ minPeriods) l .0
 
         abbrev L′ : List Bool
-        L′ = matched rust i (getMoment final W′) (isValid rust W′ least) l .1
+        L′ = matched rust i (getMoment final W′) (isValid rust W′ minPeriods) l .1
 
-        marks : Matched i (getMoment final W′) (isValid rust W′ least) l X L′
-        marks = matched-is i (getMoment final W′) (isValid rust W′ least) l (omega arith)
+        marks : Matched i (getMoment final W′) (isValid rust W′ minPeriods) l X L′
+        marks = matched-is i (getMoment final W′) (isValid rust W′ minPeriods) l (omega arith)
 
         from′ : From (suc i) L′
         from′ j o q e =
@@ -419,12 +419,12 @@ module _ (M : ReadingMoment) (rust : Rust) (neutral : Neutral M) (final : M .Sta
       update-yes w k h = let r = plan .row k h in nulls-same M rust (validAt has map) xs bitmap bits w (S k) (E k) (omega arith) (r .1)
 
       abbrev array : ℕ → ℕ → MomentWindow M → List Bool → Array
-      array k i w l = outNulls M rust final xs bitmap least (offsets p) k i w l
+      array k i w l = outNulls M rust final xs bitmap minPeriods (offsets p) k i w l
 
       -- the rows after one, its window updated
       abbrev rest : ℕ → ℕ → List Bool → MomentWindow M → Array
       rest k i l w =
-          let m = matched rust i (getMoment final w) (isValid rust w least) l in
+          let m = matched rust i (getMoment final w) (isValid rust w minPeriods) l in
           let a = array k (suc i) w (m .1) in
           record { values = m .0 ∷ a .values; validity = a .validity }
 
@@ -438,7 +438,7 @@ module _ (M : ReadingMoment) (rust : Rust) (neutral : Neutral M) (final : M .Sta
           (rows-yes k (suc i) (W′ k i w l h g f d) (L′ k i w l h g f d) (omega arith) (marks k i w l h g f d .long ∙ g) (from′ k i w l h g f d)
           (λ q. before-suc i (W′ k i w l h g f d) (omega arith) (whole′ k i w l h g f d))))
 
-      pub rolled-yes : Rolls (rows p) 0 (created (rows p)) (rollingNulls M rust final xs bitmap least (offsets p) (rows p))
+      pub rolled-yes : Rolls (rows p) 0 (created (rows p)) (rollingNulls M rust final xs bitmap minPeriods (offsets p) (rows p))
       unfolding rollingNulls
       rolled-yes =
           let m = created-marks (rows p) in

@@ -118,14 +118,14 @@ module _ (M : ReadingMoment) (rust : Rust) (v : ℕ → Bool) (xs : List Float) 
     pub front-is : w .front ≡ tops M (entries v r i p)
     pub back-is : reverse (w .back) ≡ entries v r (max i p) e
     pub agg-is : w .aggBack ≡ rising (ofReadings M) (M .empty) (entries v r (max i p) e)
-    pub bad-is : w .nonFiniteCount ≡ length (entries b r i e)
+    pub nonfinite-is : w .nonFiniteCount ≡ length (entries b r i e)
     pub nulls-is : w .nullCount ≡ length (entries nv r i e)
 
   -- ---- a place leaves
   module _ (st en i e p : ℕ) (w : MomentWindow M) (held : Holds st en i e p w) (h : i < e) (k : p ≤ e) where
-    bad-less : v i ≡ true → rust .minus (w .nonFiniteCount) (boolByte (not (finite (getD xs i nan)))) ≡ length (entries b r (suc i) e)
-    bad-less q =
-        let f = held .bad-is in
+    nonfinite-less : v i ≡ true → rust .minus (w .nonFiniteCount) (boolByte (not (finite (getD xs i nan)))) ≡ length (entries b r (suc i) e)
+    nonfinite-less q =
+        let f = held .nonfinite-is in
         let g = less b r i e h (not (finite (getD xs i nan))) (rw q) in
         rust .minus-is (w .nonFiniteCount) (boolByte (not (finite (getD xs i nan)))) (omega arith) ∙ omega arith
 
@@ -145,7 +145,7 @@ module _ (M : ReadingMoment) (rust : Rust) (v : ℕ → Bool) (xs : List Float) 
           front-is = refl;
           back-is = rw m (held .back-is);
           agg-is = rw m (held .agg-is);
-          bad-is = bad-less q;
+          nonfinite-is = nonfinite-less q;
           nulls-is = null-less q;
         }
 
@@ -165,7 +165,7 @@ module _ (M : ReadingMoment) (rust : Rust) (v : ℕ → Bool) (xs : List Float) 
           front-is = ap popped g;
           back-is = rw (m, entries-self v r);
           agg-is = rw (m, entries-self v r);
-          bad-is = bad-less q;
+          nonfinite-is = nonfinite-less q;
           nulls-is = null-less q;
         }
 
@@ -181,7 +181,7 @@ module _ (M : ReadingMoment) (rust : Rust) (v : ℕ → Bool) (xs : List Float) 
 
         parts : entries v r (max i p) e ≡ entries v r (max (suc i) p) e → Holds st en (suc i) e p (setNullCount w (rust .minus (w .nullCount) 1))
         parts m =
-            let f = held .bad-is in
+            let f = held .nonfinite-is in
             let g = less b r i e h false (rw q) in
             let n = held .nulls-is in
             let o = less nv r i e h true (rw q) in
@@ -191,7 +191,7 @@ module _ (M : ReadingMoment) (rust : Rust) (v : ℕ → Bool) (xs : List Float) 
               front-is = held .front-is ∙ rw (miss p);
               back-is = held .back-is ∙ m;
               agg-is = held .agg-is ∙ rw m;
-              bad-is = omega arith;
+              nonfinite-is = omega arith;
               nulls-is = rust .minus-is (w .nullCount) 1 (omega arith) ∙ omega arith;
             }
 
@@ -234,7 +234,7 @@ module _ (M : ReadingMoment) (rust : Rust) (v : ℕ → Bool) (xs : List Float) 
         → Holds st en i (suc e) p (setNonFiniteCount (pushed w x) n)
     push-in x n q y z =
         let s = snoc true q in
-        let f = held .bad-is in
+        let f = held .nonfinite-is in
         let g = more b r i e h (not (finite (getD xs e nan))) (rw q) in
         let o = held .nulls-is in
         let c = more nv r i e h false (rw q) in
@@ -244,7 +244,7 @@ module _ (M : ReadingMoment) (rust : Rust) (v : ℕ → Bool) (xs : List Float) 
           front-is = held .front-is;
           back-is = reverse-cons x (w .back) ∙ rw (held .back-is, s, y);
           agg-is = rw (s, foldl-append, held .agg-is, y);
-          bad-is = omega arith;
+          nonfinite-is = omega arith;
           nulls-is = omega arith;
         }
 
@@ -255,12 +255,12 @@ module _ (M : ReadingMoment) (rust : Rust) (v : ℕ → Bool) (xs : List Float) 
         go : (t : Bool) → finite (getD xs e nan) ≡ t
             → Holds st en i (suc e) p (cond (finite (getD xs e nan)) (pushed w (getD xs e nan)) (setNonFiniteCount (pushed w zero64) (rust .plus (w .nonFiniteCount) 1)))
         go true f = rw f (push-in (getD xs e nan) (w .nonFiniteCount) q (rw f) (rw f (sym (add-zero _))))
-        go false f = rw f (push-in zero64 (rust .plus (w .nonFiniteCount) 1) q (rw f) (one-more b (w .nonFiniteCount) (held .bad-is) ∙ rw f))
+        go false f = rw f (push-in zero64 (rust .plus (w .nonFiniteCount) 1) q (rw f) (one-more b (w .nonFiniteCount) (held .nonfinite-is) ∙ rw f))
 
     push-null : v e ≡ false → Holds st en i (suc e) p (setNullCount w (rust .plus (w .nullCount) 1))
     push-null q =
         let s = snoc false q ∙ append-nil (entries v r (max i p) e) in
-        let f = held .bad-is in
+        let f = held .nonfinite-is in
         let g = more b r i e h false (rw q) in
         let o = held .nulls-is in
         let c = more nv r i e h true (rw q) in
@@ -270,7 +270,7 @@ module _ (M : ReadingMoment) (rust : Rust) (v : ℕ → Bool) (xs : List Float) 
           front-is = held .front-is;
           back-is = held .back-is ∙ sym s;
           agg-is = rw s (held .agg-is);
-          bad-is = omega arith;
+          nonfinite-is = omega arith;
           nulls-is = one-more nv (w .nullCount) (held .nulls-is) ∙ omega arith;
         }
 
@@ -308,7 +308,7 @@ module _ (M : ReadingMoment) (rust : Rust) (v : ℕ → Bool) (xs : List Float) 
         front-is = rw (entries-self v r);
         back-is = rw (m, entries-self v r);
         agg-is = rw (m, entries-self v r);
-        bad-is = rw (entries-self b r);
+        nonfinite-is = rw (entries-self b r);
         nulls-is = rw (entries-self nv r);
       }
 
@@ -406,7 +406,7 @@ module _ (M : ReadingMoment) (rust : Rust) (v : ℕ → Bool) (xs : List Float) 
             front-is = i .front-is;
             back-is = i .back-is;
             agg-is = i .agg-is;
-            bad-is = i .bad-is;
+            nonfinite-is = i .nonfinite-is;
             nulls-is = i .nulls-is;
           };
         }

@@ -13,12 +13,12 @@ use Rattle.moment.specs.Chunks.{chunks, chunksOf, inChunks}
 use Rattle.moment.specs.Arrays.{answer}
 use Rattle.window.specs.Places.{entriesFrom}
 use Rattle.window.specs.Window.{splitAfter, figureOf}
-use Rattle.window.specs.Readings.{insertedAt, badAt}
+use Rattle.window.specs.Readings.{insertedAt, nonfiniteAt}
 use Rattle.window.specs.Rows.{answerAt}
 use Rattle.window.specs.Refusals.{planRefusal}
 use Rattle.promises.specs.SourceRows.{rollingNoNulls, rollingNulls}
 use Rattle.promises.specs.Table.{every, cases}
 
 pub table : T (every cases)
-unfolding cases every ofBits toBits ofInt add sub mul div eq lt le zip zipWith root validAt bothAt validFrom refusal _orElse_ wrongMap varClear varCombine varFinalize pearsonNew pearsonCombine pearsonFinalize skewNew skewBiased skewFinalize kurtosisNew kurtosisBiased kurtosisFinalize chunks chunksOf inChunks answer entriesFrom splitAfter figureOf insertedAt badAt answerAt planRefusal rollingNoNulls rollingNulls
+unfolding cases every ofBits toBits ofInt add sub mul div eq lt le zip zipWith root validAt bothAt validFrom refusal _orElse_ wrongMap varClear varCombine varFinalize pearsonNew pearsonCombine pearsonFinalize skewNew skewBiased skewFinalize kurtosisNew kurtosisBiased kurtosisFinalize chunks chunksOf inChunks answer entriesFrom splitAfter figureOf insertedAt nonfiniteAt answerAt planRefusal rollingNoNulls rollingNulls
 table = tt

@@ -12,7 +12,7 @@ use Rattle.trace.specs.Refusals.{refusal, _orElse_, wrongMap}
 use Rattle.moment.specs.Var.{varClear, varCombine, varFinalize}
 use Rattle.window.specs.Places.{entriesFrom}
 use Rattle.window.specs.Window.{splitAfter, figureOf}
-use Rattle.window.specs.Readings.{insertedAt, badAt}
+use Rattle.window.specs.Readings.{insertedAt, nonfiniteAt}
 use Rattle.window.specs.Rows.{rows, rowStart, rowEnd, answerAt, table}
 use Rattle.window.specs.Refusals.{planRefusal, filled, kept}
 use Rattle.rolling.specs.Moments.{Variance}
@@ -31,7 +31,7 @@ fourLeft work figures present = lent figures present (table (λ i. zero64) work)
 
 -- P7, which keeps what stands in the place past the last row
 pub p7-accepted : AcceptedCall p7 trace7 (fourLeft 8 (two64 ∷ two64 ∷ zero64 ∷ one64 ∷ []) (1 ∷ 1 ∷ 0 ∷ 7 ∷ []))
-unfolding table refusal _orElse_ wrongMap planRefusal filled kept ofBits ofInt add sub mul div eq lt le varClear varCombine varFinalize entriesFrom splitAfter figureOf insertedAt badAt answerAt validAt
+unfolding table refusal _orElse_ wrongMap planRefusal filled kept ofBits ofInt add sub mul div eq lt le varClear varCombine varFinalize entriesFrom splitAfter figureOf insertedAt nonfiniteAt answerAt validAt
 p7-accepted =
     planCall {l₀ = fourLent 8}
     record { number-is = refl; written = record { figures-are = refl; present-are = refl; work-kept = refl } }
@@ -47,14 +47,14 @@ bytes8-are = refl
 
 -- P8, with a place past the readings that keeps what it holds
 pub p8-accepted : AcceptedCall p8 (decoded bytes8 false []) (fourLeft 8 (nan ∷ two64 ∷ one64 ∷ one64 ∷ []) (1 ∷ 1 ∷ 7 ∷ 7 ∷ []))
-unfolding table refusal _orElse_ wrongMap planRefusal filled kept ofBits ofInt add sub mul div eq lt le varClear varCombine varFinalize entriesFrom splitAfter figureOf insertedAt badAt answerAt validAt
+unfolding table refusal _orElse_ wrongMap planRefusal filled kept ofBits ofInt add sub mul div eq lt le varClear varCombine varFinalize entriesFrom splitAfter figureOf insertedAt nonfiniteAt answerAt validAt
 p8-accepted =
     hostCall {bytes = bytes8} {has = false} {map = []} {readings₀ = table (λ i. one64) 4} {readings = nan ∷ whole 4 ∷ whole 6 ∷ one64 ∷ []} {l₀ = fourLent 8}
     record { number-is = refl; readings-are = refl; written = record { figures-are = refl; present-are = refl; work-kept = refl } }
 
 -- P9 with minimum 2
 pub p9-accepted : AcceptedCall (p9 2) trace9 (fourLeft 12 (two64 ∷ one64 ∷ one64 ∷ one64 ∷ []) (1 ∷ 7 ∷ 7 ∷ 7 ∷ []))
-unfolding table refusal _orElse_ wrongMap planRefusal filled kept ofBits ofInt add sub mul div eq lt le varClear varCombine varFinalize entriesFrom splitAfter figureOf insertedAt badAt answerAt validAt
+unfolding table refusal _orElse_ wrongMap planRefusal filled kept ofBits ofInt add sub mul div eq lt le varClear varCombine varFinalize entriesFrom splitAfter figureOf insertedAt nonfiniteAt answerAt validAt
 p9-accepted =
     planCall {l₀ = fourLent 12}
     record { number-is = refl; written = record { figures-are = refl; present-are = refl; work-kept = refl } }
@@ -79,13 +79,13 @@ abbrev noMapLeft : Lent
 noMapLeft = fourLeft 12 (zero64 ∷ zero64 ∷ ofBits binary64 0x4002AAAAAAAAAAAA ∷ one64 ∷ []) (0 ∷ 0 ∷ 1 ∷ 7 ∷ [])
 
 ones-accepted : AcceptedCall shortRow ones onesLeft
-unfolding table refusal _orElse_ wrongMap planRefusal filled kept ofBits ofInt add sub mul div eq lt le varClear varCombine varFinalize entriesFrom splitAfter figureOf insertedAt badAt answerAt validAt
+unfolding table refusal _orElse_ wrongMap planRefusal filled kept ofBits ofInt add sub mul div eq lt le varClear varCombine varFinalize entriesFrom splitAfter figureOf insertedAt nonfiniteAt answerAt validAt
 ones-accepted =
     planCall {l₀ = fourLent 12}
     record { number-is = refl; written = record { figures-are = refl; present-are = refl; work-kept = refl } }
 
 no-map-accepted : AcceptedCall shortRow noMap noMapLeft
-unfolding table refusal _orElse_ wrongMap planRefusal filled kept ofBits ofInt add sub mul div eq lt le varClear varCombine varFinalize entriesFrom splitAfter figureOf insertedAt badAt answerAt validAt
+unfolding table refusal _orElse_ wrongMap planRefusal filled kept ofBits ofInt add sub mul div eq lt le varClear varCombine varFinalize entriesFrom splitAfter figureOf insertedAt nonfiniteAt answerAt validAt
 no-map-accepted =
     planCall {l₀ = fourLent 12}
     record { number-is = refl; written = record { figures-are = refl; present-are = refl; work-kept = refl } }

@@ -58,8 +58,8 @@ sourceRow rust q t k =
     let M = readingMomentOf (q .figure) in
     let bounds = offsets (q .plan) in
     cond (t .mapped)
-    (rowOf (rollingNulls M rust (finalOf (q .figure)) (t .readings) (bitmapOf t) (q .least) bounds (rows (q .plan))) k)
-    (getD (rollingNoNulls M rust (finalOf (q .figure)) (t .readings) (q .least) bounds (rows (q .plan))) k Missing)
+    (rowOf (rollingNulls M rust (finalOf (q .figure)) (t .readings) (bitmapOf t) (q .minPeriods) bounds (rows (q .plan))) k)
+    (getD (rollingNoNulls M rust (finalOf (q .figure)) (t .readings) (q .minPeriods) bounds (rows (q .plan))) k Missing)
 
 -- "every state and figure equals the Rust's", for windows: of every accepted call, every row's answer
 abbrev pub DemandTwo : Type 0
@@ -79,7 +79,7 @@ pub record Alike (t t′ : Trace) : Type 0 where
 
 -- whether row k of an asked plan moves the window of a trace
 abbrev pub movesAt : Ask → Trace → ℕ → Bool
-movesAt q t k = moves (t .mapped) (q .least) k (rowStart (q .plan) k) (rowEnd (q .plan) k)
+movesAt q t k = moves (t .mapped) (q .minPeriods) k (rowStart (q .plan) k) (rowEnd (q .plan) k)
 
 -- The same rows before row k move the window. The demand's sentence needs it because of Rows: with a map every row moves the window,
 -- but "Without one, a row shorter than the minimum .. doesn't move the window", so that a map of ones, which misses what no map
@@ -96,7 +96,7 @@ Agree t t′ s e = (i : ℕ) → s ≤ i → i < e → validOf t i ≡ true → 
 
 -- "the valid count is at most ddof or below the minimum"
 abbrev pub TooFew : Trace → ℕ → ℕ → ℕ → ℕ → Type 0
-TooFew t s e least ddof = (validCount (seriesOf t) s e ≤ ddof) ⊎ (validCount (seriesOf t) s e < least)
+TooFew t s e minPeriods ddof = (validCount (seriesOf t) s e ≤ ddof) ⊎ (validCount (seriesOf t) s e < minPeriods)
 
 -- a valid reading from s up to e is not finite
 abbrev pub SomeNotFinite : Trace → ℕ → ℕ → Type 0
@@ -105,9 +105,9 @@ SomeNotFinite t s e =
 
 -- A variance over the places from s up to e: "missing exactly when the valid count is at most ddof or below the minimum;
 -- otherwise NaN if a valid reading of the window is not finite, else NaN or at least zero"
-pub record VarianceRow (t : Trace) (s e least ddof : ℕ) (a : Answer) : Type 0 where
+pub record VarianceRow (t : Trace) (s e minPeriods ddof : ℕ) (a : Answer) : Type 0 where
   pub byte-is : (a .byte ≡ 0) ⊎ (a .byte ≡ 1)
-  pub missing : (a .byte ≡ 0) ↔ TooFew t s e least ddof
+  pub missing : (a .byte ≡ 0) ↔ TooFew t s e minPeriods ddof
   pub not-finite : a .byte ≡ 1 → SomeNotFinite t s e → a .double ≡ nan
   pub not-below : a .byte ≡ 1 → (isNan (a .double) ≡ true) ⊎ (le zero64 (a .double) ≡ true)
 
@@ -115,7 +115,7 @@ pub record VarianceRow (t : Trace) (s e least ddof : ℕ) (a : Answer) : Type 0 
 pub record Yielded (q : Ask) (t : Trace) (l : Lent) : Type 0 where
   pub account : (k : ℕ) → k < rows (q .plan) → answerIn l k ≡ ofFigure (yields q t k)
   pub variance : (ddof : ℕ) → ddof < 256 → q .figure ≡ Variance ddof → (k : ℕ) → k < rows (q .plan)
-      → VarianceRow t (rowStart (q .plan) k) (rowEnd (q .plan) k) (q .least) ddof (answerIn l k)
+      → VarianceRow t (rowStart (q .plan) k) (rowEnd (q .plan) k) (q .minPeriods) ddof (answerIn l k)
 
 -- What holds of two traces' answers with the same plan and setting: the same bits at every row in whose window both hold the same
 pub record Promised (q : Ask) (t t′ : Trace) (l l′ : Lent) : Type 0 where

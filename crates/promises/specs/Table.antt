@@ -92,7 +92,7 @@ abbrev pub trace8 : Trace
 trace8 = traceOf (nan ∷ whole 4 ∷ whole 6 ∷ []) false []
 
 abbrev pub p9 : ℕ → Ask
-p9 least = ask (0 ∷ []) (3 ∷ []) least (Variance 1)
+p9 minPeriods = ask (0 ∷ []) (3 ∷ []) minPeriods (Variance 1)
 
 abbrev pub trace9 : Trace
 trace9 = traceOf (whole 2 ∷ whole 7 ∷ whole 4 ∷ []) true (5 ∷ [])

@@ -26,7 +26,7 @@ pub record Trace : Type 0 where
 -- a plan and a setting: "the minimum that Rows tests and what the figure's `finalize` takes beside the state"
 pub record Ask : Type 0 where
   pub plan : Plan
-  pub least : ℕ
+  pub minPeriods : ℕ
   pub figure : Asked
 
 -- the lists that are lent, before or after a call
@@ -40,7 +40,7 @@ abbrev pub planOf : List ℕ → List ℕ → Plan
 planOf starts ends = record { starts = starts; ends = ends }
 
 abbrev pub ask : List ℕ → List ℕ → ℕ → Asked → Ask
-ask starts ends least figure = record { plan = planOf starts ends; least = least; figure = figure }
+ask starts ends minPeriods figure = record { plan = planOf starts ends; minPeriods = minPeriods; figure = figure }
 
 abbrev pub lent : List Float → List ℕ → List Float → Lent
 lent figures present work = record { figures = figures; present = present; work = work }
@@ -60,7 +60,7 @@ seriesOf t = series (t .mapped) (t .map) (t .readings)
 
 -- row k's answer: what the split account yields of the plan, the map, the readings, the figure and the setting, "nothing else"
 abbrev pub yields : Ask → Trace → ℕ → Figure
-yields q t k = answerAt (momentOf (q .figure)) (finalOf (q .figure)) (seriesOf t) (q .least) (q .plan) k
+yields q t k = answerAt (momentOf (q .figure)) (finalOf (q .figure)) (seriesOf t) (q .minPeriods) (q .plan) k
 
 -- What a call that answers `number` leaves. "Output is one double and one byte (1 present, 0 missing) a row"; "places past the last
 -- row keep their contents"; a refusal changes no buffer; of the work slice the part needed is the only freedom

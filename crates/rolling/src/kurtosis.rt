@@ -8,7 +8,7 @@ ghost use lib.ListN.{length, take, drop};
 ghost use Rattle.moment.specs.Kurtosis.{kurtosisEmpty, kurtosisCombine, kurtosisFinalize};
 ghost use Rattle.trace.specs.Trace.{validAt};
 ghost use Rattle.window.specs.Places.{validCount};
-ghost use Rattle.window.specs.Window.{restarted, left, entered, moved, spoilt};
+ghost use Rattle.window.specs.Window.{restarted, left, entered, moved, orNan};
 ghost use Rattle.window.specs.Readings.{series, ofReadings};
 ghost use Rattle.window.specs.Rows.{stepped};
 ghost use Rattle.window.specs.Stacks.{inMemory, frontStack, account, Counted, Leaves, Held, Pushed, topOf, answerBy, Movable, Moves, Accepted};
@@ -36,7 +36,7 @@ pub struct KurtosisWindow {
 // The back stack grown: how many readings stand in it, how many in the window are not finite, and its state.
 pub struct KurtosisPushed {
     pub back: usize,
-    pub bad: usize,
+    pub nonfinite: usize,
     pub agg_back: KurtosisState,
 }
 
@@ -83,16 +83,16 @@ impl KurtosisMoment {
         map: &[u8],
         a: usize,
         b: usize,
-        bad: usize,
+        nonfinite: usize,
         agg_back: KurtosisState,
     ) -> KurtosisPushed
-        requires { ⌜ (a ≤ b) × (b ≤ length (now values)) × (1 * (n + validCount (series «has_map» (now map) (now values)) a b) ≤ length (now back)) × (bad ≤ a) ⌝ }
-        ensures { λ q. ⌜ Pushed (ofReadings kurtosis) (series «has_map» (now (map .entry)) (now (values .entry))) (now (back .entry)) n bad «agg_back» a b
-            (now (back .exit)) (q .back) (q .bad) (q .«agg_back») ⌝ }
+        requires { ⌜ (a ≤ b) × (b ≤ length (now values)) × (1 * (n + validCount (series «has_map» (now map) (now values)) a b) ≤ length (now back)) × (nonfinite ≤ a) ⌝ }
+        ensures { λ q. ⌜ Pushed (ofReadings kurtosis) (series «has_map» (now (map .entry)) (now (values .entry))) (now (back .entry)) n nonfinite «agg_back» a b
+            (now (back .exit)) (q .back) (q .nonfinite) (q .«agg_back») ⌝ }
     {
         let mut state = agg_back;
         let mut at = n;
-        let mut count = bad;
+        let mut count = nonfinite;
         let mut i = a;
         while i < b {
             if trace::valid(has_map, map, i) {
@@ -111,7 +111,7 @@ impl KurtosisMoment {
         }
         KurtosisPushed {
             back: at,
-            bad: count,
+            nonfinite: count,
             agg_back: state,
         }
     }
@@ -148,12 +148,12 @@ impl KurtosisMoment {
                     split: start,
                     front: 0,
                     back: 0,
-                    bad: 0,
+                    nonfinite: 0,
                 },
                 flips: false,
             };
         }
-        let gone = leaving::gone(values, has_map, map, w.start, start, w.bad);
+        let gone = leaving::gone(values, has_map, map, w.start, start, w.nonfinite);
         if gone.valid <= w.front {
             return Left {
                 window: Window {
@@ -162,7 +162,7 @@ impl KurtosisMoment {
                     split: w.split,
                     front: w.front - gone.valid,
                     back: w.back,
-                    bad: w.bad - gone.bad,
+                    nonfinite: w.nonfinite - gone.nonfinite,
                 },
                 flips: false,
             };
@@ -174,7 +174,7 @@ impl KurtosisMoment {
                 split: end,
                 front: w.front + w.back - gone.valid,
                 back: 0,
-                bad: w.bad - gone.bad,
+                nonfinite: w.nonfinite - gone.nonfinite,
             },
             flips: true,
         }
@@ -243,7 +243,7 @@ impl KurtosisMoment {
             map,
             window.end,
             end,
-            window.bad,
+            window.nonfinite,
             agg_back,
         );
         let grown = pushed.agg_back;
@@ -254,7 +254,7 @@ impl KurtosisMoment {
                 split: window.split,
                 front: window.front,
                 back: pushed.back,
-                bad: pushed.bad,
+                nonfinite: pushed.nonfinite,
             },
             agg_back: grown,
         }
@@ -306,11 +306,11 @@ impl KurtosisMoment {
     // 001's `get_moment`.
     fn get_moment(self, work: &[f64], w: KurtosisWindow) -> Figure
         requires { ⌜ 5 * w .window .front ≤ length (now work) ⌝ }
-        ensures { λ r. ⌜ r ≡ spoilt (w .window .bad) (kurtosisFinalize (kurtosisCombine (w .«agg_back») (topOf (ofReadings kurtosis) (now (work .entry)) (w .window .front))) (self .fisher) (self .bias)) ⌝ }
+        ensures { λ r. ⌜ r ≡ orNan (w .window .nonfinite) (kurtosisFinalize (kurtosisCombine (w .«agg_back») (topOf (ofReadings kurtosis) (now (work .entry)) (w .window .front))) (self .fisher) (self .bias)) ⌝ }
     {
         let agg_back = w.agg_back;
         let state = agg_back.combine(KurtosisMoment::last(work, w.window.front));
-        window::spoil(state.finalize(self.fisher, self.bias), w.window.bad)
+        window::or_nan(state.finalize(self.fisher, self.bias), w.window.nonfinite)
     }
 
     // The row's answer, of the window after its step.
@@ -358,7 +358,7 @@ impl KurtosisMoment {
                 split: 0,
                 front: 0,
                 back: 0,
-                bad: 0,
+                nonfinite: 0,
             },
             agg_back: KurtosisMoment::empty(),
         };

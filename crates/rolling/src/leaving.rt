@@ -4,9 +4,9 @@ ghost use Prim.Native.Nat.{ℕ, _≤_, _<_};
 ghost use lib.ListN.{length};
 ghost use lib.Ieee.{Float};
 ghost use Rattle.trace.specs.Trace.{validAt};
-ghost use Rattle.window.specs.Places.{entries, badCount};
+ghost use Rattle.window.specs.Places.{entries, nonfiniteCount};
 ghost use Rattle.window.specs.Stacks.{Tallied};
-ghost use Rattle.window.specs.Readings.{series, badAt};
+ghost use Rattle.window.specs.Readings.{series, nonfiniteAt};
 use window::Window;
 
 // A window whose leaving places are gone, and whether the back stack goes to the front stack first.
@@ -18,12 +18,12 @@ pub struct Left {
 // How many places are valid, and how many of those hold a reading that is not finite.
 pub struct Tally {
     pub valid: usize,
-    pub bad: usize,
+    pub nonfinite: usize,
 }
 
-fn is_bad(values: &[f64], has_map: bool, map: &[u8], i: usize) -> bool
+fn is_nonfinite(values: &[f64], has_map: bool, map: &[u8], i: usize) -> bool
     requires { ⌜ i < length (now values) ⌝ }
-    ensures { λ r. ⌜ r ≡ badAt «has_map» (now (map .entry)) (now (values .entry)) i ⌝ }
+    ensures { λ r. ⌜ r ≡ nonfiniteAt «has_map» (now (map .entry)) (now (values .entry)) i ⌝ }
 {
     if trace::valid(has_map, map, i) {
         return !float::is_finite(values[i]);
@@ -33,17 +33,17 @@ fn is_bad(values: &[f64], has_map: bool, map: &[u8], i: usize) -> bool
 
 fn count(values: &[f64], has_map: bool, map: &[u8], a: usize, b: usize) -> Tally
     requires { ⌜ (a ≤ b) × (b ≤ length (now values)) ⌝ }
-    ensures { λ r. ⌜ Tallied (series «has_map» (now (map .entry)) (now (values .entry))) a b (r .valid) (r .bad) ⌝ }
+    ensures { λ r. ⌜ Tallied (series «has_map» (now (map .entry)) (now (values .entry))) a b (r .valid) (r .nonfinite) ⌝ }
 {
     let mut valid: usize = 0;
-    let mut bad: usize = 0;
+    let mut nonfinite: usize = 0;
     let mut i = a;
     while i < b {
         valid += trace::valid(has_map, map, i) as usize;
-        bad += is_bad(values, has_map, map, i) as usize;
+        nonfinite += is_nonfinite(values, has_map, map, i) as usize;
         i += 1;
     }
-    Tally { valid, bad }
+    Tally { valid, nonfinite }
 }
 
 fn count_valid(has_map: bool, map: &[u8], a: usize, b: usize) -> usize
@@ -59,7 +59,7 @@ fn count_valid(has_map: bool, map: &[u8], a: usize, b: usize) -> usize
     valid
 }
 
-// The tally of places that leave a window with so many bad readings. Without any, no reading is looked at; without a map,
+// The tally of places that leave a window with so many readings that are not finite. Without any, no reading is looked at; without a map,
 // nothing is.
 pub(crate) fn gone(
     values: &[f64],
@@ -67,22 +67,22 @@ pub(crate) fn gone(
     map: &[u8],
     a: usize,
     b: usize,
-    bad: usize,
+    nonfinite: usize,
 ) -> Tally
     requires { ⌜ (a ≤ b) × (b ≤ length (now values)) ⌝ }
-    requires { ⌜ (bad ≡ 0 → badCount (series «has_map» (now map) (now values)) a b ≡ 0) ⌝ }
-    ensures { λ r. ⌜ Tallied (series «has_map» (now (map .entry)) (now (values .entry))) a b (r .valid) (r .bad) ⌝ }
+    requires { ⌜ (nonfinite ≡ 0 → nonfiniteCount (series «has_map» (now map) (now values)) a b ≡ 0) ⌝ }
+    ensures { λ r. ⌜ Tallied (series «has_map» (now (map .entry)) (now (values .entry))) a b (r .valid) (r .nonfinite) ⌝ }
 {
-    if bad == 0 {
+    if nonfinite == 0 {
         if !has_map {
             return Tally {
                 valid: b - a,
-                bad: 0,
+                nonfinite: 0,
             };
         }
         return Tally {
             valid: count_valid(has_map, map, a, b),
-            bad: 0,
+            nonfinite: 0,
         };
     }
     count(values, has_map, map, a, b)

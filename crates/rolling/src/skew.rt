@@ -9,7 +9,7 @@ ghost use Rattle.float.specs.Operators.{count};
 ghost use Rattle.moment.specs.Skew.{skewEmpty, skewCombine, skewCorrection, skewFinalize};
 ghost use Rattle.trace.specs.Trace.{validAt};
 ghost use Rattle.window.specs.Places.{validCount};
-ghost use Rattle.window.specs.Window.{restarted, left, entered, moved, spoilt};
+ghost use Rattle.window.specs.Window.{restarted, left, entered, moved, orNan};
 ghost use Rattle.window.specs.Readings.{series, ofReadings};
 ghost use Rattle.window.specs.Rows.{stepped};
 ghost use Rattle.window.specs.Stacks.{inMemory, frontStack, account, Counted, Leaves, Held, Pushed, topOf, answerBy, Movable, Moves, Accepted};
@@ -37,7 +37,7 @@ pub struct SkewWindow {
 // The back stack grown: how many readings stand in it, how many in the window are not finite, and its state.
 pub struct SkewPushed {
     pub back: usize,
-    pub bad: usize,
+    pub nonfinite: usize,
     pub agg_back: SkewState,
 }
 
@@ -86,16 +86,16 @@ impl SkewMoment {
         map: &[u8],
         a: usize,
         b: usize,
-        bad: usize,
+        nonfinite: usize,
         agg_back: SkewState,
     ) -> SkewPushed
-        requires { ⌜ (a ≤ b) × (b ≤ length (now values)) × (1 * (n + validCount (series «has_map» (now map) (now values)) a b) ≤ length (now back)) × (bad ≤ a) ⌝ }
-        ensures { λ q. ⌜ Pushed (ofReadings skewness) (series «has_map» (now (map .entry)) (now (values .entry))) (now (back .entry)) n bad «agg_back» a b
-            (now (back .exit)) (q .back) (q .bad) (q .«agg_back») ⌝ }
+        requires { ⌜ (a ≤ b) × (b ≤ length (now values)) × (1 * (n + validCount (series «has_map» (now map) (now values)) a b) ≤ length (now back)) × (nonfinite ≤ a) ⌝ }
+        ensures { λ q. ⌜ Pushed (ofReadings skewness) (series «has_map» (now (map .entry)) (now (values .entry))) (now (back .entry)) n nonfinite «agg_back» a b
+            (now (back .exit)) (q .back) (q .nonfinite) (q .«agg_back») ⌝ }
     {
         let mut state = agg_back;
         let mut at = n;
-        let mut count = bad;
+        let mut count = nonfinite;
         let mut i = a;
         while i < b {
             if trace::valid(has_map, map, i) {
@@ -114,7 +114,7 @@ impl SkewMoment {
         }
         SkewPushed {
             back: at,
-            bad: count,
+            nonfinite: count,
             agg_back: state,
         }
     }
@@ -150,12 +150,12 @@ impl SkewMoment {
                     split: start,
                     front: 0,
                     back: 0,
-                    bad: 0,
+                    nonfinite: 0,
                 },
                 flips: false,
             };
         }
-        let gone = leaving::gone(values, has_map, map, w.start, start, w.bad);
+        let gone = leaving::gone(values, has_map, map, w.start, start, w.nonfinite);
         if gone.valid <= w.front {
             return Left {
                 window: Window {
@@ -164,7 +164,7 @@ impl SkewMoment {
                     split: w.split,
                     front: w.front - gone.valid,
                     back: w.back,
-                    bad: w.bad - gone.bad,
+                    nonfinite: w.nonfinite - gone.nonfinite,
                 },
                 flips: false,
             };
@@ -176,7 +176,7 @@ impl SkewMoment {
                 split: end,
                 front: w.front + w.back - gone.valid,
                 back: 0,
-                bad: w.bad - gone.bad,
+                nonfinite: w.nonfinite - gone.nonfinite,
             },
             flips: true,
         }
@@ -245,7 +245,7 @@ impl SkewMoment {
             map,
             window.end,
             end,
-            window.bad,
+            window.nonfinite,
             agg_back,
         );
         let grown = pushed.agg_back;
@@ -256,7 +256,7 @@ impl SkewMoment {
                 split: window.split,
                 front: window.front,
                 back: pushed.back,
-                bad: pushed.bad,
+                nonfinite: pushed.nonfinite,
             },
             agg_back: grown,
         }
@@ -333,13 +333,16 @@ impl SkewMoment {
         factors: &mut [f64],
     ) -> Figure
         requires { ⌜ Weighed (w .window) (w .«agg_back») (now work) (now counts) (now factors) ⌝ }
-        ensures { λ r. ⌜ (r ≡ spoilt (w .window .bad) (skewFinalize (skewCombine (w .«agg_back») (topOf (ofReadings skewness) (now (work .entry)) (w .window .front))) (self .bias)))
+        ensures { λ r. ⌜ (r ≡ orNan (w .window .nonfinite) (skewFinalize (skewCombine (w .«agg_back») (topOf (ofReadings skewness) (now (work .entry)) (w .window .front))) (self .bias)))
             × Corrections (now (counts .exit)) (now (factors .exit)) ⌝ }
     {
         let agg_back = w.agg_back;
         let state = agg_back.combine(SkewMoment::last(work, w.window.front));
         let correction = self.correction(counts, factors, w.window.front + w.window.back);
-        window::spoil(state.finalize_with(self.bias, correction), w.window.bad)
+        window::or_nan(
+            state.finalize_with(self.bias, correction),
+            w.window.nonfinite,
+        )
     }
 
     // The row's answer, of the window after its step.
@@ -390,7 +393,7 @@ impl SkewMoment {
                 split: 0,
                 front: 0,
                 back: 0,
-                bad: 0,
+                nonfinite: 0,
             },
             agg_back: SkewMoment::empty(),
         };

@@ -12,7 +12,7 @@ use lib.Dec.{leb, ltb, eqb}
 use lib.ListN.{length, take, drop, length-append, length-drop, length-take, drop-of-length-le, take-append-drop}
 use lib.Seq.{take-all, take-add, drop-drop, drop-append-add, take-take, take-append-le, take-at, drop-at}
 use lib.Ieee.{Float}
-use Rattle.window.specs.Places.{Series, entries, validCount, badCount}
+use Rattle.window.specs.Places.{Series, entries, validCount, nonfiniteCount}
 use Rattle.window.specs.Window.{Account, Moment, restarted, left, front, back, rising}
 use Rattle.window.specs.Stacks.{inMemory, frontStack, account, Counted, Leaves, Held, Pushed, Moves}
 use Rattle.window.specs.declared.Window.{Window}
@@ -21,7 +21,7 @@ use Rattle.window.proofs.Stacks.{memory-length, memory-append, front-le
 
 -- ---- places leave: the numbers
 module _ {A : Type 0} (t : Series A) (w : Window) (s : ℕ) where
-  pub leave-reset : w .end ≤ s → Leaves t w s (record { start = s; end = s; split = s; front = 0; back = 0; bad = 0 }) false
+  pub leave-reset : w .end ≤ s → Leaves t w s (record { start = s; end = s; split = s; front = 0; back = 0; nonfinite = 0 }) false
   leave-reset h =
       let m : max s s ≡ s = omega arith in
       record {
@@ -31,37 +31,37 @@ module _ {A : Type 0} (t : Series A) (w : Window) (s : ℕ) where
           split-le = omega arith;
           front-is = rw (entries-self (t .valid) (t .entry));
           back-is = rw (m, entries-self (t .valid) (t .entry));
-          bad-is = rw (entries-self (t .bad) (t .entry));
+          nonfinite-is = rw (entries-self (t .nonfinite) (t .entry));
         };
         flips-is = rw (le-leb (w .end) s h);
       }
 
   module _ (c : Counted t w) (h : w .start ≤ s) (g : s < w .end) where
-    -- a window that holds nothing bad loses nothing bad
-    pub leave-none : w .bad ≡ 0 → badCount t (w .start) s ≡ 0
-    leave-none z = none-part (t .bad) (t .entry) (w .start) s (w .end) h (omega arith) (sym (c .bad-is) ∙ z)
+    -- a window that holds only what is finite loses nothing else
+    pub leave-none : w .nonfinite ≡ 0 → nonfiniteCount t (w .start) s ≡ 0
+    leave-none z = none-part (t .nonfinite) (t .entry) (w .start) s (w .end) h (omega arith) (sym (c .nonfinite-is) ∙ z)
 
-    -- by the numbers n and m of valid and of bad places that leave
-    module _ (n m : ℕ) (n-is : n ≡ validCount t (w .start) s) (m-is : m ≡ badCount t (w .start) s) where
-      pub leave-fits : (n ≤ w .front + w .back) × (m ≤ w .bad) × (w .front + w .back ≤ w .end)
+    -- by the numbers n and m of places that leave, valid and not finite
+    module _ (n m : ℕ) (n-is : n ≡ validCount t (w .start) s) (m-is : m ≡ nonfiniteCount t (w .start) s) where
+      pub leave-fits : (n ≤ w .front + w .back) × (m ≤ w .nonfinite) × (w .front + w .back ≤ w .end)
       leave-fits =
           let f = c .front-is in
           let k = c .back-is in
-          let e = c .bad-is in
+          let e = c .nonfinite-is in
           let u = two-counts (t .valid) (t .entry) (w .start) (w .split) (w .end) (c .start-le) (c .split-le) in
           let p = count-up (t .valid) (t .entry) (w .start) s (w .end) h (omega arith) in
-          let q = count-up (t .bad) (t .entry) (w .start) s (w .end) h (omega arith) in
+          let q = count-up (t .nonfinite) (t .entry) (w .start) s (w .end) h (omega arith) in
           let o = count-le (t .valid) (t .entry) (w .start) (w .end) in
           (omega arith, omega arith, omega arith)
 
-      bad-left : w .bad - m ≡ badCount t s (w .end)
-      bad-left =
-          let e = c .bad-is in
-          let k = simp length-append at (ap length (entries-split (t .bad) (t .entry) (w .start) s (w .end) h (omega arith))) in
+      nonfinite-left : w .nonfinite - m ≡ nonfiniteCount t s (w .end)
+      nonfinite-left =
+          let e = c .nonfinite-is in
+          let k = simp length-append at (ap length (entries-split (t .nonfinite) (t .entry) (w .start) s (w .end) h (omega arith))) in
           omega arith
 
       pub leave-stay : n ≤ w .front →
-          Leaves t w s (record { start = s; end = w .end; split = w .split; front = w .front - n; back = w .back; bad = w .bad - m }) false
+          Leaves t w s (record { start = s; end = w .end; split = w .split; front = w .front - n; back = w .back; nonfinite = w .nonfinite - m }) false
       leave-stay o =
           let l : s ≤ w .end = omega arith in
           let f = c .front-is in
@@ -75,13 +75,13 @@ module _ {A : Type 0} (t : Series A) (w : Window) (s : ℕ) where
               split-le = c .split-le;
               front-is = rw (n-is, stay-front (t .valid) (t .entry) (w .start) (w .end) (w .split) s h l (c .split-le) o′, length-drop, c .front-is);
               back-is = rw (stay-back (t .valid) (t .entry) (w .start) (w .end) (w .split) s h l (c .split-le) o′) (c .back-is);
-              bad-is = bad-left;
+              nonfinite-is = nonfinite-left;
             };
             flips-is = rw (lt-leb (w .end) s g, le-ltb (w .front) (validCount t (w .start) s) o″);
           }
 
       pub leave-flip : w .front < n →
-          Leaves t w s (record { start = s; end = w .end; split = w .end; front = w .front + w .back - n; back = 0; bad = w .bad - m }) true
+          Leaves t w s (record { start = s; end = w .end; split = w .end; front = w .front + w .back - n; back = 0; nonfinite = w .nonfinite - m }) true
       leave-flip o =
           let l : s ≤ w .end = omega arith in
           let f = c .front-is in
@@ -97,7 +97,7 @@ module _ {A : Type 0} (t : Series A) (w : Window) (s : ℕ) where
               split-le = omega arith;
               front-is = rw (flip-front (t .valid) (t .entry) (w .start) (w .end) (w .split) s h l (c .split-le) o′, length-drop) (omega arith);
               back-is = rw (m, entries-self (t .valid) (t .entry));
-              bad-is = bad-left;
+              nonfinite-is = nonfinite-left;
             };
             flips-is = rw (lt-leb (w .end) s g, lt-ltb (w .front) (validCount t (w .start) s) o″);
           }
@@ -266,7 +266,7 @@ module _ (M : Moment) (t : Series (M .Entry)) (base e : ℕ) (w : Window) (agg :
       entries-split (t .valid) (t .entry) (max (w .start) (w .split)) (w .end) e (omega arith) h
 
   -- neither stack holds more than the window is wide
-  in-counts : (w .back + length R ≤ e - w .start) × (w .front ≤ w .end - w .start) × (w .bad ≤ w .end)
+  in-counts : (w .back + length R ≤ e - w .start) × (w .front ≤ w .end - w .start) × (w .nonfinite ≤ w .end)
   in-counts =
       let c = held .numbers in
       let s = c .start-le in
@@ -278,8 +278,8 @@ module _ (M : Moment) (t : Series (M .Entry)) (base e : ℕ) (w : Window) (agg :
       let u = two-counts (t .valid) (t .entry) (w .start) (w .split) (w .end) s p in
       let n = count-le (t .valid) (t .entry) (w .start) e in
       let o = count-le (t .valid) (t .entry) (w .start) (w .end) in
-      let x = c .bad-is in
-      let y = count-le (t .bad) (t .entry) (w .start) (w .end) in
+      let x = c .nonfinite-is in
+      let y = count-le (t .nonfinite) (t .entry) (w .start) (w .end) in
       (omega arith, omega arith, omega arith)
 
   module _ (room : M .inFront .width * w .front ≤ base) (fits : base + M .inBack .width * w .back + length New ≤ length work) where
@@ -306,8 +306,8 @@ module _ (M : Moment) (t : Series (M .Entry)) (base e : ℕ) (w : Window) (agg :
         let u : base + M .inBack .width * w .back + length New + (d - (base + M .inBack .width * w .back + length New)) ≡ d = omega arith in
         ap (λ (z : ℕ). drop z Grown) i ∙ rw (drop-append-add, drop-drop, u)
 
-    held-in : (n m : ℕ) → n ≡ w .back + length R → m ≡ w .bad + badCount t (w .end) e →
-        Held M t base (record { start = w .start; end = e; split = w .split; front = w .front; back = n; bad = m }) (rising M agg R) Grown
+    held-in : (n m : ℕ) → n ≡ w .back + length R → m ≡ w .nonfinite + nonfiniteCount t (w .end) e →
+        Held M t base (record { start = w .start; end = e; split = w .split; front = w .front; back = n; nonfinite = m }) (rising M agg R) Grown
     held-in n m hn hm =
         let c = held .numbers in
         let s = c .start-le in
@@ -322,7 +322,7 @@ module _ (M : Moment) (t : Series (M .Entry)) (base e : ℕ) (w : Window) (agg :
             split-le = omega arith;
             front-is = c .front-is;
             back-is = rw back-grows k;
-            bad-is = rw (hm, entries-split (t .bad) (t .entry) (w .start) (w .end) e s h, length-append) (ap (λ (z : ℕ). z + badCount t (w .end) e) (c .bad-is));
+            nonfinite-is = rw (hm, entries-split (t .nonfinite) (t .entry) (w .start) (w .end) e s h, length-append) (ap (λ (z : ℕ). z + nonfiniteCount t (w .end) e) (c .nonfinite-is));
           };
           agg-is = rw (back-grows, foldl-append) (ap (λ (z : M .State). rising M z R) (held .agg-is));
           front-at = ap (take (M .inFront .width * w .front)) parts
@@ -333,8 +333,8 @@ module _ (M : Moment) (t : Series (M .Entry)) (base e : ℕ) (w : Window) (agg :
         }
 
   module _ (widest : ℕ) (a : e ≤ w .start + widest) (c : M .inFront .width * widest ≤ base) (d : base + M .inBack .width * widest ≤ length work) where
-    -- what enters is within the back stack's room, and no more is bad than places lie before the end
-    pub in-fits : (M .inBack .width * (w .back + length R) ≤ length (take (length work - base) (drop base work))) × (w .bad ≤ w .end)
+    -- what enters is within the back stack's room, and no more is not finite than places lie before the end
+    pub in-fits : (M .inBack .width * (w .back + length R) ≤ length (take (length work - base) (drop base work))) × (w .nonfinite ≤ w .end)
     in-fits =
         let i = in-counts in
         let o : w .back + length R ≤ widest = omega arith in
@@ -343,8 +343,8 @@ module _ (M : Moment) (t : Series (M .Entry)) (base e : ℕ) (w : Window) (agg :
 
     -- what the code leaves: the part ys that it was lent, put back, and what it answered
     pub in-pushed : (ys : List Float) (n m : ℕ) (grown : M .State) →
-        Pushed M t (take (length work - base) (drop base work)) (w .back) (w .bad) agg (w .end) e ys n m grown →
-        Held M t base (record { start = w .start; end = e; split = w .split; front = w .front; back = n; bad = m }) grown (putMid base (length work - base) work ys)
+        Pushed M t (take (length work - base) (drop base work)) (w .back) (w .nonfinite) agg (w .end) e ys n m grown →
+        Held M t base (record { start = w .start; end = e; split = w .split; front = w .front; back = n; nonfinite = m }) grown (putMid base (length work - base) work ys)
         × (drop (base + M .inBack .width * widest) (putMid base (length work - base) work ys) ≡ drop (base + M .inBack .width * widest) work)
     in-pushed ys n m grown p =
         let i = in-counts in
@@ -357,19 +357,19 @@ module _ (M : Moment) (t : Series (M .Entry)) (base e : ℕ) (w : Window) (agg :
         let u : base + M .inBack .width * w .back + length New ≤ base + M .inBack .width * widest = omega arith in
         let y = rw x at (p .list-is) in
         let l : putMid base (length work - base) work ys ≡ Grown o q = put-append work New base (M .inBack .width * w .back) ys (omega arith) y in
-        rw (l, p .agg-is) (held-in o q n m (p .many-is) (p .bad-is), in-rest o q (base + M .inBack .width * widest) u)
+        rw (l, p .agg-is) (held-in o q n m (p .many-is) (p .nonfinite-is), in-rest o q (base + M .inBack .width * widest) u)
 
 -- ---- a whole move
 pub held-counts : (M : Moment) (t : Series (M .Entry)) (base : ℕ) (w : Window) (agg : M .State) (work : List Float) → Held M t base w agg work →
-    (w .front + w .back ≤ w .end - w .start) × (w .bad ≤ w .end - w .start)
+    (w .front + w .back ≤ w .end - w .start) × (w .nonfinite ≤ w .end - w .start)
 held-counts M t base w agg work held =
     let c = held .numbers in
     let f = c .front-is in
     let k = c .back-is in
-    let x = c .bad-is in
+    let x = c .nonfinite-is in
     let u = two-counts (t .valid) (t .entry) (w .start) (w .split) (w .end) (c .start-le) (c .split-le) in
     let n = count-le (t .valid) (t .entry) (w .start) (w .end) in
-    let z = count-le (t .bad) (t .entry) (w .start) (w .end) in
+    let z = count-le (t .nonfinite) (t .entry) (w .start) (w .end) in
     (omega arith, omega arith)
 
 -- the ends of a window whose leaving places are gone

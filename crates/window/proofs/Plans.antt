@@ -13,7 +13,7 @@ use lib.ListN.{length, getD}
 use Rattle.trace.specs.Refusals.{refusal, _orElse_, arrayRefusal}
 use Rattle.trace.proofs.Accepted.{none-of, not-refused}
 use Rattle.window.specs.Rows.{Plan, rows, rowStart, rowEnd}
-use Rattle.window.specs.Refusals.{badLists, rowRefusal, before, rowsRefusal, widest, planRefusal}
+use Rattle.window.specs.Refusals.{wrongLists, rowRefusal, before, rowsRefusal, widest, planRefusal}
 use Rattle.window.specs.Stacks.{Planned, Accepted}
 use Rattle.window.proofs.Places.{Or, here, there, order}
 
@@ -167,7 +167,7 @@ pub both-same : {a b x y : ℕ} → a ≡ x → b ≡ y → a orElse b ≡ x orE
 both-same e f = rw (e, f)
 
 module _ (each n : ℕ) (has : Bool) (map : List ℕ) (p : Plan) (short : Bool) (figures present work first : ℕ)
-    (first-is : first ≡ arrayRefusal n has map orElse refusal 4 (badLists p)) where
+    (first-is : first ≡ arrayRefusal n has map orElse refusal 4 (wrongLists p)) where
   abbrev Number : ℕ
   Number = planRefusal each n has map p short figures present work
 

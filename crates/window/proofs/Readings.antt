@@ -15,11 +15,11 @@ use Rattle.float.specs.Operators.{zero64}
 use Rattle.trace.specs.Trace.{validAt}
 use Rattle.window.specs.Places.{Series, validCount}
 use Rattle.window.specs.Window.{back}
-use Rattle.window.specs.Readings.{reading, series, ReadingMoment, ofReadings, readingOf, insertedAt, badAt}
+use Rattle.window.specs.Readings.{reading, series, ReadingMoment, ofReadings, readingOf, insertedAt, nonfiniteAt}
 use Rattle.window.specs.Stacks.{inMemory, frontStack, account, Leaves, Held, Pushed}
 use Rattle.window.specs.declared.Window.{Window}
 use Rattle.window.proofs.Moves.{out-flipped}
-use Rattle.window.proofs.Stacks.{Flip, flip-start, flip-turn, flip-done, Push, push-start, push-room, push-bad-le, push-hit, push-miss, push-done}
+use Rattle.window.proofs.Stacks.{Flip, flip-start, flip-turn, flip-done, Push, push-start, push-room, push-nonfinite-le, push-hit, push-miss, push-done}
 
 -- readings in memory are themselves
 pub flat : (l : List Float) → inMemory reading l ≡ l
@@ -70,43 +70,43 @@ flipped-out m t base s w w' flips agg work held gone h room fits z work' f agg' 
     out-flipped (ofReadings m) t base s w w' flips agg work held gone h room i z work' (rw b at f) agg' e
 
 -- ---- readings pushed
-module _ (m : ReadingMoment) (has : Bool) (map : List ℕ) (values l₀ : List Float) (n bad₀ : ℕ) (s₀ : m .State) (a e : ℕ) where
+module _ (m : ReadingMoment) (has : Bool) (map : List ℕ) (values l₀ : List Float) (n nonfinite₀ : ℕ) (s₀ : m .State) (a e : ℕ) where
   abbrev pub Pushing : List Float → ℕ → ℕ → m .State → ℕ → Type 0
-  Pushing l at bad s i = Push (ofReadings m) (series has map values) l₀ n bad₀ s₀ a e l at bad s i
+  Pushing l at nonfinite s i = Push (ofReadings m) (series has map values) l₀ n nonfinite₀ s₀ a e l at nonfinite s i
 
-  pub pushing-start : a ≤ e → Pushing l₀ n bad₀ s₀ a
-  pushing-start h = push-start (ofReadings m) (series has map values) l₀ n bad₀ s₀ a e h
+  pub pushing-start : a ≤ e → Pushing l₀ n nonfinite₀ s₀ a
+  pushing-start h = push-start (ofReadings m) (series has map values) l₀ n nonfinite₀ s₀ a e h
 
-  module _ {l : List Float} {at bad : ℕ} {s : m .State} {i : ℕ} (p : Pushing l at bad s i) (more : i < e)
+  module _ {l : List Float} {at nonfinite : ℕ} {s : m .State} {i : ℕ} (p : Pushing l at nonfinite s i) (more : i < e)
       (room : 1 * (n + validCount (series has map values) a e) ≤ length l₀) where
     pub pushing-room : validAt has map i ≡ true → at < length l
     pushing-room v =
-        let h = push-room (ofReadings m) (series has map values) l₀ n bad₀ s₀ a e p more room v in
+        let h = push-room (ofReadings m) (series has map values) l₀ n nonfinite₀ s₀ a e p more room v in
         omega arith
 
-    pub pushing-bad : bad ≤ bad₀ + (i - a)
-    pushing-bad = push-bad-le (ofReadings m) (series has map values) l₀ n bad₀ s₀ a e p more room
+    pub pushing-nonfinite : nonfinite ≤ nonfinite₀ + (i - a)
+    pushing-nonfinite = push-nonfinite-le (ofReadings m) (series has map values) l₀ n nonfinite₀ s₀ a e p more room
 
     hit : validAt has map i ≡ true → (x : Float) → x ≡ insertedAt values i → (u : m .State) → u ≡ m .insert s x → (b : Bool) → finite (readingOf values i) ≡ b →
-        (k : ℕ) → k ≡ bad + boolByte (not b) → Pushing (set l at x) (at + 1) k u (i + 1)
-    unfolding badAt
+        (k : ℕ) → k ≡ nonfinite + boolByte (not b) → Pushing (set l at x) (at + 1) k u (i + 1)
+    unfolding nonfiniteAt
     hit v x f u g b c k d =
-        push-hit (ofReadings m) (series has map values) l₀ n bad₀ s₀ a e p more room v at (sym (one-mul at)) x f u g (not b) (rw (v, c)) k d
+        push-hit (ofReadings m) (series has map values) l₀ n nonfinite₀ s₀ a e p more room v at (sym (one-mul at)) x f u g (not b) (rw (v, c)) k d
 
     pub pushing-finite : validAt has map i ≡ true → finite (readingOf values i) ≡ true → (u : m .State) → u ≡ m .insert s (readingOf values i) →
-        Pushing (set l at (readingOf values i)) (at + 1) bad u (i + 1)
+        Pushing (set l at (readingOf values i)) (at + 1) nonfinite u (i + 1)
     unfolding insertedAt
-    pushing-finite v f u g = hit v (readingOf values i) (rw f) u g true f bad (sym (add-zero bad))
+    pushing-finite v f u g = hit v (readingOf values i) (rw f) u g true f nonfinite (sym (add-zero nonfinite))
 
     pub pushing-zero : validAt has map i ≡ true → finite (readingOf values i) ≡ false → (u : m .State) → u ≡ m .insert s zero64 →
-        Pushing (set l at zero64) (at + 1) (bad + 1) u (i + 1)
+        Pushing (set l at zero64) (at + 1) (nonfinite + 1) u (i + 1)
     unfolding insertedAt
-    pushing-zero v f u g = hit v zero64 (rw f) u g false f (bad + 1) refl
+    pushing-zero v f u g = hit v zero64 (rw f) u g false f (nonfinite + 1) refl
 
-    pub pushing-missing : validAt has map i ≡ false → Pushing l at bad s (i + 1)
-    unfolding badAt
-    pushing-missing v = push-miss (ofReadings m) (series has map values) l₀ n bad₀ s₀ a e p more room v (rw v)
+    pub pushing-missing : validAt has map i ≡ false → Pushing l at nonfinite s (i + 1)
+    unfolding nonfiniteAt
+    pushing-missing v = push-miss (ofReadings m) (series has map values) l₀ n nonfinite₀ s₀ a e p more room v (rw v)
 
-  pub pushing-done : {l : List Float} {at bad : ℕ} {s : m .State} {i : ℕ} → Pushing l at bad s i → e ≤ i →
-      Pushed (ofReadings m) (series has map values) l₀ n bad₀ s₀ a e l at bad s
-  pushing-done p h = push-done (ofReadings m) (series has map values) l₀ n bad₀ s₀ a e p h
+  pub pushing-done : {l : List Float} {at nonfinite : ℕ} {s : m .State} {i : ℕ} → Pushing l at nonfinite s i → e ≤ i →
+      Pushed (ofReadings m) (series has map values) l₀ n nonfinite₀ s₀ a e l at nonfinite s
+  pushing-done p h = push-done (ofReadings m) (series has map values) l₀ n nonfinite₀ s₀ a e p h

@@ -16,7 +16,7 @@ use Rattle.moment.specs.Figure.{doubleOf, byteOf}
 use Rattle.moment.specs.declared.Figure.{Figure}
 use Rattle.moment.specs.declared.Figure.the-variants.{Missing}
 use Rattle.window.specs.Places.{Series, validCount}
-use Rattle.window.specs.Window.{Account, Moment, front, moved, falling, spoilt, figureOf}
+use Rattle.window.specs.Window.{Account, Moment, front, moved, falling, orNan, figureOf}
 use Rattle.window.specs.Rows.{Plan, rows, rowStart, rowEnd, moves, stepped, accountAt, counted, answerOf, answerAt, table}
 use Rattle.window.specs.Stacks.{inMemory, frontStack, account, Held, topOf, answerBy, Ready, Planned}
 use Rattle.window.specs.declared.Window.{Window}
@@ -52,12 +52,12 @@ module _ (M : Moment) where
         ap (λ (y : List Float). topOf M y (w .front)) p
         ∙ rw (held .numbers .front-is) (top-of (front t (account w)) (drop (M .inFront .width * length (front t (account w))) work))
 
-    pub figure-is : spoilt (w .bad) (final (M .combine agg (topOf M work (w .front)))) ≡ figureOf M final t (account w)
+    pub figure-is : orNan (w .nonfinite) (final (M .combine agg (topOf M work (w .front)))) ≡ figureOf M final t (account w)
     unfolding figureOf
-    figure-is = rw (top-is, held .numbers .bad-is, held .agg-is)
+    figure-is = rw (top-is, held .numbers .nonfinite-is, held .agg-is)
 
     -- the answer, by the window's numbers
-    module _ (least s e : ℕ) (h : t .mapped ≡ true → (w .start ≡ s) × (w .end ≡ e)) where
+    module _ (minPeriods s e : ℕ) (h : t .mapped ≡ true → (w .start ≡ s) × (w .end ≡ e)) where
       counted-is : cond (t .mapped) (w .front + w .back) (e - s) ≡ counted t s e
       counted-is = go (t .mapped) h
         where
@@ -67,21 +67,21 @@ module _ (M : Moment) where
               let c = held .numbers in
               rw (← g refl .0, ← g refl .1, c .front-is, c .back-is) (two-counts (t .valid) (t .entry) (w .start) (w .split) (w .end) (c .start-le) (c .split-le))
 
-      pub answer-is : answerBy M final (t .mapped) least s e w agg work ≡ answerOf M final t least s e (account w)
+      pub answer-is : answerBy M final (t .mapped) minPeriods s e w agg work ≡ answerOf M final t minPeriods s e (account w)
       unfolding answerOf
       answer-is = rw (counted-is, figure-is)
 
 -- ---- the rows of a plan: the turns of the loop
-module _ (M : Moment) (final : M .State → Figure) (t : Series (M .Entry)) (least n widest : ℕ) (p : Plan) where
+module _ (M : Moment) (final : M .State → Figure) (t : Series (M .Entry)) (minPeriods n widest : ℕ) (p : Plan) where
   abbrev Answer : ℕ → Figure
-  Answer k = answerAt M final t least p k
+  Answer k = answerAt M final t minPeriods p k
 
   -- before row k: w, agg and work are the window, out and pr the outputs; work₀, out₀ and pr₀ are where the loop began, and of the
   -- work slice the first `need` doubles are its own
   pub record Row (work₀ out₀ : List Float) (pr₀ : List ℕ) (need : ℕ) (work out : List Float) (pr : List ℕ) (w : Window) (agg : M .State) (k : ℕ) : Type 0 where
     pub upto : k ≤ rows p
     pub held : Held M t (M .inFront .width * widest) w agg work
-    pub at : account w ≡ accountAt (t .valid) (t .mapped) least p k
+    pub at : account w ≡ accountAt (t .valid) (t .mapped) minPeriods p k
     pub wide : w .end ≤ w .start + widest
     pub inside : w .end ≤ n
     pub ahead : (j : ℕ) → k ≤ j → j < rows p → (w .start ≤ rowStart p j) × (w .end ≤ rowEnd p j)
@@ -93,15 +93,15 @@ module _ (M : Moment) (final : M .State → Figure) (t : Series (M .Entry)) (lea
     pub pr-is : pr ≡ table (λ j. byteOf (Answer j)) k ++ drop k pr₀
 
   pub row-start : (work₀ out₀ : List Float) (pr₀ : List ℕ) (need : ℕ) (agg : M .State) → agg ≡ M .empty →
-      Row work₀ out₀ pr₀ need work₀ out₀ pr₀ (record { start = 0; end = 0; split = 0; front = 0; back = 0; bad = 0 }) agg 0
+      Row work₀ out₀ pr₀ need work₀ out₀ pr₀ (record { start = 0; end = 0; split = 0; front = 0; back = 0; nonfinite = 0 }) agg 0
   unfolding table accountAt inMemory frontStack
   row-start work₀ out₀ pr₀ need agg e =
       let z = entries-self (t .valid) (t .entry) 0 in
-      let y = entries-self (t .bad) (t .entry) 0 in
+      let y = entries-self (t .nonfinite) (t .entry) 0 in
       record {
         upto = omega arith;
         held = record {
-          numbers = record { start-le = omega arith; split-le = omega arith; front-is = rw z; back-is = rw z; bad-is = rw y };
+          numbers = record { start-le = omega arith; split-le = omega arith; front-is = rw z; back-is = rw z; nonfinite-is = rw y };
           agg-is = rw z e;
           front-at = rw (mul-zero, z);
           back-at = rw (mul-zero, z);
@@ -137,13 +137,13 @@ module _ (M : Moment) (final : M .State → Figure) (t : Series (M .Entry)) (lea
 
     -- the account after the row's step
     abbrev Moved : Window → ℕ → ℕ → Type 0
-    Moved w' x y = account w' ≡ stepped (t .valid) (t .mapped) least k x y (account w)
+    Moved w' x y = account w' ≡ stepped (t .valid) (t .mapped) minPeriods k x y (account w)
 
     as-listed : (w' : Window) → Moved w' s e → Moved w' (rowStart p k) (rowEnd p k)
     as-listed w' f = subst (λ (y : ℕ). Moved w' (rowStart p k) y) e-is (subst (λ (x : ℕ). Moved w' x e) s-is f)
 
     row-stepped : (w' : Window) → Moved w' s e → Stepped w' k
-    row-stepped w' f = go (moves (t .mapped) least k (rowStart p k) (rowEnd p k)) refl
+    row-stepped w' f = go (moves (t .mapped) minPeriods k (rowStart p k) (rowEnd p k)) refl
       where
         here-now : account w' ≡ moved (t .valid) (account w) (rowStart p k) (rowEnd p k) → Stepped w' k
         here-now g =
@@ -174,7 +174,7 @@ module _ (M : Moment) (final : M .State → Figure) (t : Series (M .Entry)) (lea
         no-map true u f q = let z : _≡_ {A = ℕ} 0 1 = cc in omega arith
         no-map false u f q = let z : _≡_ {A = ℕ} 0 1 = cc in omega arith
 
-        go : (u : Bool) → moves (t .mapped) least k (rowStart p k) (rowEnd p k) ≡ u → Stepped w' k
+        go : (u : Bool) → moves (t .mapped) minPeriods k (rowStart p k) (rowEnd p k) ≡ u → Stepped w' k
         go true u = here-now (as-listed w' f ∙ rw u)
         go false u = as-before (as-listed w' f ∙ rw u) (no-map (t .mapped) _ u)
 
@@ -193,17 +193,17 @@ module _ (M : Moment) (final : M .State → Figure) (t : Series (M .Entry)) (lea
 
     pub row-next : {w' : Window} {agg' : M .State} {work' out' : List Float} {pr' : List ℕ} {f : Figure} →
         Moved w' s e → Held M t (M .inFront .width * widest) w' agg' work' → length work' ≡ length work → drop need work' ≡ drop need work →
-        f ≡ answerBy M final (t .mapped) least s e w' agg' work' →
+        f ≡ answerBy M final (t .mapped) minPeriods s e w' agg' work' →
         rows p ≤ length out₀ → rows p ≤ length pr₀ → out' ≡ set out k (doubleOf f) → pr' ≡ set pr k (byteOf f) →
         Row work₀ out₀ pr₀ need work' out' pr' w' agg' (k + 1)
     unfolding accountAt answerAt
     row-next {w'} {agg'} {work'} {out'} {pr'} {f} y held len rest g ho hp o q =
         let u = row-stepped w' y in
-        let a : account w' ≡ accountAt (t .valid) (t .mapped) least p (suc k) = as-listed w' y ∙ rw (row .at) in
+        let a : account w' ≡ accountAt (t .valid) (t .mapped) minPeriods p (suc k) = as-listed w' y ∙ rw (row .at) in
         let m : t .mapped ≡ true → (w' .start ≡ s) × (w' .end ≡ e) = λ z. (u .mapped z .0 ∙ sym s-is, u .mapped z .1 ∙ sym e-is) in
         let h : f ≡ Answer k =
-        g ∙ answer-is M final t (M .inFront .width * widest) w' agg' work' held least s e m
-        ∙ rw (s-is, e-is) (ap (answerOf M final t least (rowStart p k) (rowEnd p k)) a) in
+        g ∙ answer-is M final t (M .inFront .width * widest) w' agg' work' held minPeriods s e m
+        ∙ rw (s-is, e-is) (ap (answerOf M final t minPeriods (rowStart p k) (rowEnd p k)) a) in
         record {
           upto = omega arith;
           held = held;
@@ -226,16 +226,16 @@ module _ (M : Moment) (final : M .State → Figure) (t : Series (M .Entry)) (lea
   row-done {k = k} row h = let u = row .upto in let e : k ≡ rows p = omega arith in rw (← e) (row .out-is, row .pr-is, row .work-rest)
 
 -- whether a row moves the window, by the tests in the code's order
-pub moves-long : (mapped : Bool) (least k s e : ℕ) → least ≤ e - s → true ≡ moves mapped least k s e
-moves-long mapped least k s e h = rw (le-leb least (e - s) h) (go mapped (eqb k 0))
+pub moves-long : (mapped : Bool) (minPeriods k s e : ℕ) → minPeriods ≤ e - s → true ≡ moves mapped minPeriods k s e
+moves-long mapped minPeriods k s e h = rw (le-leb minPeriods (e - s) h) (go mapped (eqb k 0))
   where
     go : (b u : Bool) → true ≡ (b || (u || true))
     go true u = refl
     go false true = refl
     go false false = refl
 
-pub moves-first : (mapped : Bool) (least k s e : ℕ) → e - s < least → mapped ≡ false → eqb k 0 ≡ moves mapped least k s e
-moves-first mapped least k s e h z = rw (z, lt-leb least (e - s) h) (go (eqb k 0))
+pub moves-first : (mapped : Bool) (minPeriods k s e : ℕ) → e - s < minPeriods → mapped ≡ false → eqb k 0 ≡ moves mapped minPeriods k s e
+moves-first mapped minPeriods k s e h z = rw (z, lt-leb minPeriods (e - s) h) (go (eqb k 0))
   where
     go : (u : Bool) → u ≡ (u || false)
     go true = refl

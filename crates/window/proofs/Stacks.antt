@@ -11,7 +11,7 @@ use mir.Val.{boolByte}
 use lib.ListN.{length, take, drop, length-append, length-drop, length-take, drop-of-length-le, take-append-drop}
 use lib.Seq.{take-length, take-append-le, take-append-seam, take-at, drop-at, drop-append-add, drop-drop, sets, sets-eq, length-sets}
 use lib.Ieee.{Float}
-use Rattle.window.specs.Places.{Series, entries, validCount, badCount}
+use Rattle.window.specs.Places.{Series, entries, validCount, nonfiniteCount}
 use Rattle.window.specs.Window.{Layout, Moment, rising, falling}
 use Rattle.window.specs.Stacks.{inMemory, frontStack, Pushed}
 use Rattle.window.proofs.Places.{entries-self, entries-snoc, count-le, count-more, count-up}
@@ -166,18 +166,18 @@ module _ (M : Moment) (l₀ : List Float) (base n : ℕ) (B : List (M .Entry)) (
 
 -- ---- entries pushed: the turns of the loop, where the places before i are done
 
-pub record Push (M : Moment) (t : Series (M .Entry)) (l₀ : List Float) (n bad₀ : ℕ) (s₀ : M .State) (a e : ℕ)
-    (l : List Float) (many bad : ℕ) (s : M .State) (i : ℕ) : Type 0 where
+pub record Push (M : Moment) (t : Series (M .Entry)) (l₀ : List Float) (n nonfinite₀ : ℕ) (s₀ : M .State) (a e : ℕ)
+    (l : List Float) (many nonfinite : ℕ) (s : M .State) (i : ℕ) : Type 0 where
   pub low : a ≤ i
   pub high : i ≤ e
   pub same : length l ≡ length l₀
-  pub now : Pushed M t l₀ n bad₀ s₀ a i l many bad s
+  pub now : Pushed M t l₀ n nonfinite₀ s₀ a i l many nonfinite s
 
-module _ (M : Moment) (t : Series (M .Entry)) (l₀ : List Float) (n bad₀ : ℕ) (s₀ : M .State) (a e : ℕ) where
+module _ (M : Moment) (t : Series (M .Entry)) (l₀ : List Float) (n nonfinite₀ : ℕ) (s₀ : M .State) (a e : ℕ) where
   abbrev R : ℕ → List (M .Entry)
   R i = entries (t .valid) (t .entry) a i
 
-  pub push-start : a ≤ e → Push M t l₀ n bad₀ s₀ a e l₀ n bad₀ s₀ a
+  pub push-start : a ≤ e → Push M t l₀ n nonfinite₀ s₀ a e l₀ n nonfinite₀ s₀ a
   unfolding inMemory
   push-start h =
       record {
@@ -187,12 +187,12 @@ module _ (M : Moment) (t : Series (M .Entry)) (l₀ : List Float) (n bad₀ : �
         now = record {
           list-is = rw (entries-self (t .valid) (t .entry), add-zero, append-nil) (sym (take-append-drop (E M * n) l₀));
           many-is = rw (entries-self (t .valid) (t .entry)) (sym (add-zero n));
-          bad-is = rw (entries-self (t .bad) (t .entry)) (sym (add-zero bad₀));
+          nonfinite-is = rw (entries-self (t .nonfinite) (t .entry)) (sym (add-zero nonfinite₀));
           agg-is = rw (entries-self (t .valid) (t .entry));
         };
       }
 
-  module _ {l : List Float} {many bad : ℕ} {s : M .State} {i : ℕ} (p : Push M t l₀ n bad₀ s₀ a e l many bad s i) (more : i < e)
+  module _ {l : List Float} {many nonfinite : ℕ} {s : M .State} {i : ℕ} (p : Push M t l₀ n nonfinite₀ s₀ a e l many nonfinite s i) (more : i < e)
       (room : E M * (n + validCount t a e) ≤ length l₀) where
     -- a valid place has room behind the entries
     next : t .valid i ≡ true → E M * (n + validCount t a i) + E M ≤ length l₀
@@ -207,20 +207,20 @@ module _ (M : Moment) (t : Series (M .Entry)) (l₀ : List Float) (n bad₀ : �
     pub push-room : t .valid i ≡ true → E M * many + E M ≤ length l
     push-room v = rw (p .now .many-is, p .same) (next v)
 
-    -- no more are bad than places are done
-    pub push-bad-le : bad ≤ bad₀ + (i - a)
-    push-bad-le = let k = count-le (t .bad) (t .entry) a i in let q = p .now .bad-is in omega arith
+    -- no more are not finite than places are done
+    pub push-nonfinite-le : nonfinite ≤ nonfinite₀ + (i - a)
+    push-nonfinite-le = let k = count-le (t .nonfinite) (t .entry) a i in let q = p .now .nonfinite-is in omega arith
 
     -- a valid place
     pub push-hit : t .valid i ≡ true → (at : ℕ) → at ≡ E M * many → (x : M .Entry) → x ≡ t .entry i → (u : M .State) → u ≡ M .insert s x →
-        (z : Bool) → z ≡ t .bad i → (k : ℕ) → k ≡ bad + boolByte z →
-        Push M t l₀ n bad₀ s₀ a e (sets l at (M .inBack .store x)) (many + 1) k u (i + 1)
+        (z : Bool) → z ≡ t .nonfinite i → (k : ℕ) → k ≡ nonfinite + boolByte z →
+        Push M t l₀ n nonfinite₀ s₀ a e (sets l at (M .inBack .store x)) (many + 1) k u (i + 1)
     push-hit v at w x f u g z y k c =
         let low = p .low in
         let o = next v in
         let m = count-more (t .valid) (t .entry) a i low true (sym v) in
-        let b = count-more (t .bad) (t .entry) a i low z y in
-        let q = p .now .bad-is in
+        let b = count-more (t .nonfinite) (t .entry) a i low z y in
+        let q = p .now .nonfinite-is in
         let r = p .now .many-is in
         let d : R (i + 1) ≡ R i ++ (x ∷ []) = entries-snoc (t .valid) (t .entry) a i low ∙ rw (v, f) in
         let head = take (E M * n) l₀ ++ inMemory (M .inBack) (R i) in
@@ -239,27 +239,27 @@ module _ (M : Moment) (t : Series (M .Entry)) (l₀ : List Float) (n bad₀ : �
             list-is = rw (p .now .list-is, write-at head rest (M .inBack .store x) at long fits, M .inBack .stored x, drop-drop, past, d, memory-snoc (M .inBack) (R i) x)
                 (simp append-assoc);
             many-is = omega arith;
-            bad-is = omega arith;
+            nonfinite-is = omega arith;
             agg-is = rw d (g ∙ ap (λ (y : M .State). M .insert y x) (p .now .agg-is) ∙ sym (foldl-append (M .insert) s₀ (R i) (x ∷ [])));
           };
         }
 
     -- a place that is not valid
-    pub push-miss : t .valid i ≡ false → t .bad i ≡ false → Push M t l₀ n bad₀ s₀ a e l many bad s (i + 1)
+    pub push-miss : t .valid i ≡ false → t .nonfinite i ≡ false → Push M t l₀ n nonfinite₀ s₀ a e l many nonfinite s (i + 1)
     push-miss v z =
         let low = p .low in
         let d : R (i + 1) ≡ R i = entries-snoc (t .valid) (t .entry) a i low ∙ rw (v, append-nil) in
-        let f : entries (t .bad) (t .entry) a (i + 1) ≡ entries (t .bad) (t .entry) a i = entries-snoc (t .bad) (t .entry) a i low ∙ rw (z, append-nil) in
+        let f : entries (t .nonfinite) (t .entry) a (i + 1) ≡ entries (t .nonfinite) (t .entry) a i = entries-snoc (t .nonfinite) (t .entry) a i low ∙ rw (z, append-nil) in
         record {
           low = omega arith;
           high = omega arith;
           same = p .same;
-          now = record { list-is = rw d (p .now .list-is); many-is = rw d (p .now .many-is); bad-is = rw f (p .now .bad-is); agg-is = rw d (p .now .agg-is) };
+          now = record { list-is = rw d (p .now .list-is); many-is = rw d (p .now .many-is); nonfinite-is = rw f (p .now .nonfinite-is); agg-is = rw d (p .now .agg-is) };
         }
 
-  pub push-done : {l : List Float} {many bad : ℕ} {s : M .State} {i : ℕ} → Push M t l₀ n bad₀ s₀ a e l many bad s i → e ≤ i →
-      Pushed M t l₀ n bad₀ s₀ a e l many bad s
-  push-done {l} {many} {bad} {s} {i} p h =
+  pub push-done : {l : List Float} {many nonfinite : ℕ} {s : M .State} {i : ℕ} → Push M t l₀ n nonfinite₀ s₀ a e l many nonfinite s i → e ≤ i →
+      Pushed M t l₀ n nonfinite₀ s₀ a e l many nonfinite s
+  push-done {l} {many} {nonfinite} {s} {i} p h =
       let g = p .high in
       let q : i ≡ e = omega arith in
-      subst (λ (j : ℕ). Pushed M t l₀ n bad₀ s₀ a j l many bad s) q (p .now)
+      subst (λ (j : ℕ). Pushed M t l₀ n nonfinite₀ s₀ a j l many nonfinite s) q (p .now)

@@ -10,7 +10,7 @@ pub record Series (A : Type 0) : Type 0 where
   pub mapped : Bool
   pub valid : ℕ → Bool
   pub entry : ℕ → A
-  pub bad : ℕ → Bool
+  pub nonfinite : ℕ → Bool
 
 -- the entries of those of the k places from a on that are chosen, in rising order
 unfoldable pub entriesFrom : {A : Type 0} → (ℕ → Bool) → (ℕ → A) → ℕ → ℕ → List A
@@ -26,5 +26,5 @@ abbrev pub validCount : {A : Type 0} → Series A → ℕ → ℕ → ℕ
 validCount t a b = length (entries (t .valid) (t .entry) a b)
 
 -- how many valid places there hold what is not finite
-abbrev pub badCount : {A : Type 0} → Series A → ℕ → ℕ → ℕ
-badCount t a b = length (entries (t .bad) (t .entry) a b)
+abbrev pub nonfiniteCount : {A : Type 0} → Series A → ℕ → ℕ → ℕ
+nonfiniteCount t a b = length (entries (t .nonfinite) (t .entry) a b)

@@ -21,13 +21,13 @@ unfoldable pub insertedAt : List Float → ℕ → Float
 insertedAt values i = cond (finite (readingOf values i)) (readingOf values i) zero64
 
 -- a valid reading that is not finite
-unfoldable pub badAt : Bool → List ℕ → List Float → ℕ → Bool
-badAt has map values i = validAt has map i && not (finite (readingOf values i))
+unfoldable pub nonfiniteAt : Bool → List ℕ → List Float → ℕ → Bool
+nonfiniteAt has map values i = validAt has map i && not (finite (readingOf values i))
 
 -- the series of a trace and its map
 abbrev pub series : Bool → List ℕ → List Float → Series Float
 series has map values =
-    record { mapped = has; valid = validAt has map; entry = insertedAt values; bad = badAt has map values }
+    record { mapped = has; valid = validAt has map; entry = insertedAt values; nonfinite = nonfiniteAt has map values }
 
 -- one double of the back stack is one reading
 abbrev pub reading : Layout Float

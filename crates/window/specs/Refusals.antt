@@ -11,8 +11,8 @@ use Rattle.trace.specs.Refusals.{refusal, _orElse_, tooMany, arrayRefusal}
 use Rattle.window.specs.Rows.{Plan, rows, rowStart, rowEnd, table}
 
 -- "4 lists differ in length or exceed 16,777,216 rows"
-abbrev pub badLists : Plan → Bool
-badLists p = not (eqb (length (p .starts)) (length (p .ends))) || tooMany (rows p)
+abbrev pub wrongLists : Plan → Bool
+wrongLists p = not (eqb (length (p .starts)) (length (p .ends))) || tooMany (rows p)
 
 -- A row from s up to e of a plan over n places, after one from s' up to e': "5 start > end; 6 end > n; 7 start or end below the
 -- row before"
@@ -47,7 +47,7 @@ unfoldable pub planRefusal : ℕ → ℕ → Bool → List ℕ → Plan → Bool
 unfolding refusal _orElse_ rowsRefusal widest
 planRefusal each n has map p short figures present work =
     arrayRefusal n has map
-    orElse refusal 4 (badLists p)
+    orElse refusal 4 (wrongLists p)
     orElse rowsRefusal n p (rows p)
     orElse refusal 12 (short || (ltb figures (rows p) || ltb present (rows p)))
     orElse refusal 13 (ltb work (needed each p))

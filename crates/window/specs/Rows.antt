@@ -30,16 +30,16 @@ rowEnd p k = getD (p .ends) k 0
 -- Whether row k, from s up to e, moves the window. "With a map, every row moves the window .. Without one, a row shorter than the
 -- minimum .. doesn't move the window, except that row 0 always has."
 abbrev pub moves : Bool → ℕ → ℕ → ℕ → ℕ → Bool
-moves mapped least k s e = mapped || (eqb k 0 || leb least (e - s))
+moves mapped minPeriods k s e = mapped || (eqb k 0 || leb minPeriods (e - s))
 
 -- the account after row k's part in it: "a row that by Rows doesn't move the window leaves it so"
 abbrev pub stepped : (ℕ → Bool) → Bool → ℕ → ℕ → ℕ → ℕ → Account → Account
-stepped valid mapped least k s e a = cond (moves mapped least k s e) (moved valid a s e) a
+stepped valid mapped minPeriods k s e a = cond (moves mapped minPeriods k s e) (moved valid a s e) a
 
 -- the account after the first k rows: "fresh before a plan's row 0. Each row takes it as the row before left it"
 unfoldable pub accountAt : (ℕ → Bool) → Bool → ℕ → Plan → ℕ → Account
-accountAt valid mapped least p zero = fresh
-accountAt valid mapped least p (suc k) = stepped valid mapped least k (rowStart p k) (rowEnd p k) (accountAt valid mapped least p k)
+accountAt valid mapped minPeriods p zero = fresh
+accountAt valid mapped minPeriods p (suc k) = stepped valid mapped minPeriods k (rowStart p k) (rowEnd p k) (accountAt valid mapped minPeriods p k)
 
 -- what the minimum is compared with: with a map the valid count, without one the row's length
 abbrev pub counted : {A : Type 0} → Series A → ℕ → ℕ → ℕ
@@ -48,13 +48,13 @@ counted t s e = cond (t .mapped) (validCount t s e) (e - s)
 -- the answer of a row from s up to e, with the account after its move
 unfoldable pub answerOf : (M : Moment) → (M .State → Figure) → Series (M .Entry) → ℕ → ℕ → ℕ → Account → Figure
 unfolding figureOf
-answerOf M final t least s e a = cond (leb least (counted t s e)) (figureOf M final t a) Missing
+answerOf M final t minPeriods s e a = cond (leb minPeriods (counted t s e)) (figureOf M final t a) Missing
 
 -- row k's answer: "The account yields this figure, or missing where `finalize` or Rows says so."
 unfoldable pub answerAt : (M : Moment) → (M .State → Figure) → Series (M .Entry) → ℕ → Plan → ℕ → Figure
 unfolding answerOf accountAt
-answerAt M final t least p k =
-    answerOf M final t least (rowStart p k) (rowEnd p k) (accountAt (t .valid) (t .mapped) least p (suc k))
+answerAt M final t minPeriods p k =
+    answerOf M final t minPeriods (rowStart p k) (rowEnd p k) (accountAt (t .valid) (t .mapped) minPeriods p (suc k))
 
 -- the first n values of f
 unfoldable pub table : {A : Type 0} → (ℕ → A) → ℕ → List A

@@ -10,8 +10,8 @@ use lib.ListN.{length, take, drop}
 use lib.Ieee.{Float}
 use Rattle.moment.specs.declared.Figure.{Figure}
 use Rattle.moment.specs.declared.Figure.the-variants.{Missing}
-use Rattle.window.specs.Places.{Series, entries, validCount, badCount}
-use Rattle.window.specs.Window.{Account, Layout, Moment, restarted, left, front, back, rising, falling, spoilt}
+use Rattle.window.specs.Places.{Series, entries, validCount, nonfiniteCount}
+use Rattle.window.specs.Window.{Account, Layout, Moment, restarted, left, front, back, rising, falling, orNan}
 use Rattle.window.specs.Rows.{Plan, rows, rowStart, rowEnd}
 use Rattle.window.specs.Refusals.{widest}
 use Rattle.window.specs.declared.Window.{Window}
@@ -35,7 +35,7 @@ pub record Counted {A : Type 0} (t : Series A) (w : Window) : Type 0 where
   pub split-le : w .split ≤ w .end
   pub front-is : w .front ≡ length (front t (account w))
   pub back-is : w .back ≡ length (back t (account w))
-  pub bad-is : w .bad ≡ badCount t (w .start) (w .end)
+  pub nonfinite-is : w .nonfinite ≡ nonfiniteCount t (w .start) (w .end)
 
 -- The window w' that is left of w when the places below s are gone. `flips` says that the back stack went to the front: the window
 -- does not start anew, and more valid places leave than the front stack holds
@@ -52,14 +52,14 @@ pub record Held (M : Moment) (t : Series (M .Entry)) (base : ℕ) (w : Window) (
   pub back-at : take (M .inBack .width * w .back) (drop base work) ≡ inMemory (M .inBack) (back t (account w))
 
 -- The entries of the places from a up to e, written behind the n that stand in the list l₀ and inserted into the state s₀, leave
--- l, `many` entries, `bad` that are not finite, and the state s
-pub record Pushed (M : Moment) (t : Series (M .Entry)) (l₀ : List Float) (n bad₀ : ℕ) (s₀ : M .State) (a e : ℕ)
-    (l : List Float) (many bad : ℕ) (s : M .State) : Type 0 where
+-- l, `many` entries, `nonfinite` that are not finite, and the state s
+pub record Pushed (M : Moment) (t : Series (M .Entry)) (l₀ : List Float) (n nonfinite₀ : ℕ) (s₀ : M .State) (a e : ℕ)
+    (l : List Float) (many nonfinite : ℕ) (s : M .State) : Type 0 where
   pub list-is : l
       ≡ take (M .inBack .width * n) l₀ ++ inMemory (M .inBack) (entries (t .valid) (t .entry) a e)
       ++ drop (M .inBack .width * (n + validCount t a e)) l₀
   pub many-is : many ≡ n + validCount t a e
-  pub bad-is : bad ≡ bad₀ + badCount t a e
+  pub nonfinite-is : nonfinite ≡ nonfinite₀ + nonfiniteCount t a e
   pub agg-is : s ≡ rising M s₀ (entries (t .valid) (t .entry) a e)
 
 -- the state on the top of the front stack's n, or the empty one
@@ -68,8 +68,8 @@ topOf M work n = cond (eqb n 0) (M .empty) (M .inFront .load (drop (M .inFront .
 
 -- a row's answer by the window's numbers: the back state combined with the state on the front stack's top
 abbrev pub answerBy : (M : Moment) → (M .State → Figure) → Bool → ℕ → ℕ → ℕ → Window → M .State → List Float → Figure
-answerBy M final mapped least s e w agg work =
-    cond (leb least (cond mapped (w .front + w .back) (e - s))) (spoilt (w .bad) (final (M .combine agg (topOf M work (w .front))))) Missing
+answerBy M final mapped minPeriods s e w agg work =
+    cond (leb minPeriods (cond mapped (w .front + w .back) (e - s))) (orNan (w .nonfinite) (final (M .combine agg (topOf M work (w .front))))) Missing
 
 -- a window over n places can move to the row from s up to e, and neither is wider than `widest`
 pub record Ready (w : Window) (s e n widest : ℕ) : Type 0 where
@@ -93,9 +93,9 @@ pub record Moves (M : Moment) (t : Series (M .Entry)) (base kept : ℕ) (a : Acc
   pub rest : drop kept work ≡ drop kept work₀
 
 -- how many of the places from a up to b are valid, and how many of those are not finite
-pub record Tallied {A : Type 0} (t : Series A) (a b valid bad : ℕ) : Type 0 where
+pub record Tallied {A : Type 0} (t : Series A) (a b valid nonfinite : ℕ) : Type 0 where
   pub valid-is : valid ≡ validCount t a b
-  pub bad-is : bad ≡ badCount t a b
+  pub nonfinite-is : nonfinite ≡ nonfiniteCount t a b
 
 -- an accepted plan over n places, with no window wider than `widest`
 pub record Planned (n widest : ℕ) (p : Plan) : Type 0 where

@@ -9,7 +9,7 @@ use lib.ListN.{length}
 use lib.Ieee.{Float, nan}
 use Rattle.moment.specs.declared.Figure.{Figure}
 use Rattle.moment.specs.declared.Figure.the-variants.{Missing, Present}
-use Rattle.window.specs.Places.{Series, entries, badCount}
+use Rattle.window.specs.Places.{Series, entries, nonfiniteCount}
 
 -- "The split account .. three whole numbers, start, end and split"
 pub record Account : Type 0 where
@@ -82,10 +82,10 @@ asNan Missing = Missing
 asNan (Present v) = Present nan
 
 -- "if the window has one": n is how many in the window are not finite
-unfoldable pub spoilt : ℕ → Figure → Figure
-spoilt n figure = cond (eqb n 0) figure (asNan figure)
+unfoldable pub orNan : ℕ → Figure → Figure
+orNan n figure = cond (eqb n 0) figure (asNan figure)
 
 -- "The figure finalises the back state combined with the front state, in that order."
 unfoldable pub figureOf : (M : Moment) → (M .State → Figure) → Series (M .Entry) → Account → Figure
-unfolding spoilt
-figureOf M final t a = spoilt (badCount t (a .start) (a .end)) (final (M .combine (rising M (M .empty) (back t a)) (falling M (front t a))))
+unfolding orNan
+figureOf M final t a = orNan (nonfiniteCount t (a .start) (a .end)) (final (M .combine (rising M (M .empty) (back t a)) (falling M (front t a))))

@@ -1,7 +1,7 @@
 // Windows that move over a series: the theory of two stacks in a work slice, over any moment and any kind of entry (specs/ and
 // proofs/), and the leaves that every moment shares. Every function is total, so that the crates above share them.
 ghost use mathlib.Core.Path.{_≡_};
-ghost use Rattle.window.specs.Window.{spoilt};
+ghost use Rattle.window.specs.Window.{orNan};
 ghost use Rattle.window.specs.Refusals.{rowRefusal};
 use moment::Figure;
 
@@ -12,14 +12,14 @@ pub struct Window {
     pub split: usize,
     pub front: usize,
     pub back: usize,
-    pub bad: usize,
+    pub nonfinite: usize,
 }
 
 // NaN for a present figure where the window holds what is not finite.
-pub fn spoil(figure: Figure, bad: usize) -> Figure
-    ensures { λ r. ⌜ r ≡ spoilt bad figure ⌝ }
+pub fn or_nan(figure: Figure, nonfinite: usize) -> Figure
+    ensures { λ r. ⌜ r ≡ orNan nonfinite figure ⌝ }
 {
-    if bad == 0 {
+    if nonfinite == 0 {
         return figure;
     }
     let Figure::Present(_) = figure else {

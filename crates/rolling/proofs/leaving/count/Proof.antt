@@ -4,19 +4,19 @@ use mathlib.Core.Path.{_≡_, sym}
 use native.Mathlib.Omega.{arith}
 use borrow.Author.Needs.{needs}
 use Rattle.trace.specs.Trace.{validAt}
-use Rattle.window.specs.Places.{validCount, badCount}
-use Rattle.window.specs.Readings.{series, insertedAt, badAt}
+use Rattle.window.specs.Places.{validCount, nonfiniteCount}
+use Rattle.window.specs.Readings.{series, insertedAt, nonfiniteAt}
 use Rattle.window.proofs.Places.{entries-self, count-le, count-more}
 use Rattle.rolling.proofs.Rolling.{bit-le}
 use Rattle.rolling.proofs.leaving.count.Statement.{statement}
 use Rattle.rolling.proofs.leaving.count.Tie as tie
 
 abbrev Inv-loop : tie.InvT-loop
-Inv-loop values has-map map a b valid₀ bad₀ i₀ valid bad i =
-    (a ≤ i) × (i ≤ b) × (valid ≡ validCount (series has-map map values) a i) × (bad ≡ badCount (series has-map map values) a i)
+Inv-loop values has-map map a b valid₀ nonfinite₀ i₀ valid nonfinite i =
+    (a ≤ i) × (i ≤ b) × (valid ≡ validCount (series has-map map values) a i) × (nonfinite ≡ nonfiniteCount (series has-map map values) a i)
 
 abbrev μ-loop : tie.MeasureT-loop
-μ-loop values has-map map a b valid₀ bad₀ i₀ valid bad i = b - i
+μ-loop values has-map map a b valid₀ nonfinite₀ i₀ valid nonfinite i = b - i
 
 loop-holds : tie.Need-loop-holds Inv-loop μ-loop
 loop-holds c = (omega arith, search needs, rw entries-self, rw entries-self)
@@ -32,16 +32,16 @@ add-valid c =
     let a = c .before .before .before .before .before .args in
     omega (arith, bit-le (c .valid .result), count-le (validAt (a .has-map) (a .map .now)) (insertedAt (a .values .now)) (a .a) (c .before .before .loop .i))
 
-is-bad-requires : tie.Need-is-bad-requires Inv-loop μ-loop
-is-bad-requires c κs = search needs
+is-nonfinite-requires : tie.Need-is-nonfinite-requires Inv-loop μ-loop
+is-nonfinite-requires c κs = search needs
 
-cast-bad : tie.Need-cast-bad Inv-loop μ-loop
-cast-bad c = search needs
+cast-nonfinite : tie.Need-cast-nonfinite Inv-loop μ-loop
+cast-nonfinite c = search needs
 
-add-bad : tie.Need-add-bad Inv-loop μ-loop
-add-bad c =
+add-nonfinite : tie.Need-add-nonfinite Inv-loop μ-loop
+add-nonfinite c =
     let a = c .before .before .before .before .before .before .args in
-    omega (arith, bit-le (c .is-bad .result), count-le (badAt (a .has-map) (a .map .now) (a .values .now)) (insertedAt (a .values .now)) (a .a) (c .before .before .before .loop .i))
+    omega (arith, bit-le (c .is-nonfinite .result), count-le (nonfiniteAt (a .has-map) (a .map .now) (a .values .now)) (insertedAt (a .values .now)) (a .a) (c .before .before .before .loop .i))
 
 add-i : tie.Need-add-i Inv-loop μ-loop
 add-i c = search needs
@@ -55,14 +55,14 @@ loop-again c =
       omega arith,
       omega arith,
       rw (l .inv .2) (sym (count-more _ _ _ _ (l .inv .0) _ (c .before .valid .ensures))),
-      rw (l .inv .3) (sym (count-more _ _ _ _ (l .inv .0) _ (c .is-bad .ensures))),
+      rw (l .inv .3) (sym (count-more _ _ _ _ (l .inv .0) _ (c .is-nonfinite .ensures))),
     )
 
 returns : tie.Need-returns Inv-loop μ-loop
 returns c =
     let l = c .before .loop in
     let e : l .i ≡ c .before .before .before .before .args .b = omega arith in
-    rw (← e) (record { valid-is = l .inv .2; bad-is = l .inv .3 })
+    rw (← e) (record { valid-is = l .inv .2; nonfinite-is = l .inv .3 })
 
 pub count-spec : {M : Type 1} → statement M
 count-spec =
@@ -74,9 +74,9 @@ count-spec =
     valid-requires
     cast-valid
     add-valid
-    is-bad-requires
-    cast-bad
-    add-bad
+    is-nonfinite-requires
+    cast-nonfinite
+    add-nonfinite
     add-i
     loop-less
     loop-again

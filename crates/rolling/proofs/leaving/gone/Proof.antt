@@ -15,14 +15,14 @@ unfolding validAt
 returns c =
     record {
       valid-is = rw (not-true (c .before .before .before .before .args .has-map) (c .if2 .taken)) (sym (count-all _ _ (λ i. refl) _ _));
-      bad-is = sym (c .before .before .before .before .pre .1 (c .before .if1 .taken));
+      nonfinite-is = sym (c .before .before .before .before .pre .1 (c .before .if1 .taken));
     }
 
 count-valid-requires : tie.Need-count-valid-requires
 count-valid-requires c κs = search needs
 
 returns-2 : tie.Need-returns-2
-returns-2 c = record { valid-is = c .count-valid .ensures _; bad-is = sym (c .before .before .before .before .before .pre .1 (c .before .before .if1 .taken)) }
+returns-2 c = record { valid-is = c .count-valid .ensures _; nonfinite-is = sym (c .before .before .before .before .before .pre .1 (c .before .before .if1 .taken)) }
 
 count-requires : tie.Need-count-requires
 count-requires c κs = search needs

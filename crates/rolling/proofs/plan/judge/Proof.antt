@@ -5,7 +5,7 @@ use mathlib.Core.Bool.{Bool, _||_}
 use native.Mathlib.Omega.{arith}
 use Rattle.trace.specs.Refusals.{refusal, _orElse_, arrayRefusal}
 use Rattle.window.specs.Rows.{Plan}
-use Rattle.window.specs.Refusals.{badLists}
+use Rattle.window.specs.Refusals.{wrongLists}
 use Rattle.window.proofs.Plans.{both-same, judged-first, same-lists, needed-fits, judged, judged-accepted}
 use Rattle.rolling.specs.Calls.{planOf}
 use borrow.Author.Needs.{needs}
@@ -31,7 +31,7 @@ first-is : (a : tie.After-first) →
     a .first .result
     ≡ arrayRefusal (a .before .before .before .before .before .before .before .args .n) (a .before .before .before .before .before .before .before .args .has-map)
     (a .before .before .before .before .before .before .before .args .map .now)
-    orElse refusal 4 (badLists (P a))
+    orElse refusal 4 (wrongLists (P a))
 first-is a =
     a .first .ensures
     ∙ both-same (a .before .before .array-refusal .ensures) (a .before .refuse .ensures ∙ ap (refusal 4) (a .before .before .before .either .ensures))

@@ -1,7 +1,7 @@
 -- By the callees; the correction of the count is the weight's. Assumes nothing.
 use mathlib.Core.Path.{_≡_, ap, _∙_}
 use Rattle.moment.specs.Skew.{skewCombine}
-use Rattle.window.specs.Window.{spoilt}
+use Rattle.window.specs.Window.{orNan}
 use Rattle.rolling.proofs.Corrections.{by-count}
 use borrow.Author.Needs.{needs}
 use Rattle.rolling.proofs.skew.SkewMoment.get_moment.Statement.{statement}
@@ -22,8 +22,8 @@ correction-requires c κs = search needs
 finalize-with-requires : tie.Need-finalize-with-requires
 finalize-with-requires c κs = search needs
 
-spoil-requires : tie.Need-spoil-requires
-spoil-requires c κs = search needs
+or-nan-requires : tie.Need-or-nan-requires
+or-nan-requires c κs = search needs
 
 same-length : tie.Need-same-length
 same-length c = search needs
@@ -36,7 +36,7 @@ returns c =
     let a = c .before .before .before .before .before .before .before .before .before .before .before .before .before .before .before .before in
     let k = c .before .before .before .before .before .before .correction .ensures in
     let e = c .before .before .before .before .before .before .before .before .before .before .combine .ensures ∙ ap (skewCombine (a .args .w .«agg_back»)) (c .before .before .before .before .before .before .before .before .before .before .before .last .ensures) in (
-      c .spoil .ensures ∙ ap (spoilt (a .args .w .window .bad))
+      c .or-nan .ensures ∙ ap (orNan (a .args .w .window .nonfinite))
           (c .before .finalize-with .ensures ∙ by-count _ _ e _ _ _ (a .pre .weight-is) (k .0)),
       k .1,
     )
@@ -50,7 +50,7 @@ get-moment-spec =
     add-correction
     correction-requires
     finalize-with-requires
-    spoil-requires
+    or-nan-requires
     same-length
     same-length-2
     returns)

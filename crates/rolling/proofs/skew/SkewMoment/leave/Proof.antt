@@ -19,10 +19,10 @@ abbrev W : tie.After-gone → Window
 W a = a .before .before .before .before .args .w
 
 -- what was counted is within the window
-fit : (a : tie.After-gone) → (a .gone .result .valid ≤ W a .front + W a .back) × (a .gone .result .bad ≤ W a .bad) × (W a .front + W a .back ≤ W a .end)
+fit : (a : tie.After-gone) → (a .gone .result .valid ≤ W a .front + W a .back) × (a .gone .result .nonfinite ≤ W a .nonfinite) × (W a .front + W a .back ≤ W a .end)
 fit a =
     let s = a .before .before .before .before in
-    leave-fits _ _ _ (s .pre .3) (s .pre .0) (a .before .if1 .left) _ _ (a .gone .ensures .valid-is) (a .gone .ensures .bad-is)
+    leave-fits _ _ _ (s .pre .3) (s .pre .0) (a .before .if1 .left) _ _ (a .gone .ensures .valid-is) (a .gone .ensures .nonfinite-is)
 
 sub-t11 : tie.Need-sub-t11
 sub-t11 c = fit (c .before .before .before .before .before .before .before) .1
@@ -31,7 +31,7 @@ returns-2 : tie.Need-returns-2
 returns-2 c =
     let a = c .before .before .before .before .before .before .before in
     let s = a .before .before .before .before in
-    leave-stay _ _ _ (s .pre .3) (s .pre .0) (a .before .if1 .left) _ _ (a .gone .ensures .valid-is) (a .gone .ensures .bad-is) (c .before .before .before .before .if2 .taken)
+    leave-stay _ _ _ (s .pre .3) (s .pre .0) (a .before .if1 .left) _ _ (a .gone .ensures .valid-is) (a .gone .ensures .nonfinite-is) (c .before .before .before .before .if2 .taken)
 
 add-t13 : tie.Need-add-t13
 add-t13 c =
@@ -48,7 +48,7 @@ returns-3 : tie.Need-returns-3
 returns-3 c =
     let a = c .before .before .before .before .before .before .before in
     let s = a .before .before .before .before in
-    leave-flip _ _ _ (s .pre .3) (s .pre .0) (a .before .if1 .left) _ _ (a .gone .ensures .valid-is) (a .gone .ensures .bad-is) (c .before .before .before .before .if2 .left)
+    leave-flip _ _ _ (s .pre .3) (s .pre .0) (a .before .if1 .left) _ _ (a .gone .ensures .valid-is) (a .gone .ensures .nonfinite-is) (c .before .before .before .before .if2 .left)
 
 pub leave-spec : {M : Type 1} → statement M
 leave-spec =

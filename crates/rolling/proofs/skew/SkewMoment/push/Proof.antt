@@ -5,17 +5,17 @@ use mathlib.Core.Logic.{⊎-elim}
 use native.Mathlib.Omega.{arith}
 use borrow.Author.Needs.{needs}
 use lib.ListN.{length}
-use Rattle.window.proofs.Readings.{Pushing, pushing-start, pushing-room, pushing-bad, pushing-finite, pushing-zero, pushing-missing, pushing-done}
+use Rattle.window.proofs.Readings.{Pushing, pushing-start, pushing-room, pushing-nonfinite, pushing-finite, pushing-zero, pushing-missing, pushing-done}
 use Rattle.rolling.specs.Moments.{skewness}
 use Rattle.rolling.proofs.skew.SkewMoment.push.Statement.{statement}
 use Rattle.rolling.proofs.skew.SkewMoment.push.Tie as tie
 
 abbrev Inv-loop : tie.InvT-loop
-Inv-loop back₀ n values has-map map a b bad state₀ at₀ count₀ i₀ back state at count i =
-    Pushing skewness has-map map values back₀ n bad state₀ a b back at count state i
+Inv-loop back₀ n values has-map map a b nonfinite state₀ at₀ count₀ i₀ back state at count i =
+    Pushing skewness has-map map values back₀ n nonfinite state₀ a b back at count state i
 
 abbrev μ-loop : tie.MeasureT-loop
-μ-loop back₀ n values has-map map a b bad state₀ at₀ count₀ i₀ back state at count i = b - i
+μ-loop back₀ n values has-map map a b nonfinite state₀ at₀ count₀ i₀ back state at count i = b - i
 
 loop-holds : tie.Need-loop-holds Inv-loop μ-loop
 loop-holds c = pushing-start skewness _ _ _ _ _ _ _ _ _ (c .before .before .before .pre .0)
@@ -61,7 +61,7 @@ add-count : tie.Need-add-count Inv-loop μ-loop
 add-count c =
     let l = c .before .before .before .before .before .before .before in
     let s = l .before .before .before .before in
-    let h = pushing-bad skewness _ _ _ _ _ _ _ _ _ (l .loop .inv) (c .before .before .before .before .before .before .loop-test .taken) (s .pre .2) in
+    let h = pushing-nonfinite skewness _ _ _ _ _ _ _ _ _ (l .loop .inv) (c .before .before .before .before .before .before .loop-test .taken) (s .pre .2) in
     let k = l .loop .inv .low in
     omega arith
 

@@ -12,12 +12,12 @@ combine-requires c κs = search needs
 finalize-requires : tie.Need-finalize-requires
 finalize-requires c κs = search needs
 
-spoil-requires : tie.Need-spoil-requires
-spoil-requires c κs = search needs
+or-nan-requires : tie.Need-or-nan-requires
+or-nan-requires c κs = search needs
 
 returns : tie.Need-returns
-returns c = rw (c .spoil .ensures, c .before .finalize .ensures, c .before .before .combine .ensures, c .before .before .before .last .ensures)
+returns c = rw (c .or-nan .ensures, c .before .finalize .ensures, c .before .before .combine .ensures, c .before .before .before .last .ensures)
 
 pub get-moment-spec : {M : Type 1} → statement M
 get-moment-spec =
-    tie.close (tie.spec last-requires combine-requires finalize-requires spoil-requires returns)
+    tie.close (tie.spec last-requires combine-requires finalize-requires or-nan-requires returns)

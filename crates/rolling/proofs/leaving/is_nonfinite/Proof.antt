@@ -1,9 +1,9 @@
 -- By whether the place is valid. Assumes nothing.
 use mathlib.Core.Path.{_≡_, sym, _∙_}
-use Rattle.window.specs.Readings.{badAt}
+use Rattle.window.specs.Readings.{nonfiniteAt}
 use borrow.Author.Needs.{needs}
-use Rattle.rolling.proofs.leaving.is_bad.Statement.{statement}
-use Rattle.rolling.proofs.leaving.is_bad.Tie as tie
+use Rattle.rolling.proofs.leaving.is_nonfinite.Statement.{statement}
+use Rattle.rolling.proofs.leaving.is_nonfinite.Tie as tie
 
 valid-requires : tie.Need-valid-requires
 valid-requires c κs = search needs
@@ -18,15 +18,15 @@ is-finite-requires : tie.Need-is-finite-requires
 is-finite-requires c κs = search needs
 
 returns : tie.Need-returns
-unfolding badAt
+unfolding nonfiniteAt
 returns c = let e = sym (c .before .before .before .valid .ensures) ∙ c .before .before .if1 .taken in rw (e, c .is-finite .ensures)
 
 returns-2 : tie.Need-returns-2
-unfolding badAt
+unfolding nonfiniteAt
 returns-2 c = let e = sym (c .before .valid .ensures) ∙ c .if1 .left in rw e
 
-pub is-bad-spec : {M : Type 1} → statement M
-is-bad-spec =
+pub is-nonfinite-spec : {M : Type 1} → statement M
+is-nonfinite-spec =
     tie.close
     (tie.spec
     valid-requires
