@@ -9,7 +9,7 @@ ghost use Rattle.moment.specs.Pearson.{pearsonInsert, pearsonCombine, pearsonFi
 ghost use Rattle.moment.specs.Skew.{skewInsert, skewCombine, skewFinalize};
 ghost use Rattle.moment.specs.Kurtosis.{kurtosisInsert, kurtosisCombine, kurtosisFinalize};
 ghost use Rattle.moment.specs.Arrays.{varAnswer, varNumber, varMembers, covAnswer, covNumber, covMembers, pearsonAnswer, pearsonNumber, pearsonMembers, skewAnswer, skewRange, skewNumber, skewMembers, kurtosisAnswer, kurtosisRange, kurtosisNumber, kurtosisMembers};
-ghost use Rattle.rolling.specs.Moments.{Asked, Variance, Skewness, Kurtosis};
+ghost use Rattle.rolling.specs.Moments.{Variance, Skewness, Kurtosis};
 ghost use Rattle.rolling.specs.Calls.{ask, lent, CalledBytes};
 ghost use Rattle.moments.specs.Results.{StateResult, FigureResult};
 use moment::CovAnswer;

@@ -1,5 +1,5 @@
 -- The ends of a call: a refusal leaves every list as it was, and what is decoded is the trace. Assumes nothing.
-use Prim.Native.Nat.{ℕ, _%_, _≤_}
+use Prim.Native.Nat.{ℕ, _≤_}
 use mathlib.Core.Path.{_≡_, sym, ap, _∙_, subst}
 use mathlib.Core.Bool.{Bool, false, not}
 use mathlib.Core.List.{List, _++_}

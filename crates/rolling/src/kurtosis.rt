@@ -12,7 +12,7 @@ ghost use Rattle.window.specs.Window.{restarted, left, entered, moved, orNan};
 ghost use Rattle.window.specs.Readings.{series, ofReadings};
 ghost use Rattle.window.specs.Rows.{stepped};
 ghost use Rattle.window.specs.Stacks.{inMemory, frontStack, account, Counted, Leaves, Held, Pushed, topOf, answerBy, Movable, Moves, Accepted};
-ghost use Rattle.rolling.specs.Moments.{Asked, Kurtosis, kurtosisLayout, kurtosis};
+ghost use Rattle.rolling.specs.Moments.{Kurtosis, kurtosisLayout, kurtosis};
 ghost use Rattle.rolling.specs.Calls.{planOf, ask, lent, traceOf, Written};
 use crate::leaving;
 use crate::leaving::Left;

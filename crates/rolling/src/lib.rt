@@ -1,8 +1,6 @@
 // Figures over moving windows: document 01's 001, 002 and 003, driven by a plan. A public function takes any lists; what is
 // below it is kept inside the crate.
-ghost use mathlib.Core.Path.{_≡_};
-ghost use lib.ListN.{length};
-ghost use Rattle.rolling.specs.Moments.{Asked, Variance, Skewness, Kurtosis};
+ghost use Rattle.rolling.specs.Moments.{Variance, Skewness, Kurtosis};
 ghost use Rattle.rolling.specs.Calls.{ask, lent, traceOf, Called, CalledBytes};
 use crate::kurtosis::KurtosisMoment;
 use crate::skew::SkewMoment;

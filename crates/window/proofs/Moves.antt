@@ -6,7 +6,7 @@ use mathlib.Core.Bool.{Bool, true, false, cond}
 use mathlib.Core.List.{List, [], _∷_, _++_, append-assoc, append-nil, foldl-append}
 use native.Mathlib.Nat.{mul-zero, mul-add, add-assoc, mul-le-mul-left, le-trans}
 use native.Mathlib.Omega.{arith}
-use borrow.Author.Tests.{le-leb, lt-leb, leb-true, leb-false, lt-ltb, le-ltb, ltb-true, ltb-false, eq-eqb, ne-eqb}
+use borrow.Author.Tests.{le-leb, lt-leb, leb-false, lt-ltb, le-ltb, ltb-true, ltb-false, eq-eqb, ne-eqb}
 use borrow.Rule.Slice.PartMut.{putMid}
 use lib.Dec.{leb, ltb, eqb}
 use lib.ListN.{length, take, drop, length-append, length-drop, length-take, drop-of-length-le, take-append-drop}
@@ -14,7 +14,7 @@ use lib.Seq.{take-all, take-add, drop-drop, drop-append-add, take-take, take-app
 use lib.Ieee.{Float}
 use Rattle.window.specs.Places.{Series, entries, validCount, nonfiniteCount}
 use Rattle.window.specs.Window.{Account, Moment, restarted, left, front, back, rising}
-use Rattle.window.specs.Stacks.{inMemory, frontStack, account, Counted, Leaves, Held, Pushed, Moves}
+use Rattle.window.specs.Stacks.{inMemory, frontStack, account, Counted, Leaves, Held, Pushed}
 use Rattle.window.specs.declared.Window.{Window}
 use Rattle.window.proofs.Places.{Or, here, there, order, entries-self, entries-split, split-end, split-law, two-counts, stay-front, stay-back, flip-front, count-le, count-up, none-part}
 use Rattle.window.proofs.Stacks.{memory-length, memory-append, front-length, front-drop}

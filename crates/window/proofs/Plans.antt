@@ -2,14 +2,14 @@
 -- rows is found by testing them in turn. Assumes nothing.
 use Prim.Native.Nat.{ℕ, zero, suc, _+_, _-_, _*_, _≤_, _<_, max}
 use mathlib.Core.Path.{_≡_, refl, sym, ap, _∙_, subst}
-use mathlib.Core.Bool.{Bool, true, false, cond, _||_}
+use mathlib.Core.Bool.{Bool, true, false, _||_}
 use mathlib.Core.List.{List}
 use native.Mathlib.Nat.{add-zero, add-suc, le-refl, le-trans, mul-le-mul-left, mul-le-mul-right}
 use native.Mathlib.Numerals.{add-one}
 use native.Mathlib.Omega.{arith}
 use borrow.Author.Tests.{eq-eqb, ne-eqb, ltb-false, eqb-true, eqb-false, not-false}
 use lib.Dec.{ltb, eqb, lit≤}
-use lib.ListN.{length, getD}
+use lib.ListN.{length}
 use Rattle.trace.specs.Refusals.{refusal, _orElse_, arrayRefusal}
 use Rattle.trace.proofs.Accepted.{none-of, not-refused}
 use Rattle.window.specs.Rows.{Plan, rows, rowStart, rowEnd}

@@ -1,8 +1,8 @@
 -- Moments whose entries are single readings: a reading in the back stack is one double, so the laws of the stacks are cited with the
 -- code's own reads, writes and tests. Assumes nothing.
 use Prim.Native.Nat.{ℕ, _+_, _-_, _*_, _≤_, _<_}
-use mathlib.Core.Path.{_≡_, refl, sym, ap, _∙_, subst}
-use mathlib.Core.Bool.{Bool, true, false, _&&_, not}
+use mathlib.Core.Path.{_≡_, refl, sym, ap, _∙_}
+use mathlib.Core.Bool.{Bool, true, false, not}
 use mir.Val.{boolByte}
 use mathlib.Core.List.{List, [], _∷_, _++_}
 use native.Mathlib.Nat.{one-mul, add-zero}

@@ -2,17 +2,17 @@
 -- stack, whose top is dropped with the entries that leave; and the turns of the two loops that build the stacks. Assumes nothing.
 use Prim.Native.Nat.{ℕ, zero, suc, _+_, _-_, _*_, _≤_, _<_}
 use mathlib.Core.Path.{_≡_, refl, sym, ap, _∙_, subst}
-use mathlib.Core.Bool.{Bool, true, false, cond}
-use mathlib.Core.List.{List, [], _∷_, _++_, append-assoc, append-nil, foldl, foldl-append}
+use mathlib.Core.Bool.{Bool, true, false}
+use mathlib.Core.List.{List, [], _∷_, _++_, append-assoc, append-nil, foldl-append}
 use native.Mathlib.Nat.{mul-zero, mul-add, mul-suc, mul-sub, mul-le-mul-left, add-zero, zero-add}
 use native.Mathlib.Numerals.{add-one}
 use native.Mathlib.Omega.{arith}
 use mir.Val.{boolByte}
 use lib.ListN.{length, take, drop, length-append, length-drop, length-take, drop-of-length-le, take-append-drop}
-use lib.Seq.{take-length, take-append-le, take-append-seam, take-at, drop-at, drop-append-add, drop-drop, sets, sets-eq, length-sets}
+use lib.Seq.{take-length, take-append-le, take-append-seam, drop-at, drop-append-add, drop-drop, sets, sets-eq, length-sets}
 use lib.Ieee.{Float}
-use Rattle.window.specs.Places.{Series, entries, validCount, nonfiniteCount}
-use Rattle.window.specs.Window.{Layout, Moment, rising, falling}
+use Rattle.window.specs.Places.{Series, entries, validCount}
+use Rattle.window.specs.Window.{Layout, Moment, falling}
 use Rattle.window.specs.Stacks.{inMemory, frontStack, Pushed}
 use Rattle.window.proofs.Places.{entries-self, entries-snoc, count-le, count-more, count-up}
 

@@ -1,5 +1,5 @@
 -- A refusal as it is judged, else the rows. Assumes nothing.
-use mathlib.Core.Path.{_≡_, sym, _∙_}
+use mathlib.Core.Path.{sym, _∙_}
 use Rattle.rolling.proofs.Calls.{refused}
 use borrow.Author.Needs.{needs}
 use Rattle.rolling.proofs.plan_kurtosis.Statement.{statement}

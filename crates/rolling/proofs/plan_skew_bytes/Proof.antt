@@ -1,6 +1,6 @@
 -- A refusal before anything is decoded, else the readings and the rows. Assumes nothing.
-use Prim.Native.Nat.{_/_, _≤_}
-use mathlib.Core.Path.{_≡_, sym, _∙_, subst}
+use Prim.Native.Nat.{_/_}
+use mathlib.Core.Path.{sym, _∙_}
 use native.Mathlib.Omega.{arith}
 use lib.ListN.{length, drop}
 use lib.Seq.{length-take-le}

@@ -1,5 +1,4 @@
 -- By the tests in their order. Assumes nothing.
-use Prim.Native.Nat.{ℕ}
 use borrow.Author.Tests.{lt-ltb, le-ltb}
 use Rattle.window.specs.Refusals.{rowRefusal}
 use Rattle.window.proofs.row_refusal.Statement.{statement}

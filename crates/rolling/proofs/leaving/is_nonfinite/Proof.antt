@@ -1,5 +1,5 @@
 -- By whether the place is valid. Assumes nothing.
-use mathlib.Core.Path.{_≡_, sym, _∙_}
+use mathlib.Core.Path.{sym, _∙_}
 use Rattle.window.specs.Readings.{nonfiniteAt}
 use borrow.Author.Needs.{needs}
 use Rattle.rolling.proofs.leaving.is_nonfinite.Statement.{statement}

@@ -1,7 +1,6 @@
 -- The number is put together as it is defined; the rows are tested where the lists are of one length. Assumes nothing.
-use Prim.Native.Nat.{_*_, _≤_}
 use mathlib.Core.Path.{_≡_, refl, ap, _∙_}
-use mathlib.Core.Bool.{Bool, _||_}
+use mathlib.Core.Bool.{_||_}
 use native.Mathlib.Omega.{arith}
 use Rattle.trace.specs.Refusals.{refusal, _orElse_, arrayRefusal}
 use Rattle.window.specs.Rows.{Plan}

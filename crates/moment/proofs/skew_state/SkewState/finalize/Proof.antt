@@ -1,5 +1,4 @@
 -- By the setting: a biased estimate has no correction. Assumes nothing.
-use mathlib.Core.Path.{_∙_}
 use borrow.Author.Needs.{needs}
 use Rattle.moment.specs.Skew.{skewFinalize}
 use Rattle.moment.proofs.skew_state.SkewState.finalize.Statement.{statement}

@@ -1,5 +1,5 @@
 -- By the test and the figure. Assumes nothing.
-use mathlib.Core.Path.{_≡_, sym, _∙_}
+use mathlib.Core.Path.{sym, _∙_}
 use borrow.Author.Needs.{needs}
 use Rattle.rolling.proofs.kurtosis.KurtosisMoment.answer.Statement.{statement}
 use Rattle.rolling.proofs.kurtosis.KurtosisMoment.answer.Tie as tie

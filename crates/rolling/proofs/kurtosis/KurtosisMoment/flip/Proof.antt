@@ -1,10 +1,8 @@
 -- By the turns of a flip. Assumes nothing.
-use Prim.Native.Nat.{ℕ, _+_, _-_, _*_, _≤_, _<_}
-use mathlib.Core.Path.{_≡_, refl, sym, ap, _∙_}
-use mathlib.Core.List.{List, [], _∷_, _++_}
+use Prim.Native.Nat.{_-_}
 use native.Mathlib.Omega.{arith}
 use borrow.Author.Needs.{needs}
-use lib.ListN.{length, take, drop, length-set}
+use lib.ListN.{length-set}
 use Rattle.window.proofs.Readings.{Flipping, flipping-start, flipping-turn, flipping-done}
 use Rattle.rolling.proofs.Rolling.{puts5}
 use Rattle.rolling.specs.Moments.{kurtosis}

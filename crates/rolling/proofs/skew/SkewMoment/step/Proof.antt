@@ -1,5 +1,5 @@
 -- By whether the row moves the window. Assumes nothing.
-use mathlib.Core.Path.{_≡_, refl, sym, _∙_}
+use mathlib.Core.Path.{refl, sym, _∙_}
 use borrow.Author.Needs.{needs}
 use Rattle.rolling.proofs.skew.SkewMoment.step.Statement.{statement}
 use Rattle.rolling.proofs.skew.SkewMoment.step.Tie as tie
