@@ -1,7 +1,7 @@
 // Skewness over moving windows: 001's `SkewMoment` and `MomentWindow` over it. The two stacks lie in the work slice, states
 // of the front stack from its beginning, readings of the back stack from `base` on.
 ghost use mathlib.Core.Path.{_≡_};
-ghost use mathlib.Core.Bool.{false};
+ghost use mathlib.Core.Bool.{Bool, false};
 ghost use mathlib.Core.List.{_++_};
 ghost use Prim.Native.Nat.{_+_, _*_, _≤_, _<_};
 ghost use lib.ListN.{length, take, drop};
@@ -14,7 +14,7 @@ ghost use Rattle.window.specs.Readings.{series, ofReadings};
 ghost use Rattle.window.specs.Rows.{stepped};
 ghost use Rattle.window.specs.Stacks.{inMemory, frontStack, account, Counted, Leaves, Held, Pushed, topOf, answerBy, Movable, Moves, Accepted};
 ghost use Rattle.rolling.specs.Moments.{Asked, Skewness, skewLayout, skewness};
-ghost use Rattle.rolling.specs.Corrections.{Corrections, Weighed};
+ghost use Rattle.rolling.specs.Corrections.{Corrections, answered};
 ghost use Rattle.rolling.specs.Calls.{planOf, ask, lent, traceOf, Written};
 use crate::leaving;
 use crate::leaving::Left;
@@ -39,6 +39,15 @@ pub struct SkewPushed {
     pub back: usize,
     pub nonfinite: usize,
     pub agg_back: SkewState,
+}
+
+// A row whose window is done: the state to finalise, of so many readings, how many of the window are not finite, and whether
+// the row has enough.
+pub struct SkewPending {
+    pub state: SkewState,
+    pub valid: usize,
+    pub nonfinite: usize,
+    pub enough: bool,
 }
 
 impl SkewMoment {
@@ -324,48 +333,56 @@ impl SkewMoment {
         factor
     }
 
-    // 001's `get_moment`.
-    fn get_moment(
-        self,
+    // What is left of a row to finalise, of the window after its step.
+    fn prepare(
         work: &[f64],
         w: SkewWindow,
-        counts: &mut [u64],
-        factors: &mut [f64],
-    ) -> Figure
-        requires { ⌜ Weighed (w .window) (w .«agg_back») (now work) (now counts) (now factors) ⌝ }
-        ensures { λ r. ⌜ (r ≡ orNan (w .window .nonfinite) (skewFinalize (skewCombine (w .«agg_back») (topOf (ofReadings skewness) (now (work .entry)) (w .window .front))) (self .bias)))
-            × Corrections (now (counts .exit)) (now (factors .exit)) ⌝ }
-    {
-        let agg_back = w.agg_back;
-        let state = agg_back.combine(SkewMoment::last(work, w.window.front));
-        let correction = self.correction(counts, factors, w.window.front + w.window.back);
-        window::or_nan(
-            state.finalize_with(self.bias, correction),
-            w.window.nonfinite,
-        )
-    }
-
-    // The row's answer, of the window after its step.
-    fn answer(
-        self,
-        work: &[f64],
-        w: SkewWindow,
-        counts: &mut [u64],
-        factors: &mut [f64],
         has_map: bool,
         min_periods: usize,
         start: usize,
         end: usize,
-    ) -> Figure
-        requires { ⌜ Weighed (w .window) (w .«agg_back») (now work) (now counts) (now factors) × (start ≤ end) ⌝ }
-        ensures { λ r. ⌜ (r ≡ answerBy (ofReadings skewness) (λ z. skewFinalize z (self .bias)) «has_map» «min_periods» start end (w .window) (w .«agg_back») (now (work .entry)))
-            × Corrections (now (counts .exit)) (now (factors .exit)) ⌝ }
+    ) -> SkewPending
+        requires { ⌜ (4 * w .window .front ≤ length (now work)) × (w .window .front + w .window .back ≤ w .window .end) × (start ≤ end) ⌝ }
+        ensures { λ r. ⌜ ((bias : Bool) → answered bias r ≡ answerBy (ofReadings skewness) (λ z. skewFinalize z bias) «has_map» «min_periods» start end (w .window) (w .«agg_back») (now (work .entry)))
+            × (r .state .weight ≡ skewCombine (w .«agg_back») (topOf (ofReadings skewness) (now (work .entry)) (w .window .front)) .weight) × (r .valid ≡ w .window .front + w .window .back) ⌝ }
     {
+        let agg_back = w.agg_back;
+        let state = agg_back.combine(SkewMoment::last(work, w.window.front));
         let valid = w.window.front + w.window.back;
-        if row::is_valid(has_map, min_periods, valid, start, end) {
-            return self.get_moment(work, w, counts, factors);
+        let enough = row::is_valid(has_map, min_periods, valid, start, end);
+        SkewPending {
+            state,
+            valid,
+            nonfinite: w.window.nonfinite,
+            enough,
+        }
+    }
+
+    // 001's `get_moment`, and no figure for a row with too few readings.
+    fn finish(self, pending: SkewPending, counts: &mut [u64], factors: &mut [f64]) -> Figure
+        requires { ⌜ (pending .state .weight ≡ count (pending .valid)) × Corrections (now counts) (now factors) ⌝ }
+        ensures { λ r. ⌜ (r ≡ answered (self .bias) pending) × Corrections (now (counts .exit)) (now (factors .exit)) ⌝ }
+    {
+        if pending.enough {
+            let correction = self.correction(counts, factors, pending.valid);
+            let state = pending.state;
+            return window::or_nan(
+                state.finalize_with(self.bias, correction),
+                pending.nonfinite,
+            );
         }
         Figure::Missing
+    }
+
+    // Rows are finalised 16 at a time, so that their roots run side by side.
+    fn block_end(first: usize, rows: usize) -> usize
+        requires { ⌜ first < rows ⌝ }
+        ensures { λ r. ⌜ (first < r) × (r ≤ rows) × (r ≤ first + 16) ⌝ }
+    {
+        if rows - first <= 16 {
+            return rows;
+        }
+        first + 16
     }
 
     // Every row of an accepted plan.
@@ -400,34 +417,49 @@ impl SkewMoment {
         let mut counts = [0u64; 64];
         let none = SkewState::correction(0.0);
         let mut factors = [none; 64];
-        let mut row = 0;
-        while row < starts.len() {
-            let start = plan::place(starts[row]);
-            let end = plan::place(ends[row]);
-            w = SkewMoment::step(
-                work,
-                widest,
-                values,
-                has_map,
-                map,
-                w,
-                min_periods,
-                row,
-                start,
-                end,
-            );
-            let figure = self.answer(
-                work,
-                w,
-                &mut counts,
-                &mut factors,
-                has_map,
-                min_periods,
-                start,
-                end,
-            );
-            row::write(figures, present, row, figure);
-            row += 1;
+        let nothing = SkewPending {
+            state: SkewMoment::empty(),
+            valid: 0,
+            nonfinite: 0,
+            enough: false,
+        };
+        let mut pending = [nothing; 16];
+        let mut first: usize = 0;
+        while first < starts.len() {
+            let until = SkewMoment::block_end(first, starts.len());
+            let mut row = first;
+            while row < until {
+                let start = plan::place(starts[row]);
+                let end = plan::place(ends[row]);
+                w = SkewMoment::step(
+                    work,
+                    widest,
+                    values,
+                    has_map,
+                    map,
+                    w,
+                    min_periods,
+                    row,
+                    start,
+                    end,
+                );
+                pending[row - first] = SkewMoment::prepare(
+                    work,
+                    w,
+                    has_map,
+                    min_periods,
+                    start,
+                    end,
+                );
+                row += 1;
+            }
+            let mut done = first;
+            while done < until {
+                let figure = self.finish(pending[done - first], &mut counts, &mut factors);
+                row::write(figures, present, done, figure);
+                done += 1;
+            }
+            first = until;
         }
     }
 }

@@ -191,19 +191,27 @@ module _ (M : Moment) (final : M .State → Figure) (t : Series (M .Entry)) (min
     pub row-inside : (w' : Window) → Moved w' s e → w' .end ≤ n
     row-inside w' y = row-stepped w' y .inside
 
+    -- the row's figure is its answer
+    pub row-answer : {w' : Window} {agg' : M .State} {work' : List Float} {f : Figure} →
+        Moved w' s e → Held M t (M .inFront .width * widest) w' agg' work' → f ≡ answerBy M final (t .mapped) minPeriods s e w' agg' work' → f ≡ Answer k
+    unfolding accountAt answerAt
+    row-answer {w'} {agg'} {work'} {f} y held g =
+        let u = row-stepped w' y in
+        let a : account w' ≡ accountAt (t .valid) (t .mapped) minPeriods p (suc k) = as-listed w' y ∙ rw (row .at) in
+        let m : t .mapped ≡ true → (w' .start ≡ s) × (w' .end ≡ e) = λ z. (u .mapped z .0 ∙ sym s-is, u .mapped z .1 ∙ sym e-is) in
+        g ∙ answer-is M final t (M .inFront .width * widest) w' agg' work' held minPeriods s e m
+        ∙ rw (s-is, e-is) (ap (answerOf M final t minPeriods (rowStart p k) (rowEnd p k)) a)
+
     pub row-next : {w' : Window} {agg' : M .State} {work' out' : List Float} {pr' : List ℕ} {f : Figure} →
         Moved w' s e → Held M t (M .inFront .width * widest) w' agg' work' → length work' ≡ length work → drop need work' ≡ drop need work →
         f ≡ answerBy M final (t .mapped) minPeriods s e w' agg' work' →
         rows p ≤ length out₀ → rows p ≤ length pr₀ → out' ≡ set out k (doubleOf f) → pr' ≡ set pr k (byteOf f) →
         Row work₀ out₀ pr₀ need work' out' pr' w' agg' (k + 1)
-    unfolding accountAt answerAt
+    unfolding accountAt
     row-next {w'} {agg'} {work'} {out'} {pr'} {f} y held len rest g ho hp o q =
         let u = row-stepped w' y in
         let a : account w' ≡ accountAt (t .valid) (t .mapped) minPeriods p (suc k) = as-listed w' y ∙ rw (row .at) in
-        let m : t .mapped ≡ true → (w' .start ≡ s) × (w' .end ≡ e) = λ z. (u .mapped z .0 ∙ sym s-is, u .mapped z .1 ∙ sym e-is) in
-        let h : f ≡ Answer k =
-        g ∙ answer-is M final t (M .inFront .width * widest) w' agg' work' held minPeriods s e m
-        ∙ rw (s-is, e-is) (ap (answerOf M final t minPeriods (rowStart p k) (rowEnd p k)) a) in
+        let h : f ≡ Answer k = row-answer y held g in
         record {
           upto = omega arith;
           held = held;
