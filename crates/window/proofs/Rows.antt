@@ -1,6 +1,6 @@
 -- The rows of a plan, for any moment: with the window of the account after k rows, the next row's step and figure are the
 -- account's; so the outputs are its answers, row after row. Assumes nothing.
-use Prim.Native.Nat.{ℕ, zero, suc, _+_, _-_, _*_, _≤_, _<_}
+use Prim.Native.Nat.{ℕ, suc, _+_, _-_, _*_, _≤_, _<_}
 use mathlib.Core.Path.{_≡_, refl, sym, ap, _∙_, subst}
 use mathlib.Core.Bool.{Bool, true, false, cond, _||_}
 use mathlib.Core.List.{List, [], _∷_, _++_, append-assoc}
@@ -8,13 +8,12 @@ use native.Mathlib.Nat.{mul-zero, mul-le-mul-left, le-trans}
 use native.Mathlib.Numerals.{add-one}
 use native.Mathlib.Omega.{arith}
 use borrow.Author.Tests.{ne-eqb, le-leb, lt-leb}
-use lib.Dec.{leb, eqb}
-use lib.ListN.{length, take, drop, set, length-append, length-set, take-append-drop}
+use lib.Dec.{eqb}
+use lib.ListN.{length, drop, set, length-set, take-append-drop}
 use lib.Seq.{drop-at}
 use lib.Ieee.{Float}
 use Rattle.moment.specs.Figure.{doubleOf, byteOf}
 use Rattle.moment.specs.declared.Figure.{Figure}
-use Rattle.moment.specs.declared.Figure.the-variants.{Missing}
 use Rattle.window.specs.Places.{Series, validCount}
 use Rattle.window.specs.Window.{Account, Moment, front, moved, falling, orNan, figureOf}
 use Rattle.window.specs.Rows.{Plan, rows, rowStart, rowEnd, moves, stepped, accountAt, counted, answerOf, answerAt, table}

@@ -1,5 +1,5 @@
 -- By the callees; the correction of the count is the weight's. Assumes nothing.
-use mathlib.Core.Path.{_≡_, refl, ap, _∙_}
+use mathlib.Core.Path.{refl, ap, _∙_}
 use Rattle.window.specs.Window.{orNan}
 use Rattle.rolling.proofs.Corrections.{by-count}
 use borrow.Author.Needs.{needs}

@@ -1,5 +1,5 @@
 -- By the callees. Assumes nothing.
-use mathlib.Core.Path.{_≡_, refl, ap, _∙_}
+use mathlib.Core.Path.{refl, ap, _∙_}
 use Rattle.moment.specs.Skew.{skewCombine}
 use Rattle.moment.specs.declared.skew_state.SkewState.{SkewState}
 use borrow.Author.Needs.{needs}
