@@ -45,7 +45,7 @@ by-count r s e true n correction w c = rw e
 by-count r s e false n correction w c = rw (e, c refl, w)
 
 -- a slot taken by another count
-pub taken-slot : (counts : List ℕ) (factors : List Float) → Corrections counts factors → (i : ℕ) → i < 64 → (n : ℕ) (f : Float) → f ≡ skewCorrection (count n) →
+pub taken-slot : (counts : List ℕ) (factors : List Float) → Corrections counts factors → (i : ℕ) → i < 256 → (n : ℕ) (f : Float) → f ≡ skewCorrection (count n) →
     Corrections (set counts i n) (set factors i f)
 taken-slot counts factors c i h n f e =
     let l = c .counts-long in
@@ -56,7 +56,7 @@ taken-slot counts factors c i h n f e =
       slot = λ j k. at j k (eqb j i) refl;
     }
   where
-    at : (j : ℕ) → j < 64 → (b : Bool) → eqb j i ≡ b → getD (set factors i f) j nan ≡ skewCorrection (count (getD (set counts i n) j 0))
+    at : (j : ℕ) → j < 256 → (b : Bool) → eqb j i ≡ b → getD (set factors i f) j nan ≡ skewCorrection (count (getD (set counts i n) j 0))
     at j k true q =
         let z = eqb-true j i q in
         let l = c .counts-long in
@@ -65,10 +65,10 @@ taken-slot counts factors c i h n f e =
     at j k false q = rw (getD-set-other factors i j f nan (eqb-false j i q), getD-set-other counts i j n 0 (eqb-false j i q)) (c .slot j k)
 
 -- every slot holds the count 0
-pub first-slots : (f : Float) → f ≡ skewCorrection zero64 → Corrections (replicate {A = ℕ} 64 0) (replicate 64 f)
+pub first-slots : (f : Float) → f ≡ skewCorrection zero64 → Corrections (replicate {A = ℕ} 256 0) (replicate 256 f)
 first-slots f e =
     record {
-      counts-long = length-replicate {A = ℕ} 64 0;
-      factors-long = length-replicate 64 f;
-      slot = λ i h. rw (getD-replicate 64 i f nan h, getD-replicate {A = ℕ} 64 i 0 0 h) (e ∙ ap skewCorrection zero-is);
+      counts-long = length-replicate {A = ℕ} 256 0;
+      factors-long = length-replicate 256 f;
+      slot = λ i h. rw (getD-replicate 256 i f nan h, getD-replicate {A = ℕ} 256 i 0 0 h) (e ∙ ap skewCorrection zero-is);
     }

@@ -13,11 +13,11 @@ use Rattle.moment.specs.declared.Figure.the-variants.{Missing}
 use Rattle.window.specs.Window.{orNan}
 use Rattle.rolling.specs.declared.skew.SkewPending.{SkewPending}
 
--- in each of 64 slots a count of readings and its correction
+-- in each of 256 slots a count of readings and its correction
 pub record Corrections (counts : List ℕ) (factors : List Float) : Type 0 where
-  pub counts-long : length counts ≡ 64
-  pub factors-long : length factors ≡ 64
-  pub slot : (i : ℕ) → i < 64 → getD factors i nan ≡ skewCorrection (count (getD counts i 0))
+  pub counts-long : length counts ≡ 256
+  pub factors-long : length factors ≡ 256
+  pub slot : (i : ℕ) → i < 256 → getD factors i nan ≡ skewCorrection (count (getD counts i 0))
 
 -- the answer of a row whose window is done
 abbrev pub answered : Bool → SkewPending → Figure

@@ -59,7 +59,7 @@ impl SkewMoment {
     pub const PLACE: usize = SkewMoment::STATE + SkewMoment::ENTRY;
 
     // Counts whose correction is kept.
-    const SLOTS: usize = 64;
+    const SLOTS: usize = 256;
 
     fn empty() -> SkewState
         ensures { λ r. ⌜ r ≡ skewEmpty ⌝ }
@@ -414,9 +414,9 @@ impl SkewMoment {
             },
             agg_back: SkewMoment::empty(),
         };
-        let mut counts = [0u64; 64];
+        let mut counts = [0u64; 256];
         let none = SkewState::correction(0.0);
-        let mut factors = [none; 64];
+        let mut factors = [none; 256];
         let nothing = SkewPending {
             state: SkewMoment::empty(),
             valid: 0,

@@ -27,8 +27,8 @@ slice-read-result c = search needs
 returns-2 : tie.Need-returns-2
 returns-2 c =
     let a = c .before .before .before .before .before .before in
-    let h : a .args .valid % 64 < 64 = omega arith in
-    (λ z. a .pre .slot (a .args .valid % 64) h ∙ ap (λ n. skewCorrection (count n)) (c .before .if2 .taken), a .pre)
+    let h : a .args .valid % 256 < 256 = omega arith in
+    (λ z. a .pre .slot (a .args .valid % 256) h ∙ ap (λ n. skewCorrection (count n)) (c .before .if2 .taken), a .pre)
 
 nearest-u64-to-f64-requires : tie.Need-nearest-u64-to-f64-requires
 nearest-u64-to-f64-requires c κs = search needs
@@ -57,7 +57,7 @@ same-length-2 c = search needs
 returns-3 : tie.Need-returns-3
 returns-3 c =
     let a = c .before .before .before .before .before .before .before in
-    let h : a .args .valid % 64 < 64 = omega arith in
+    let h : a .args .valid % 256 < 256 = omega arith in
     let e = c .correction .ensures ∙ ap skewCorrection (c .before .nearest-u64-to-f64 .ensures) in
     (λ z. e, taken-slot _ _ (a .pre) _ h _ _ e)
 
