@@ -1,9 +1,9 @@
 -- Demand 3: a row's answer depends on the account, which no reading moves, and on the places of its own window, and where the minimum
 -- is not met there is no answer to compare; a variance's weight is the valid count, which tells where it is missing. Assumes nothing.
-use Prim.Native.Nat.{ℕ, zero, suc, _+_, _-_, _^_, _≤_, _<_}
+use Prim.Native.Nat.{ℕ, zero, suc, _+_, _-_, _≤_, _<_}
 use mathlib.Core.Path.{_≡_, refl, sym, ap, _∙_, subst}
 use mathlib.Core.Bool.{Bool, true, false, cond, not, _&&_, _||_}
-use mathlib.Core.List.{List, [], _∷_}
+use mathlib.Core.List.{_∷_}
 use mathlib.Core.Logic.{_⊎_, inl, inr}
 use native.Mathlib.Omega.{arith}
 use lib.Dec.{T, leb, eqb}
@@ -12,14 +12,13 @@ use lib.Ieee.{Float, isNan}
 use lib.Ieee.Scale.{finite}
 use borrow.Author.Tests.{le-leb, leb-true, leb-false, eqb-true}
 use Rattle.float.specs.Operators.{_⊖_, _⊘_, count}
-use Rattle.float.proofs.Counts.{zero-is}
 use Rattle.float.proofs.Signs.{nan-or-at-least-zero}
 use Rattle.trace.specs.Trace.{validAt}
 use Rattle.moment.specs.declared.var_state.VarState.{VarState}
 use Rattle.moment.specs.declared.Figure.{Figure}
 use Rattle.moment.specs.declared.Figure.the-variants.{Missing, Present}
 use Rattle.moment.specs.Var.{varEmpty, varCombine, notNegative, varFinalize}
-use Rattle.moment.proofs.Weights.{var-inserts-count, var-combine-count}
+use Rattle.moment.proofs.Weights.{var-parts-count}
 use Rattle.moment.proofs.Figures.{var-missing}
 use Rattle.window.specs.Places.{Series, entries, validCount, nonfiniteCount}
 use Rattle.window.specs.Window.{Account, front, back, rising, falling, asNan, orNan, figureOf}
@@ -164,22 +163,6 @@ module _ (q : Ask) (t t′ : Trace) (a : Alike t t′) (widest : ℕ) (plan : Pl
             ∙ ap (figureOf (momentOf (q .figure)) (finalOf (q .figure)) u′) (accounts e)
         go false e = refl
 
--- ---- a variance's weight
--- readings inserted in falling order
-falling-count : (xs : List Float) → length xs ≤ 2 ^ 53 → falling (ofReadings variance) xs .weight ≡ count (length xs)
-falling-count [] h = zero-is
-falling-count (x ∷ xs) h =
-    var-inserts-count (x ∷ []) (falling (ofReadings variance) xs) (length xs) (falling-count xs (omega arith)) (omega arith)
-    ∙ ap count (let e : length xs + 1 ≡ suc (length xs) = omega arith in e)
-
--- the two parts of a window, combined
-parts-count : (xs ys : List Float) → length xs + length ys ≤ 2 ^ 53
-    → varCombine (rising (ofReadings variance) varEmpty xs) (falling (ofReadings variance) ys) .weight ≡ count (length xs + length ys)
-parts-count xs ys h =
-    let z : 0 + length xs ≡ length xs = omega arith in
-    var-combine-count (rising (ofReadings variance) varEmpty xs) (falling (ofReadings variance) ys) (length xs) (length ys) (omega arith) (omega arith)
-    (var-inserts-count xs varEmpty 0 zero-is (omega arith) ∙ ap count z) (falling-count ys (omega arith))
-
 one-of : (a b : Bool) → T (a || b) → (a ≡ true) ⊎ (b ≡ true)
 one-of true b h = inl refl
 one-of false true h = inr refl
@@ -224,7 +207,7 @@ module _ (q : Ask) (t : Trace) (l : Lent) (c : Known q t l) where
         let b = count-le (w .valid) (w .entry) s e in
         let m : length (front w B) + length (back w B) ≡ N = two-counts (w .valid) (w .entry) (B .start) (B .split) (B .end) (i .start-le) (i .split-le) ∙ rw (x, y) in
         let o : length (back w B) + length (front w B) ≡ N = omega arith in
-        let f = parts-count (back w B) (front w B) (omega arith) ∙ ap count o in
+        let f = var-parts-count (back w B) (front w B) (omega arith) ∙ ap count o in
         let d : nonfiniteCount w (B .start) (B .end) ≡ nonfiniteCount w s e = rw (x, y) in
         ap (λ (z : ℕ). orNan z (varFinalize state ddof)) d ∙ ap (orNan (nonfiniteCount w s e)) (var-missing N (omega arith) state ddof byte f)
 
