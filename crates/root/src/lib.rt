@@ -1,9 +1,11 @@
 // The square root of a double, correctly rounded (document 01, "Root"). A guess is worked out in floats, since that is
 // quick, then checked and rounded in whole numbers; where it is too far off the root is found digit by digit.
 ghost use mathlib.Core.Path.{_≡_};
+ghost use mathlib.Core.List.{map};
 ghost use Prim.Native.Nat.{_+_, _*_, _/_, _%_, _^_, _<_, _≤_};
+ghost use lib.ListN.{length};
 ghost use lib.Ieee.{binary64, ofBits};
-ghost use Rattle.root.specs.Root.{root as rootOf, rootOfUnits, roundedRoot};
+ghost use Rattle.root.specs.Root.{root as rootOf, rootsInto, rootOfUnits, roundedRoot};
 
 // The whole number nearest to the root of a * 2^42, one binary digit a turn.
 fn digits(a: u64) -> u64
@@ -77,13 +79,19 @@ fn longhand(x: f64) -> f64
     }
 }
 
+// The bits of x, and 0 for NaN.
+fn bits(x: f64) -> u64
+    ensures { λ b. ⌜ (0 < b → ofBits binary64 b ≡ x) ⌝ }
+{
+    if x != x { 0 } else { f64::to_bits(x) }
+}
+
 // A guess at the root of x, from half of its bits: the bits of one over the root are near a constant less that half, a
 // polynomial of degree five in x * y * y mends them to 30 binary digits, and one step of Newton's method does the rest. It aims
 // half a unit in the last place too low, by a factor a little below 1, so that the root is the guess or the next number.
 // Nothing is claimed of it, since `settle` checks it.
-fn guess(x: f64, half: u64) -> f64
-    requires { ⌜ half < 0x4000000000000000 ⌝ }
-{
+fn guess(x: f64) -> f64 {
+    let half: u64 = (bits(x) % 0x8000000000000000) >> 1;
     let y: f64 = f64::from_bits(0x5fe6eb50c7b537a9 - half);
     let t: f64 = x * y;
     let u: f64 = t * y;
@@ -95,30 +103,38 @@ fn guess(x: f64, half: u64) -> f64
     g + (0.9999999999999999 * x - g * g) * ((0.5 * y) * p)
 }
 
-// What to add to r, 0 or 1, for the whole number nearest to the root of x * 2^52, and 2 where neither will do.
+// What the check of a guess finds: what to add to it, 0 or 1, and a doubt that is 0 where that gives the root.
+struct Settled {
+    more: u64,
+    doubt: u64,
+}
+
+// What to add to r, 0 or 1, for the whole number nearest to the root of x * 2^52, with a doubt above 0 where neither may do.
 // The square of r has more bits than a word, so it is taken off in parts: with r = high * 2^26 + low,
 // x * 2^52 - r * r = ((x - high * high) * 2^25 - high * low) * 2^27 - low * low. The 1 added to x, and taken off again as
-// 2^52, keeps the differences of a good guess above zero; others wrap around, and are too large.
-fn settle(x: u64, r: u64) -> u64
+// 2^52, keeps the differences of a good guess above zero; others wrap around, and are too large. There is no branch, so
+// that the roots of a list are checked side by side.
+fn settle(x: u64, r: u64) -> Settled
     requires { ⌜ (x < 2 ^ 54) × (r < 2 ^ 53) ⌝ }
-    ensures { λ t. ⌜ (t < 2 → r + t ≡ roundedRoot 0 (x * 2 ^ 52)) ⌝ }
+    ensures { λ s. ⌜ (s .more ≤ 1) × (s .doubt < 2 ^ 38) × (s .doubt ≡ 0 → r + s .more ≡ roundedRoot 0 (x * 2 ^ 52)) ⌝ }
 {
     let high: u64 = r >> 26;
     let low: u64 = r % 0x4000000;
     let upper: u64 = std::num::wrapping_sub_u64(x + 1, high * high);
-    if upper >= 0x20000000 {
-        return 2;
-    }
-    let lower: u64 = std::num::wrapping_sub_u64(upper * 0x2000000, high * low);
-    if lower >= 0x40000000 {
-        return 2;
-    }
+    let lower: u64 = std::num::wrapping_sub_u64((upper % 0x20000000) * 0x2000000, high * low);
     // x * 2^52 - r * r + r - 1
-    let rest: u64 = std::num::wrapping_sub_u64(lower * 0x8000000 + r, low * low + 0x10000000000001);
-    if rest >= r * 4 + 2 {
-        return 2;
+    let rest: u64 = std::num::wrapping_sub_u64(
+        (lower % 0x40000000) * 0x8000000 + r,
+        low * low + 0x10000000000001,
+    );
+    let near: u64 = rest % 0x200000000000000;
+    // 1 where near is 2 * r or more, and 1 where it is 4 * r + 2 or more
+    let more: u64 = (near + 0x1000000000000000 - r * 2) >> 60;
+    let far: u64 = (near + 0xffffffffffffffe - r * 4) >> 60;
+    Settled {
+        more,
+        doubt: (upper >> 29) + (lower >> 30) + (rest >> 57) + far,
     }
-    if rest >= r * 2 { 1 } else { 0 }
 }
 
 // The 53 digits of the normal double with the bits b, with one more where its exponent lends a factor of 2.
@@ -133,29 +149,92 @@ fn radicand(b: u64) -> u64
     }
 }
 
+// 0 for the bits of a positive normal number, and 1 or 2 for the others.
+fn special(b: u64) -> u64
+    ensures { λ s. ⌜ (s ≤ 2) × (s ≡ 0 → (2 ^ 52 ≤ b) × (b < 0x7ff0000000000000)) ⌝ }
+{
+    ((((b >> 52) + 4095) % 4096) + 2) >> 11
+}
+
+// What may be the root of a number, with a doubt that is 0 where it is, and 1 where it may not be.
+struct Checked {
+    root: f64,
+    doubt: u64,
+}
+
+// The root of x by the guess g, which is checked in whole numbers.
+fn candidate(x: f64, g: f64) -> Checked
+    ensures { λ c. ⌜ (c .doubt ≤ 1) × (c .doubt ≡ 0 → c .root ≡ rootOf x) ⌝ }
+{
+    let b: u64 = bits(x);
+    let half: u64 = (b % 0x8000000000000000) >> 1;
+    let base: u64 = ((half + 0x1fe8000000000000) >> 52) * 0x10000000000000;
+    let r: u64 = std::num::wrapping_sub_u64(bits(g), base) % 0x20000000000000;
+    let s = settle(radicand(b), r);
+    Checked {
+        root: f64::from_bits(base + r + s.more),
+        doubt: (s.doubt + special(b) + 0xffffffffff) >> 40,
+    }
+}
+
 // The double nearest to the root of x. That of a normal one is guessed in floats, since that is quick, and checked in whole
 // numbers.
 pub fn root(x: f64) -> f64
     ensures { λ r. ⌜ r ≡ rootOf x ⌝ }
 {
-    if x != x {
-        return longhand(x);
+    let c = candidate(x, guess(x));
+    if c.doubt == 0 { c.root } else { longhand(x) }
+}
+
+// A guess at the root of each number. Nothing is claimed of them.
+fn guesses(x: &[f64], out: &mut [f64])
+    requires { ⌜ length (now x) ≡ length (now out) ⌝ }
+{
+    let mut i: usize = 0;
+    while i < out.len() {
+        out[i] = guess(x[i]);
+        i += 1;
     }
-    let b: u64 = f64::to_bits(x);
-    if std::num::wrapping_sub_u64(b, 0x10000000000000) >= 0x7fe0000000000000 {
-        return longhand(x);
+}
+
+// The root of each number by its guess, which it takes the place of; the answer is how many are in doubt.
+fn candidates(x: &[f64], out: &mut [f64]) -> u64
+    requires { ⌜ length (now x) ≡ length (now out) ⌝ }
+    ensures { λ doubts. ⌜ (doubts ≤ length (now (x .entry))) × (doubts ≡ 0 → now (out .exit) ≡ map rootOf (now (x .entry))) ⌝ }
+{
+    let mut doubts: u64 = 0;
+    let mut i: usize = 0;
+    while i < out.len() {
+        let c = candidate(x[i], out[i]);
+        out[i] = c.root;
+        doubts += c.doubt;
+        i += 1;
     }
-    let half: u64 = b >> 1;
-    let g: f64 = guess(x, half);
-    if g != g {
-        return longhand(x);
+    doubts
+}
+
+// The root of each number, one after the other.
+fn each(x: &[f64], out: &mut [f64])
+    requires { ⌜ length (now x) ≡ length (now out) ⌝ }
+    ensures { λ _. ⌜ now (out .exit) ≡ map rootOf (now (x .entry)) ⌝ }
+{
+    let mut i: usize = 0;
+    while i < out.len() {
+        out[i] = root(x[i]);
+        i += 1;
     }
-    let exponent: u64 = (half + 0x1fe8000000000000) >> 52;
-    let base: u64 = exponent * 0x10000000000000;
-    let r: u64 = std::num::wrapping_sub_u64(f64::to_bits(g), base) % 0x20000000000000;
-    let more: u64 = settle(radicand(b), r);
-    if more >= 2 {
-        return longhand(x);
+}
+
+// The roots of a list, written to one of the same length; one of another length stays as it is. All are guessed and checked
+// side by side, and only where one is in doubt each is taken by itself.
+pub fn roots(x: &[f64], out: &mut [f64])
+    ensures { λ _. ⌜ now (out .exit) ≡ rootsInto (now (x .entry)) (now (out .entry)) ⌝ }
+{
+    if x.len() != out.len() {
+        return;
     }
-    f64::from_bits(base + r + more)
+    guesses(x, out);
+    if candidates(x, out) != 0 {
+        each(x, out);
+    }
 }
