@@ -27,6 +27,10 @@ parts r b =
       bottom = omega (arith, mul-le-mul L L);
     }
 
+-- the last of the doubts is small
+fits-sum : {t d : ℕ} → t < 2 ^ 63 → d < 2 ^ 63 → t + d / 2 ^ 60 < 2 ^ 64
+fits-sum h g = omega arith
+
 -- what is left of x * 2 ^ 52
 exactly : (x r h l upper lower rest : ℕ) → r ≡ h * 2 ^ 26 + l → upper + h * h ≡ x + 1 → lower + h * l ≡ upper * 2 ^ 25
     → rest + (l * l + (2 ^ 52 + 1)) ≡ lower * 2 ^ 27 + r → x * 2 ^ 52 + r ≡ r * r + rest + 1
@@ -38,47 +42,6 @@ exactly x r h l upper lower rest e a b d =
 unwrapped : (d a b : ℕ) → d < 2 ^ 63 → b < 2 ^ 63 → (d + b) % 2 ^ 64 ≡ a → d + b ≡ a
 unwrapped d a b h g e = omega arith
 
--- what is added, and what lies too far, of a remainder that is cut to 57 digits
-abbrev more : ℕ → ℕ → ℕ
-more r rest = (rest % 2 ^ 57 + 2 ^ 60 - r * 2) / 2 ^ 60
-
-abbrev far : ℕ → ℕ → ℕ
-far r rest = (rest % 2 ^ 57 + (2 ^ 60 - 2) - r * 4) / 2 ^ 60
-
-abbrev doubt : ℕ → ℕ → ℕ → ℕ → ℕ
-doubt r upper lower rest = upper / 2 ^ 29 + lower / 2 ^ 30 + rest / 2 ^ 57 + far r rest
-
-module _ (r rest : ℕ) (b : r < 2 ^ 53) where
-  far-most : far r rest ≤ 1
-  far-most = omega arith
-
-  more-most : more r rest ≤ 1
-  more-most = omega arith
-
-  no-more : rest < 2 ^ 57 → rest < r * 2 → more r rest ≡ 0
-  no-more c h = omega arith
-
-  some-more : rest < 2 ^ 57 → r * 2 ≤ rest → more r rest ≡ 1
-  some-more c h = omega arith
-
--- without doubt nothing is cut off
-record Sure (r upper lower rest : ℕ) : Type 0 where
-  top : upper < 2 ^ 29
-  middle : lower < 2 ^ 30
-  cut : rest < 2 ^ 57
-  close : rest < r * 4 + 2
-
-sure : (r upper lower rest : ℕ) → r < 2 ^ 53 → doubt r upper lower rest ≡ 0 → Sure r upper lower rest
-sure r upper lower rest b e =
-    let f : far r rest ≡ 0 = omega arith in
-    let cut : rest < 2 ^ 57 = omega arith in
-    record {
-      top = omega arith;
-      middle = omega arith;
-      cut = cut;
-      close = omega arith;
-    }
-
 -- n is r * r + rest + 1 - r
 module _ (n r rest : ℕ) (few : n < 2 ^ 106) (e : n + r ≡ r * r + rest + 1) where
   same : rest < r * 2 → r ≡ roundedRoot 0 n
@@ -87,37 +50,22 @@ module _ (n r rest : ℕ) (few : n < 2 ^ 106) (e : n + r ≡ r * r + rest + 1) w
   one-more : r * 2 ≤ rest → rest < r * 4 + 2 → r + 1 ≡ roundedRoot 0 n
   one-more h g = sym (rounded-to n (r + 1) few (omega arith) (omega arith) (omega arith))
 
-  settled : r < 2 ^ 53 → rest < 2 ^ 57 → rest < r * 4 + 2 → r + more r rest ≡ roundedRoot 0 n
-  settled b c g = elim (decLe (r * 2) rest) [
-    | yes h ↦ ap (λ (m : ℕ). r + m) (some-more r rest b c h) ∙ one-more h g
-    | no h ↦
-        let k : rest < r * 2 = lt-of-not-le h in
-        let z : r + more r rest ≡ r = omega (arith, no-more r rest b c k) in
-        z ∙ same k
-  ]
-
--- the result where there is no doubt
-nearest : (c : tie.After-wrapping-sub-u643) → let s = c .before .before .before in
-    let r = s .args .r in
+-- what is left is exact where no difference is too large
+left : (c : tie.After-wrapping-sub-u643) → let s = c .before .before .before in
     let rest = c .wrapping-sub-u643 .result in
-    doubt r (c .before .before .wrapping-sub-u64 .result) (c .before .wrapping-sub-u642 .result) rest ≡ 0
-    → r + more r rest ≡ roundedRoot 0 (s .args .x * 2 ^ 52)
-nearest c e =
+    c .before .before .wrapping-sub-u64 .result < 2 ^ 29 → c .before .wrapping-sub-u642 .result < 2 ^ 30 → rest < 2 ^ 57
+    → s .args .x * 2 ^ 52 + s .args .r ≡ s .args .r * s .args .r + rest + 1
+left c h k l =
     let s = c .before .before .before in
     let r = s .args .r in
     let p = parts r (s .pre .1) in
     let upper = c .before .before .wrapping-sub-u64 in
     let lower = c .before .wrapping-sub-u642 in
     let rest = c .wrapping-sub-u643 in
-    let v = sure r (upper .result) (lower .result) (rest .result) (s .pre .1) e in
-    let f : upper .result % 2 ^ 29 ≡ upper .result = omega (arith, v .top) in
-    let g : lower .result % 2 ^ 30 ≡ lower .result = omega (arith, v .middle) in
-    let left =
     exactly (s .args .x) r (r / 0x4000000) (r % 0x4000000) (upper .result) (lower .result) (rest .result) (omega arith)
-    (unwrapped (upper .result) _ _ (omega (arith, v .top)) (omega (arith, p)) (upper .ensures))
-    (unwrapped (lower .result) _ _ (omega (arith, v .middle)) (omega (arith, p)) (lower .ensures) ∙ ap (λ (z : ℕ). z * 2 ^ 25) f)
-    (unwrapped (rest .result) _ _ (omega (arith, v .cut)) (omega (arith, p)) (rest .ensures) ∙ ap (λ (z : ℕ). z * 2 ^ 27 + r) g) in
-    settled (s .args .x * 2 ^ 52) r (rest .result) (omega arith) left (s .pre .1) (v .cut) (v .close)
+    (unwrapped (upper .result) _ _ (omega arith) (omega (arith, p)) (upper .ensures))
+    (omega (arith, unwrapped (lower .result) _ _ (omega arith) (omega (arith, p)) (lower .ensures)))
+    (omega (arith, unwrapped (rest .result) _ _ (omega arith) (omega (arith, p)) (rest .ensures)))
 
 add-wrapping-sub-u64 : tie.Need-add-wrapping-sub-u64
 add-wrapping-sub-u64 c = search needs
@@ -177,14 +125,27 @@ add-t13 : tie.Need-add-t13
 add-t13 c = search needs
 
 add-t16 : tie.Need-add-t16
-add-t16 c = omega (arith, far-most (c .before .before .before .args .r) (c .wrapping-sub-u643 .result) (c .before .before .before .pre .1))
+add-t16 c = record { fits = fits-sum (omega arith) (omega arith) }
 
 returns : tie.Need-returns
 returns c =
-    let r = c .before .before .before .args .r in
-    let rest = c .wrapping-sub-u643 .result in
-    let b = c .before .before .before .pre .1 in
-    (more-most r rest b, omega (arith, far-most r rest b), nearest c)
+    let s = c .before .before .before in
+    let r = s .args .r in
+    let n = s .args .x * 2 ^ 52 in
+    let rest = c .wrapping-sub-u643 .result in (
+      omega arith,
+      omega arith,
+      λ e.
+      let top : c .before .before .wrapping-sub-u64 .result < 2 ^ 29 = omega arith in
+      let middle : c .before .wrapping-sub-u642 .result < 2 ^ 30 = omega arith in
+      let cut : rest < 2 ^ 57 = omega arith in
+      let close : rest < r * 4 + 2 = omega arith in
+      let few : n < 2 ^ 106 = omega arith in
+      elim (decLe (r * 2) rest) [
+        | yes h ↦ omega (arith, one-more n r rest few (left c top middle cut) h close)
+        | no h ↦ omega (arith, same n r rest few (left c top middle cut) (lt-of-not-le h))
+      ],
+    )
 
 pub settle-spec : {M : Type 1} → statement M
 settle-spec =
