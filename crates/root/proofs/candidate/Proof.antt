@@ -2,15 +2,17 @@
 -- root, and its bits give the exponent. Assumes nothing.
 use borrow.Author.Needs.{needs}
 use mathlib.Core.Path.{_≡_, ap, _∙_}
-use Prim.Native.Nat.{ℕ, _+_, _-_, _*_, _/_, _%_, _^_}
-use native.Mathlib.Nat.{add-assoc}
+use Prim.Native.Nat.{ℕ, _+_, _%_, _^_}
 use native.Mathlib.Omega.{arith}
-use lib.Ieee.{binary64, ofBits}
+use lib.Ieee.{Float, binary64, ofBits}
 use Rattle.root.specs.Root.{root}
 use Rattle.float.proofs.Patterns.{no-nan-bits}
 use Rattle.root.proofs.Patterns.{normal-root}
 use Rattle.root.proofs.candidate.Statement.{statement}
 use Rattle.root.proofs.candidate.Tie as tie
+
+same-bits : {v w : ℕ} {y : Float} → ofBits binary64 w ≡ y → v ≡ w → ofBits binary64 v ≡ y
+same-bits h e = ap (ofBits binary64) e ∙ h
 
 bits-requires : tie.Need-bits-requires
 bits-requires c κs = search needs
@@ -51,30 +53,23 @@ add-t12 c = search needs
 add-t13 : tie.Need-add-t13
 add-t13 c = search needs
 
--- the digits of the root beside its exponent, which half of the bits of x holds
-answer : (c : tie.After-struct-known2) → let b = c .before .before .before .before .before .before .before .bits .result in
-    let r = c .before .before .before .before .before .wrapping-sub-u64 .result % 2 ^ 53 in
-    let s = c .before .before .before .settle .result in
-    (s .doubt + c .before .special .result + (2 ^ 40 - 1)) / 2 ^ 40 ≡ 0
-    → ofBits binary64 ((b % 2 ^ 63 / 2 + 0x1fe8000000000000) / 2 ^ 52 * 2 ^ 52 + r + s .more)
-    ≡ root (c .before .before .before .before .before .before .before .before .args .x)
-answer c e =
-    let b = c .before .before .before .before .before .before .before .bits .result in
+returns : tie.Need-returns
+returns c =
+    let b = c .before .before .before .before .before .before .before .bits in
     let r = c .before .before .before .before .before .wrapping-sub-u64 .result % 2 ^ 53 in
     let w = c .before .before .before .before .radicand in
     let s = c .before .before .before .settle in
-    let d : s .result .doubt ≡ 0 = omega arith in
-    let z : c .before .special .result ≡ 0 = omega arith in
-    let normal = c .before .special .ensures .1 z in
-    let half : b % 2 ^ 63 / 2 ≡ b / 2 = omega arith in
-    let base = (b / 2 + 0x1fe8000000000000) / 2 ^ 52 * 2 ^ 52 in
-    ap (λ (h : ℕ). ofBits binary64 ((h + 0x1fe8000000000000) / 2 ^ 52 * 2 ^ 52 + r + s .result .more)) half
-    ∙ ap (ofBits binary64) (add-assoc base r (s .result .more))
-    ∙ normal-root b (w .result) (r + s .result .more) (normal .0) (normal .1) (w .ensures .1) (s .ensures .2 d) .1
-    ∙ ap root (c .before .before .before .before .before .before .before .bits .ensures (omega arith))
-
-returns : tie.Need-returns
-returns c = (omega (arith, c .before .before .before .settle .ensures .1, c .before .special .ensures .0), answer c)
+    let other = c .before .special in (
+      omega (arith, s .ensures .1, other .ensures .0),
+      λ e.
+          let d : s .result .doubt ≡ 0 = omega arith in
+          let z : other .result ≡ 0 = omega arith in
+          let normal = other .ensures .1 z in
+          same-bits
+          (normal-root (b .result) (w .result) (r + s .result .more) (normal .0) (normal .1) (w .ensures .1) (s .ensures .2 d) .1
+          ∙ ap root (b .ensures (omega arith)))
+          (omega arith),
+    )
 
 pub candidate-spec : {M : Type 1} → statement M
 candidate-spec =

@@ -136,15 +136,15 @@ returns c =
       omega arith,
       omega arith,
       λ e.
-      let top : c .before .before .wrapping-sub-u64 .result < 2 ^ 29 = omega arith in
-      let middle : c .before .wrapping-sub-u642 .result < 2 ^ 30 = omega arith in
-      let cut : rest < 2 ^ 57 = omega arith in
-      let close : rest < r * 4 + 2 = omega arith in
-      let few : n < 2 ^ 106 = omega arith in
-      elim (decLe (r * 2) rest) [
-        | yes h ↦ omega (arith, one-more n r rest few (left c top middle cut) h close)
-        | no h ↦ omega (arith, same n r rest few (left c top middle cut) (lt-of-not-le h))
-      ],
+          let top : c .before .before .wrapping-sub-u64 .result < 2 ^ 29 = omega arith in
+          let middle : c .before .wrapping-sub-u642 .result < 2 ^ 30 = omega arith in
+          let cut : rest < 2 ^ 57 = omega arith in
+          let close : rest < r * 4 + 2 = omega arith in
+          let few : n < 2 ^ 106 = omega arith in
+          elim (decLe (r * 2) rest) [
+            | yes h ↦ omega (arith, one-more n r rest few (left c top middle cut) h close)
+            | no h ↦ omega (arith, same n r rest few (left c top middle cut) (lt-of-not-le h))
+          ],
     )
 
 pub settle-spec : {M : Type 1} → statement M
