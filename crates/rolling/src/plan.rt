@@ -1,5 +1,6 @@
 // The checks of a plan call, and the decoding of a trace that is lent as bytes.
 ghost use mathlib.Core.Path.{_≡_};
+ghost use mathlib.Core.Bool.{false};
 ghost use mathlib.Core.List.{_++_};
 ghost use Prim.Native.Nat.{_+_, _*_, _≤_, _<_};
 ghost use lib.ListN.{length, drop};
@@ -22,8 +23,8 @@ pub(crate) fn place(bound: u32) -> usize
     bound as usize
 }
 
-// The row before is kept in locals: each row is read once.
-fn scan(n: usize, starts: &[u32], ends: &[u32]) -> Checked
+// Row by row. The row before is kept in locals: each row is read once.
+fn first_refusal(n: usize, starts: &[u32], ends: &[u32]) -> Checked
     requires { ⌜ length (now starts) ≡ length (now ends) ⌝ }
     ensures { λ r. ⌜ (r .number ≡ rowsRefusal n (planOf (now (starts .entry)) (now (ends .entry))) (length (now (starts .entry)))) × (r .widest ≤ n)
         × (r .number ≡ 0 → r .widest ≡ widest (planOf (now (starts .entry)) (now (ends .entry))) (length (now (starts .entry)))) ⌝ }
@@ -46,6 +47,59 @@ fn scan(n: usize, starts: &[u32], ends: &[u32]) -> Checked
         row += 1;
     }
     Checked { number: 0, widest }
+}
+
+// Whether a row of a plan is refused, and the widest window where none is.
+struct Tested {
+    refused: bool,
+    widest: u32,
+}
+
+// The rows' tests alone, without a branch on a row, so that several rows are tested at once. A width that wraps is one of a row
+// that is refused.
+fn test_rows(n: u32, starts: &[u32], ends: &[u32]) -> Tested
+    requires { ⌜ length (now starts) ≡ length (now ends) ⌝ }
+    ensures { λ r. ⌜ (r .refused ≡ false → (rowsRefusal n (planOf (now (starts .entry)) (now (ends .entry))) (length (now (starts .entry))) ≡ 0)
+        × (r .widest ≡ widest (planOf (now (starts .entry)) (now (ends .entry))) (length (now (starts .entry))))) ⌝ }
+{
+    if starts.len() == 0 {
+        return Tested {
+            refused: false,
+            widest: 0,
+        };
+    }
+    let start = starts[0];
+    let end = ends[0];
+    let mut refused = (end < start) | (n < end);
+    let mut widest = std::num::wrapping_sub_u32(end, start);
+    let mut row = 1;
+    while row < starts.len() {
+        let start = starts[row];
+        let end = ends[row];
+        let before_start = starts[row - 1];
+        let before_end = ends[row - 1];
+        refused = refused | (end < start) | (n < end) | (start < before_start) | (end < before_end);
+        let wide = std::num::wrapping_sub_u32(end, start);
+        widest = if widest < wide { wide } else { widest };
+        row += 1;
+    }
+    Tested { refused, widest }
+}
+
+// Most plans are accepted: the rows are walked for the number only where one is refused.
+fn scan(n: usize, starts: &[u32], ends: &[u32]) -> Checked
+    requires { ⌜ (length (now starts) ≡ length (now ends)) × (n ≤ 16777216) ⌝ }
+    ensures { λ r. ⌜ (r .number ≡ rowsRefusal n (planOf (now (starts .entry)) (now (ends .entry))) (length (now (starts .entry)))) × (r .widest ≤ n)
+        × (r .number ≡ 0 → r .widest ≡ widest (planOf (now (starts .entry)) (now (ends .entry))) (length (now (starts .entry)))) ⌝ }
+{
+    let tested = test_rows(n as u32, starts, ends);
+    if tested.refused {
+        return first_refusal(n, starts, ends);
+    }
+    Checked {
+        number: 0,
+        widest: place(tested.widest),
+    }
 }
 
 // Whether a plan call is accepted. A place of the widest window needs `each` doubles of the work slice, which has `work`; `short`

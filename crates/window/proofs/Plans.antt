@@ -7,9 +7,9 @@ use mathlib.Core.List.{List}
 use native.Mathlib.Nat.{add-zero, add-suc, le-refl, le-trans, mul-le-mul-left, mul-le-mul-right}
 use native.Mathlib.Numerals.{add-one}
 use native.Mathlib.Omega.{arith}
-use borrow.Author.Tests.{eq-eqb, ne-eqb, ltb-false, eqb-true, eqb-false, not-false}
+use borrow.Author.Tests.{eq-eqb, ne-eqb, le-ltb, ltb-false, eqb-true, eqb-false, not-false}
 use lib.Dec.{ltb, eqb, lit≤}
-use lib.ListN.{length}
+use lib.ListN.{length, getD}
 use Rattle.trace.specs.Refusals.{refusal, _orElse_, arrayRefusal}
 use Rattle.trace.proofs.Accepted.{none-of, not-refused}
 use Rattle.window.specs.Rows.{Plan, rows, rowStart, rowEnd}
@@ -29,6 +29,10 @@ first-stands a b h = rw (ne-eqb a 0 h)
 pub none-then : (a b : ℕ) → a ≡ 0 → a orElse b ≡ b
 unfolding _orElse_
 none-then a b h = rw (eq-eqb a 0 h)
+
+before-at : (bounds : List ℕ) (k : ℕ) → 1 ≤ k → before bounds k ≡ getD bounds (k - 1) 0
+before-at bounds zero h = absurd (omega arith)
+before-at bounds (suc k) h = let z : suc k - 1 ≡ k = omega arith in rw z
 
 module _ (n : ℕ) (p : Plan) where
   -- row k's own number
@@ -58,6 +62,12 @@ module _ (n : ℕ) (p : Plan) where
         starts = ltb-false _ _ (o .0);
         ends = ltb-false _ _ (o .1);
       }
+
+  -- a row none of whose tests fails is not refused
+  unrefused : (k : ℕ) → ltb (rowEnd p k) (rowStart p k) ≡ false → ltb n (rowEnd p k) ≡ false →
+      ltb (rowStart p k) (before (p .starts) k) ≡ false → ltb (rowEnd p k) (before (p .ends) k) ≡ false → Row k ≡ 0
+  unfolding rowRefusal refusal _orElse_
+  unrefused k a b c d = rw (a, b, c, d)
 
   rows-more : (k : ℕ) → rowsRefusal n p k ≡ 0 → rowsRefusal n p (suc k) ≡ Row k
   unfolding rowsRefusal
@@ -139,6 +149,30 @@ module _ (n : ℕ) (p : Plan) where
   unfolding widest
   scan-wide k w x e f = f ∙ rw (add-one, e)
 
+  -- ---- the pass that only asks whether a test fails
+  passed : (k w x : ℕ) → (rowsRefusal n p k ≡ 0) × (w ≡ widest p k) → Row k ≡ 0 →
+      (rowStart p k ≤ rowEnd p k → x ≡ max w (rowEnd p k - rowStart p k)) → (rowsRefusal n p (k + 1) ≡ 0) × (x ≡ widest p (k + 1))
+  passed k w x o e f = (scan-row k 0 (o .0) (sym e) refl, scan-wide k w x (o .1) (f (good k e .row)))
+
+  pub pass-first : (x : ℕ) → (rowStart p 0 ≤ rowEnd p 0 → x ≡ rowEnd p 0 - rowStart p 0) →
+      (ltb (rowEnd p 0) (rowStart p 0) || ltb n (rowEnd p 0)) ≡ false → (rowsRefusal n p 1 ≡ 0) × (x ≡ widest p 1)
+  unfolding rowsRefusal widest
+  pass-first x f t =
+      let a = neither _ _ t in
+      passed 0 0 x (refl, refl) (unrefused 0 (a .0) (a .1) (le-ltb (rowStart p 0) 0 (omega arith)) (le-ltb (rowEnd p 0) 0 (omega arith)))
+      (λ o. let z = f o in omega arith)
+
+  pub pass-row : (k w x : ℕ) (refused : Bool) → 1 ≤ k → (refused ≡ false → (rowsRefusal n p k ≡ 0) × (w ≡ widest p k)) →
+      (rowStart p k ≤ rowEnd p k → x ≡ max w (rowEnd p k - rowStart p k)) →
+      ((((refused || ltb (rowEnd p k) (rowStart p k)) || ltb n (rowEnd p k)) || ltb (rowStart p k) (getD (p .starts) (k - 1) 0)) || ltb (rowEnd p k) (getD (p .ends) (k - 1) 0))
+      ≡ false → (rowsRefusal n p (k + 1) ≡ 0) × (x ≡ widest p (k + 1))
+  pass-row k w x refused h i f t =
+      let d = neither _ _ t in
+      let c = neither _ _ (d .0) in
+      let b = neither _ _ (c .0) in
+      let a = neither _ _ (b .0) in
+      passed k w x (i (a .0)) (unrefused k (a .1) (b .1) (rw (before-at (p .starts) k h) (c .1)) (rw (before-at (p .ends) k h) (d .1))) f
+
 pub taken : (each n : ℕ) (has : Bool) (map : List ℕ) (p : Plan) (short : Bool) (figures present work : ℕ) →
     planRefusal each n has map p short figures present work ≡ 0 → Accepted each n p short figures present work (widest p (rows p))
 unfolding planRefusal
@@ -178,12 +212,12 @@ module _ (each n : ℕ) (has : Bool) (map : List ℕ) (p : Plan) (short : Bool) 
   pub same-lists : first ≡ 0 → length (p .starts) ≡ length (p .ends)
   same-lists z = eqb-true _ _ (not-false _ (neither _ _ (not-refused 4 _ (lit≤ tt) (none-of _ _ (sym first-is ∙ z) .1)) .0))
 
+  pub few-places : first ≡ 0 → n ≤ 16777216
+  few-places z = ltb-false _ _ (not-refused 1 _ (lit≤ tt) (none-of _ _ (none-of _ _ (sym first-is ∙ z) .0) .0))
+
   -- the work that is needed can be told in a usize
   pub needed-fits : each ≤ 6 → first ≡ 0 → (wide : ℕ) → wide ≤ n → each * wide ≤ 100663296
-  needed-fits h z wide w =
-      let a = none-of _ _ (none-of _ _ (sym first-is ∙ z) .0) in
-      let f = ltb-false _ _ (not-refused 1 _ (lit≤ tt) (a .0)) in
-      le-trans (mul-le-mul-left each (le-trans w f)) (mul-le-mul-right 16777216 h)
+  needed-fits h z wide w = le-trans (mul-le-mul-left each (le-trans w (few-places z))) (mul-le-mul-right 16777216 h)
 
   module _ (z : first ≡ 0) (found wide : ℕ) (found-is : found ≡ rowsRefusal n p (rows p)) (wide-is : found ≡ 0 → wide ≡ widest p (rows p)) (number : ℕ)
       (number-is : number ≡ found orElse refusal 12 (short || (ltb figures (rows p) || ltb present (rows p))) orElse refusal 13 (ltb work (each * wide))) where

@@ -5,7 +5,7 @@ use native.Mathlib.Omega.{arith}
 use Rattle.trace.specs.Refusals.{refusal, _orElse_, arrayRefusal}
 use Rattle.window.specs.Rows.{Plan}
 use Rattle.window.specs.Refusals.{wrongLists}
-use Rattle.window.proofs.Plans.{both-same, judged-first, same-lists, needed-fits, judged, judged-accepted}
+use Rattle.window.proofs.Plans.{both-same, judged-first, same-lists, few-places, needed-fits, judged, judged-accepted}
 use Rattle.rolling.specs.Calls.{planOf}
 use borrow.Author.Needs.{needs}
 use Rattle.rolling.proofs.plan.judge.Statement.{statement}
@@ -45,7 +45,10 @@ scan-requires : tie.Need-scan-requires
 scan-requires c κs =
     let a = c .before in
     let g = a .before .before .before .before .before .before .before .args in
-    same-lists (g .each) (g .n) (g .has-map) (g .map .now) (P a) (g .short) (g .figures) (g .present) (g .work) _ (first-is a) (c .if1 .left)
+    let z = c .if1 .left in (
+      same-lists (g .each) (g .n) (g .has-map) (g .map .now) (P a) (g .short) (g .figures) (g .present) (g .work) _ (first-is a) z,
+      few-places (g .each) (g .n) (g .has-map) (g .map .now) (P a) (g .short) (g .figures) (g .present) (g .work) _ (first-is a) z,
+    )
 
 either-requires-2 : tie.Need-either-requires-2
 either-requires-2 c κs = search needs
