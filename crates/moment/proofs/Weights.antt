@@ -6,6 +6,7 @@ use mathlib.Core.Bool.{Bool, true, false, cond}
 use mathlib.Core.List.{List, [], _∷_, foldl, foldr}
 use native.Mathlib.Nat.{add-zero}
 use native.Mathlib.Omega.{arith}
+use borrow.Author.Tests.{ne-eqb}
 use lib.Dec.{T, eqb, leb, eqb→eq}
 use lib.ListN.{length}
 use lib.Ieee.{Float, eq, le}
@@ -19,7 +20,7 @@ use Rattle.moment.specs.declared.kurtosis_state.KurtosisState.{KurtosisS
 use Rattle.moment.specs.Var.{varEmpty, varClear, varInsert, varMerge, varCombine}
 use Rattle.moment.specs.Cov.{covInsert, covMerge, covCombine}
 use Rattle.moment.specs.Pearson.{pearsonInsert, pearsonMerge, pearsonCombine}
-use Rattle.moment.specs.Skew.{skewEmpty, skewClear, skewInsert, skewMerge, skewCombine}
+use Rattle.moment.specs.Skew.{skewEmpty, skewClear, skewInserted, skewInsert, skewMerged, skewMerge, skewCombine}
 use Rattle.moment.specs.Kurtosis.{kurtosisClear, kurtosisInsert, kurtosisMerge, kurtosisCombine}
 
 -- ---- a weight that is the float of a count, compared
@@ -41,7 +42,7 @@ module _ {S A : Type 0} (weight : S → Float) (insert : S → A → S) (raises 
       ∙ ap count (let k : a + 1 + length xs ≡ a + suc (length xs) = omega arith in k)
 
   -- the same in falling order
-  falls-count : (xs : List A) (s : S) → weight s ≡ count 0 → length xs ≤ 2 ^ 53 → weight (foldr (λ x t. insert t x) s xs) ≡ count (length xs)
+  pub falls-count : (xs : List A) (s : S) → weight s ≡ count 0 → length xs ≤ 2 ^ 53 → weight (foldr (λ x t. insert t x) s xs) ≡ count (length xs)
   falls-count [] s e h = e
   falls-count (x ∷ xs) s e h =
       raises _ x ∙ ap (λ (w : Float). w ⊕ one64) (falls-count xs s e (omega arith)) ∙ count-one (length xs) (omega arith)
@@ -114,8 +115,18 @@ skew-cleared : (s : SkewState) → skewClear s .weight ≡ s .weight
 unfolding skewClear
 skew-cleared s = cleared skewWeight (eq (s .weight) zero64) s _ refl
 
+-- one reading more: its weight is not zero, so nothing is cleared
+pub skew-inserted : (s : SkewState) (x : Float) (n : ℕ) → n < 2 ^ 53 → s .weight ≡ count n → skewInserted s x ≡ skewInsert s x
+unfolding skewClear
+skew-inserted s x n h e =
+    let z = at-zero (s .weight ⊕ one64) (n + 1) (omega arith) (ap (λ (w : Float). w ⊕ one64) e ∙ count-one n (omega arith)) in
+    rw (z, ne-eqb (n + 1) 0 (λ y. omega arith))
+
 pub skew-inserts-count : (xs : List Float) (s : SkewState) (a : ℕ) → s .weight ≡ count a → a + length xs ≤ 2 ^ 53 → foldl skewInsert s xs .weight ≡ count (a + length xs)
 skew-inserts-count = inserts-count skewWeight skewInsert (λ s x. skew-cleared _)
+
+pub skew-falls-count : (xs : List Float) → length xs ≤ 2 ^ 53 → foldr (λ x s. skewInsert s x) skewEmpty xs .weight ≡ count (length xs)
+skew-falls-count xs h = falls-count skewWeight skewInsert (λ s x. skew-cleared _) xs skewEmpty zero-is h
 
 pub skew-combine-count : (s o : SkewState) (a b : ℕ) → a ≤ 2 ^ 53 → b ≤ 2 ^ 53 → s .weight ≡ count a → o .weight ≡ count b → skewCombine s o .weight ≡ count (a + b)
 unfolding skewCombine
@@ -124,6 +135,19 @@ skew-combine-count s o a b h k p q = combined-count skewWeight s o (skewMerge s 
 pub skew-parts-count : (xs ys : List Float) → length xs + length ys ≤ 2 ^ 53 →
     skewCombine (foldl skewInsert skewEmpty xs) (foldr (λ x s. skewInsert s x) skewEmpty ys) .weight ≡ count (length xs + length ys)
 skew-parts-count = parts-count skewWeight skewInsert (λ s x. skew-cleared _) skewCombine skew-combine-count skewEmpty zero-is
+
+-- which state `combine` answers, told by the counts
+pub skew-by-counts : (s o : SkewState) (a b : ℕ) → a ≤ 2 ^ 53 → b ≤ 2 ^ 53 → s .weight ≡ count a → o .weight ≡ count b →
+    skewCombine s o ≡ cond (eqb b 0) s (cond (eqb a 0) o (skewMerge s o))
+unfolding skewCombine
+skew-by-counts s o a b h k p q = rw (at-zero (o .weight) b k q, at-zero (s .weight) a h p)
+
+-- two states of readings: their weight together is not zero, so nothing is cleared
+pub skew-merged : (s o : SkewState) (a b : ℕ) → a ≤ 2 ^ 53 → b ≤ 2 ^ 53 → a + b ≤ 2 ^ 53 → 0 < a + b → s .weight ≡ count a → o .weight ≡ count b → skewMerged s o ≡ skewMerge s o
+unfolding skewClear
+skew-merged s o a b h k l m p q =
+    let z = at-zero (s .weight ⊕ o .weight) (a + b) l (ap (λ (w : Float). w ⊕ o .weight) p ∙ ap (λ (w : Float). count a ⊕ w) q ∙ count-add a b h k) in
+    rw (z, ne-eqb (a + b) 0 (λ y. omega arith))
 
 -- ---- kurtosis
 abbrev kurtosisWeight : KurtosisState → Float

@@ -29,25 +29,29 @@ skewNew xs = cond (eqb (length xs) 0) skewEmpty (skewAbout (count (length xs)) (
 unfoldable pub skewClear : SkewState → SkewState
 skewClear s = cond (eq (s .weight) zero64) (record { weight = s .weight; mean = zero64; m2 = zero64; m3 = zero64 }) s
 
--- `SkewState::insert_one`
-abbrev pub skewInsert : SkewState → Float → SkewState
-skewInsert s x =
+-- `SkewState::insert_one`, before its clear_zero_weight_nan
+abbrev pub skewInserted : SkewState → Float → SkewState
+skewInserted s x =
     let w = s .weight ⊕ one64 in
     let delta = x ⊖ s .mean in
     let deltaW = delta ⊘ w in
     let mean = s .mean ⊕ deltaW in
     let diff = s .weight ⊖ one64 in
     let update = (x ⊖ mean) ⊗ delta in
-    skewClear record {
+    record {
       weight = w;
       mean = mean;
       m2 = s .m2 ⊕ update;
       m3 = s .m3 ⊕ deltaW ⊗ (update ⊗ diff ⊖ three64 ⊗ s .m2);
     }
 
--- `SkewState::combine`, where neither weight is zero
-abbrev pub skewMerge : SkewState → SkewState → SkewState
-skewMerge s o =
+-- `SkewState::insert_one`
+abbrev pub skewInsert : SkewState → Float → SkewState
+skewInsert s x = skewClear (skewInserted s x)
+
+-- `SkewState::combine`, where neither weight is zero, before its clear_zero_weight_nan
+abbrev pub skewMerged : SkewState → SkewState → SkewState
+skewMerged s o =
     let w = s .weight ⊕ o .weight in
     let delta = o .mean ⊖ s .mean in
     let deltaW = delta ⊘ w in
@@ -56,12 +60,16 @@ skewMerge s o =
     let selfOther = s .weight ⊗ o .m2 in
     let otherSelf = o .weight ⊗ s .m2 in
     let update = o .weight ⊗ (o .mean ⊖ mean) ⊗ delta in
-    skewClear record {
+    record {
       weight = w;
       mean = mean;
       m2 = s .m2 ⊕ o .m2 ⊕ update;
       m3 = s .m3 ⊕ o .m3 ⊕ deltaW ⊗ (update ⊗ diff ⊕ three64 ⊗ (selfOther ⊖ otherSelf));
     }
+
+-- `SkewState::combine`, where neither weight is zero
+abbrev pub skewMerge : SkewState → SkewState → SkewState
+skewMerge s o = skewClear (skewMerged s o)
 
 -- `SkewState::combine`
 unfoldable pub skewCombine : SkewState → SkewState → SkewState

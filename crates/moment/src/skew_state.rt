@@ -4,7 +4,7 @@ ghost use Rattle.float.specs.Operators.{zero64};
 ghost use Prim.Native.Nat.{_+_, _^_, _<_};
 ghost use lib.ListN.{length};
 ghost use Rattle.trace.specs.Trace.{validAt, validFrom};
-ghost use Rattle.moment.specs.Skew.{skewEmpty, skewAbout, skewNew, skewInsert, skewMerge, skewCombine, skewBiased, skewCorrection, skewFinalize, skewFinalizeWith};
+ghost use Rattle.moment.specs.Skew.{skewEmpty, skewAbout, skewNew, skewInserted, skewInsert, skewMerged, skewCombine, skewBiased, skewCorrection, skewFinalize, skewFinalizeWith};
 ghost use Rattle.moment.specs.Arrays.{skewRange};
 use crate::Figure;
 use crate::SkewAnswer;
@@ -116,7 +116,7 @@ impl SkewState {
     }
 
     // The source's `clear_zero_weight_nan`, of a state whose weight is zero. The weight is tested before the other members are worked
-    // out: after them the compiler picks each member without a branch, which is slow.
+    // out.
     fn zero_weight(weight: f64) -> Self
         ensures { λ r. ⌜ r ≡ record { weight = weight; mean = zero64; m2 = zero64; m3 = zero64 } ⌝ }
     {
@@ -128,13 +128,11 @@ impl SkewState {
         }
     }
 
-    pub fn insert_one(self, x: f64) -> Self
-        ensures { λ r. ⌜ r ≡ skewInsert self x ⌝ }
+    // `insert_one` before its `clear_zero_weight_nan`, which changes nothing where the weight counts readings.
+    pub fn inserted(self, x: f64) -> Self
+        ensures { λ r. ⌜ r ≡ skewInserted self x ⌝ }
     {
         let new_weight = self.weight + 1.0;
-        if new_weight == 0.0 {
-            return SkewState::zero_weight(new_weight);
-        }
         let delta_mean = x - self.mean;
         let delta_mean_weight = delta_mean / new_weight;
         let new_mean = self.mean + delta_mean_weight;
@@ -150,14 +148,21 @@ impl SkewState {
         }
     }
 
-    // `combine` after its tests of weights.
-    fn merged(self, other: SkewState) -> Self
-        ensures { λ r. ⌜ r ≡ skewMerge self other ⌝ }
+    pub fn insert_one(self, x: f64) -> Self
+        ensures { λ r. ⌜ r ≡ skewInsert self x ⌝ }
     {
-        let new_weight = self.weight + other.weight;
+        let new_weight = self.weight + 1.0;
         if new_weight == 0.0 {
             return SkewState::zero_weight(new_weight);
         }
+        self.inserted(x)
+    }
+
+    // `combine` of two weights that are not zero, before its `clear_zero_weight_nan`.
+    pub fn merged(self, other: SkewState) -> Self
+        ensures { λ r. ⌜ r ≡ skewMerged self other ⌝ }
+    {
+        let new_weight = self.weight + other.weight;
         let delta_mean = other.mean - self.mean;
         let delta_mean_weight = delta_mean / new_weight;
         let new_mean = self.mean + other.weight * delta_mean_weight;
@@ -187,6 +192,10 @@ impl SkewState {
         if self.weight == 0.0 {
             return other;
         }
+        let new_weight = self.weight + other.weight;
+        if new_weight == 0.0 {
+            return SkewState::zero_weight(new_weight);
+        }
         self.merged(other)
     }
 
@@ -208,7 +217,7 @@ impl SkewState {
     }
 
     // `finalize` with the correction of its weight, which many states may share; a biased estimate does without.
-    pub fn finalize_with(self, bias: bool, correction: f64) -> Figure
+    fn finalize_with(self, bias: bool, correction: f64) -> Figure
         ensures { λ r. ⌜ r ≡ skewFinalizeWith self bias correction ⌝ }
     {
         let biased_est = self.biased();

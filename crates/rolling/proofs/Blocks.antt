@@ -1,113 +1,141 @@
--- The rows of a plan of skewness, a block at a time: rows that wait for their figures, and the outputs. Assumes nothing.
+-- The rows of a plan of skewness, a block at a time: the window goes from row to row, bytes are written, and the rows' slots come to
+-- the doubles of their answers. Assumes nothing.
 use Prim.Native.Nat.{ℕ, _+_, _-_, _*_, _≤_, _<_}
-use mathlib.Core.Path.{_≡_, refl, ap, _∙_}
+use mathlib.Core.Path.{_≡_, refl, sym, ap, _∙_}
 use mathlib.Core.Bool.{Bool, true, false}
-use mathlib.Core.List.{List, _++_}
+use mathlib.Core.List.{List, _++_, append-assoc}
 use native.Mathlib.Omega.{arith}
 use borrow.Author.Tests.{eqb-true, eqb-false}
 use lib.Dec.{eqb}
-use lib.ListN.{length, set, drop, getD, length-set}
-use lib.Seq.{getD-set-same, getD-set-other}
-use lib.Ieee.{Float}
-use Rattle.float.specs.Operators.{count}
+use lib.ListN.{length, set, take, drop, length-set, length-append, length-take, length-drop}
+use lib.Seq.{getD-set-same, getD-set-other, take-at, drop-at, drop-drop}
+use lib.Ieee.{Float, nan}
 use Rattle.moment.specs.Figure.{doubleOf, byteOf}
 use Rattle.moment.specs.declared.Figure.{Figure}
 use Rattle.moment.specs.declared.skew_state.SkewState.{SkewState}
 use Rattle.moment.specs.Skew.{skewFinalize}
 use Rattle.window.specs.Places.{Series}
-use Rattle.window.specs.Rows.{Plan, rows, answerAt, table}
+use Rattle.window.specs.Rows.{Plan, rows, table}
 use Rattle.window.specs.Readings.{ofReadings}
+use Rattle.window.specs.Stacks.{Standing}
 use Rattle.window.specs.declared.Window.{Window}
 use Rattle.window.proofs.Rows.{Row}
-use Rattle.window.proofs.Tables.{table-more}
+use Rattle.window.proofs.Tables.{table-length, table-more, table-join}
 use Rattle.rolling.specs.Moments.{skewness}
-use Rattle.rolling.specs.Corrections.{answered}
-use Rattle.rolling.specs.declared.skew.SkewPending.{SkewPending}
+use Rattle.rolling.specs.Slots.{Corrections, doubleAt, Waits, skewAnswer, Filled}
 
 module _ (bias : Bool) (t : Series Float) (minPeriods n widest : ℕ) (p : Plan) where
-  abbrev pub Answer : ℕ → Figure
-  Answer k = answerAt (ofReadings skewness) (λ z. skewFinalize z bias) t minPeriods p k
+  abbrev Answer : ℕ → Figure
+  Answer k = skewAnswer bias t minPeriods p k
 
-  abbrev pub RowOf : (work₀ out₀ : List Float) (pr₀ : List ℕ) (work out : List Float) (pr : List ℕ) (w : Window) (agg : SkewState) (k : ℕ) → Type 0
+  -- before the block's first row
+  pub filled-start : {first : ℕ} {work : List Float} {present : List ℕ} {w : Window} {agg : SkewState} {counts : List ℕ} {corrections m2s m3s factors : List Float} →
+      Standing (ofReadings skewness) t minPeriods n widest p w agg work first → Corrections counts corrections → length m2s ≡ 32 → length m3s ≡ 32 → length factors ≡ 32 →
+      Filled bias t minPeriods n widest p first work work present present w agg counts corrections m2s m3s factors first
+  filled-start stand c x y z =
+      record {
+        standing = stand;
+        work-same = refl;
+        work-rest = refl;
+        present-same = refl;
+        bytes = λ l h e. e;
+        kept = c;
+        m2s-long = x;
+        m3s-long = y;
+        factors-long = z;
+        slots = λ j g h. absurd (omega arith);
+      }
+
+  -- one row more: the window after its step, its byte and its slot
+  pub filled-next : {first k byte : ℕ} {work₀ work work' : List Float} {present₀ present : List ℕ} {w w' : Window} {agg agg' : SkewState} {counts counts' : List ℕ}
+      {corrections corrections' m2s m3s factors m2s' m3s' factors' : List Float} {f : Figure} →
+      Filled bias t minPeriods n widest p first work₀ work present₀ present w agg counts corrections m2s m3s factors k → first ≤ k → k - first < 32 → k < rows p →
+      Standing (ofReadings skewness) t minPeriods n widest p w' agg' work' (k + 1) → length work' ≡ length work → drop (5 * widest) work' ≡ drop (5 * widest) work →
+      Waits bias f (k - first) byte m2s m3s factors m2s' m3s' factors' → f ≡ Answer k → Corrections counts' corrections' →
+      Filled bias t minPeriods n widest p first work₀ work' present₀ (set present k byte) w' agg' counts' corrections' m2s' m3s' factors' (k + 1)
+  filled-next {first} {k} {byte} {present = present} {m2s = m2s} {m3s = m3s} {factors = factors} {m2s' = m2s'} {m3s' = m3s'} {factors' = factors'} {f = f} v g h more stand len rest q e c =
+      record {
+        standing = stand;
+        work-same = len ∙ v .work-same;
+        work-rest = rest ∙ v .work-rest;
+        present-same = simp length-set (v .present-same);
+        bytes = λ l fits old. rw (v .bytes l fits old) (table-more (λ j. byteOf (Answer j)) l k byte (q .byte-is ∙ ap byteOf e) (omega arith));
+        kept = c;
+        m2s-long = ap length (q .second-at) ∙ simp length-set (v .m2s-long);
+        m3s-long = ap length (q .third-at) ∙ simp length-set (v .m3s-long);
+        factors-long = ap length (q .factor-at) ∙ simp length-set (v .factors-long);
+        slots = λ j i l. rw (q .second-at, q .third-at, q .factor-at) (at j i l (eqb j k) refl);
+      }
+    where
+      at : (j : ℕ) → first ≤ j → j < k + 1 → (y : Bool) → eqb j k ≡ y →
+          doubleAt bias (set m2s (k - first) (q .second)) (set m3s (k - first) (q .third)) (set factors (k - first) (q .factor)) (j - first) ≡ doubleOf (Answer j)
+      at j i l true y =
+          let z = eqb-true j k y in
+          let a = v .m2s-long in
+          let b = v .m3s-long in
+          let d = v .factors-long in
+          rw (
+            z,
+            getD-set-same m2s (k - first) (q .second) nan (omega arith),
+            getD-set-same m3s (k - first) (q .third) nan (omega arith),
+            getD-set-same factors (k - first) (q .factor) nan (omega arith),
+          )
+          (q .double-is ∙ ap doubleOf e)
+      at j i l false y =
+          let z = eqb-false j k y in
+          let s : j < k = omega arith in
+          let o : j - first ≡ k - first → ⊥ = λ x. z (omega arith) in
+          rw (
+            getD-set-other m2s (k - first) (j - first) (q .second) nan o,
+            getD-set-other m3s (k - first) (j - first) (q .third) nan o,
+            getD-set-other factors (k - first) (j - first) (q .factor) nan o,
+          )
+          (v .slots j i s)
+
+  -- the doubles of a block's slots, written behind those of the rows before it
+  written : (out₀ out₁ out r m2s m3s factors : List Float) (first until : ℕ) → first ≤ until → until ≤ rows p → rows p ≤ length out₀ →
+      out₁ ≡ table (λ j. doubleOf (Answer j)) first ++ drop first out₀ →
+      ((j : ℕ) → first ≤ j → j < until → doubleAt bias m2s m3s factors (j - first) ≡ doubleOf (Answer j)) →
+      r ≡ table (doubleAt bias m2s m3s factors) (until - first) → out ≡ take first out₁ ++ (r ++ drop (until - first) (drop first out₁)) →
+      out ≡ table (λ j. doubleOf (Answer j)) until ++ drop until out₀
+  written out₀ out₁ out r m2s m3s factors first until a b h e slots g o =
+      let D : ℕ → Float = λ j. doubleOf (Answer j) in
+      let T = table D first in
+      let l : length T ≡ first = table-length D first in
+      let x : take first out₁ ≡ T = ap (take first) e ∙ take-at T (drop first out₀) first l in
+      let n : first + (until - first) ≡ until = omega arith in
+      let y : drop (until - first) (drop first out₁) ≡ drop until out₀ =
+      ap (λ (k : List Float). drop (until - first) (drop first k)) e
+      ∙ ap (drop (until - first)) (drop-at T (drop first out₀) first l)
+      ∙ drop-drop (until - first) first out₀ ∙ ap (λ (k : ℕ). drop k out₀) n in
+      let t : T ++ table (doubleAt bias m2s m3s factors) (until - first) ≡ table D until =
+      table-join D (doubleAt bias m2s m3s factors) first (until - first)
+      (λ i k.
+      let z : first + i - first ≡ i = omega arith in
+      ap (doubleAt bias m2s m3s factors) (sym z) ∙ slots (first + i) (omega arith) (omega arith))
+      ∙ ap (table D) n in
+      o ∙ rw (x, y, g) (sym (append-assoc T (table (doubleAt bias m2s m3s factors) (until - first)) (drop until out₀)) ∙ ap (λ (k : List Float). k ++ drop until out₀) t)
+
+  abbrev RowOf : (work₀ out₀ : List Float) (pr₀ : List ℕ) (work out : List Float) (pr : List ℕ) (w : Window) (agg : SkewState) (k : ℕ) → Type 0
   RowOf work₀ out₀ pr₀ work out pr w agg k =
       Row (ofReadings skewness) (λ z. skewFinalize z bias) t minPeriods n widest p work₀ out₀ pr₀ (5 * widest) work out pr w agg k
 
-  -- what is left of row j
-  pub record Waiting (q : SkewPending) (j : ℕ) : Type 0 where
-    pub is : answered bias q ≡ Answer j
-    pub weight-is : q .state .weight ≡ count (q .valid)
-
-  -- the rows from `first` up to k wait; out and pr are the outputs that they will have
-  pub record Filling (work₀ work : List Float) (w : Window) (agg : SkewState) (pending : List SkewPending) (first k until : ℕ) : Type 0 where
-    pub out₀ : List Float
-    pub out : List Float
-    pub pr₀ : List ℕ
-    pub pr : List ℕ
-    pub out-fits : rows p ≤ length out₀
-    pub pr-fits : rows p ≤ length pr₀
-    pub row : RowOf work₀ out₀ pr₀ work out pr w agg k
-    pub from : first ≤ k
-    pub upto : k ≤ until
-    pub long : length pending ≡ 16
-    pub slots : (j : ℕ) → first ≤ j → j < k → (d : SkewPending) → Waiting (getD pending (j - first) d) j
-
-  -- one row more waits
-  pub slots-next : (pending : List SkewPending) (first k : ℕ) → length pending ≡ 16 → first ≤ k → k - first < 16 →
-      ((j : ℕ) → first ≤ j → j < k → (d : SkewPending) → Waiting (getD pending (j - first) d) j) → (q : SkewPending) → Waiting q k →
-      (j : ℕ) → first ≤ j → j < k + 1 → (d : SkewPending) → Waiting (getD (set pending (k - first) q) (j - first) d) j
-  slots-next pending first k l f h old q new j g i d = go (eqb j k) refl
-    where
-      go : (b : Bool) → eqb j k ≡ b → Waiting (getD (set pending (k - first) q) (j - first) d) j
-      go true e = let z = eqb-true j k e in rw (z, getD-set-same pending (k - first) q d (omega arith)) new
-      go false e =
-          let z = eqb-false j k e in
-          let s : j < k = omega arith in
-          rw (getD-set-other pending (k - first) (j - first) q d (λ y. z (omega arith))) (old j g s d)
-
-  -- the outputs of k rows
-  pub record Outputs (out₀ : List Float) (pr₀ : List ℕ) (out : List Float) (pr : List ℕ) (k : ℕ) : Type 0 where
-    pub out-fits : rows p ≤ length out₀
-    pub pr-fits : rows p ≤ length pr₀
-    pub out-same : length out ≡ length out₀
-    pub out-is : out ≡ table (λ j. doubleOf (Answer j)) k ++ drop k out₀
-    pub pr-same : length pr ≡ length pr₀
-    pub pr-is : pr ≡ table (λ j. byteOf (Answer j)) k ++ drop k pr₀
-
-  pub outputs-next : {out₀ out out' : List Float} {pr₀ pr pr' : List ℕ} {k : ℕ} {f : Figure} → Outputs out₀ pr₀ out pr k → k < rows p → f ≡ Answer k →
-      out' ≡ set out k (doubleOf f) → pr' ≡ set pr k (byteOf f) → Outputs out₀ pr₀ out' pr' (k + 1)
-  outputs-next {out₀} {out} {out'} {pr₀} {pr} {pr'} {k} {f} u more h o q =
-      let ho = u .out-fits in
-      let hp = u .pr-fits in
+  -- a block done, and its doubles written
+  pub block-next : {work₀ work₁ work out₀ out₁ out r corrections m2s m3s factors : List Float} {pr₀ pr₁ pr counts : List ℕ} {v w : Window} {a agg : SkewState} {first until : ℕ} →
+      RowOf work₀ out₀ pr₀ work₁ out₁ pr₁ v a first → Filled bias t minPeriods n widest p first work₁ work pr₁ pr w agg counts corrections m2s m3s factors until → first ≤ until →
+      rows p ≤ length out₀ → rows p ≤ length pr₀ → r ≡ table (doubleAt bias m2s m3s factors) (length (take (until - first) (drop first out₁))) →
+      out ≡ take first out₁ ++ (r ++ drop (until - first) (drop first out₁)) → RowOf work₀ out₀ pr₀ work out pr w agg until
+  block-next {out₀ = out₀} {out₁ = out₁} {out = out} {r = r} {m2s = m2s} {m3s = m3s} {factors = factors} {pr₀ = pr₀} {first = first} {until = until} o f h ho hp g e =
+      let u = f .standing .upto in
+      let q = o .out-same in
+      let m : length (take (until - first) (drop first out₁)) ≡ until - first = rw (length-take, length-drop) (omega arith) in
+      let d = written out₀ out₁ out r m2s m3s factors first until h u ho (o .out-is) (f .slots) (g ∙ ap (table (doubleAt bias m2s m3s factors)) m) e in
       record {
-        out-fits = u .out-fits;
-        pr-fits = u .pr-fits;
-        out-same = ap length o ∙ simp length-set (u .out-same);
-        out-is = o ∙ rw (u .out-is) (table-more (λ j. doubleOf (Answer j)) out₀ k (doubleOf f) (ap doubleOf h) (omega arith));
-        pr-same = ap length q ∙ simp length-set (u .pr-same);
-        pr-is = q ∙ rw (u .pr-is) (table-more (λ j. byteOf (Answer j)) pr₀ k (byteOf f) (ap byteOf h) (omega arith));
-      }
-
-  pub outputs-of : {work₀ out₀ work out : List Float} {pr₀ pr : List ℕ} {w : Window} {agg : SkewState} {k : ℕ} → RowOf work₀ out₀ pr₀ work out pr w agg k →
-      rows p ≤ length out₀ → rows p ≤ length pr₀ → Outputs out₀ pr₀ out pr k
-  outputs-of r ho hp =
-      record { out-fits = ho; pr-fits = hp; out-same = r .out-same; out-is = r .out-is; pr-same = r .pr-same; pr-is = r .pr-is }
-
-  -- the window of one and the outputs of the other
-  pub rejoined : {work₀ work₁ work out₀ out₁ out₂ out₃ out : List Float} {pr₀ pr₁ pr₂ pr₃ pr : List ℕ} {v w : Window} {a agg : SkewState} {i k : ℕ} →
-      RowOf work₀ out₀ pr₀ work₁ out₁ pr₁ v a i → RowOf work₁ out₂ pr₂ work out₃ pr₃ w agg k → Outputs out₀ pr₀ out pr k →
-      RowOf work₀ out₀ pr₀ work out pr w agg k
-  rejoined r s u =
-      record {
-        upto = s .upto;
-        held = s .held;
-        at = s .at;
-        wide = s .wide;
-        inside = s .inside;
-        ahead = s .ahead;
-        work-same = s .work-same ∙ r .work-same;
-        work-rest = s .work-rest ∙ r .work-rest;
-        out-same = u .out-same;
-        out-is = u .out-is;
-        pr-same = u .pr-same;
-        pr-is = u .pr-is;
+        standing = f .standing;
+        work-same = f .work-same ∙ o .work-same;
+        work-rest = f .work-rest ∙ o .work-rest;
+        out-same = ap length d ∙ simp (length-append, length-drop) (omega (arith, table-length (λ j. doubleOf (Answer j)) until));
+        out-is = d;
+        pr-same = f .present-same ∙ o .pr-same;
+        pr-is = f .bytes pr₀ hp (o .pr-is);
       }

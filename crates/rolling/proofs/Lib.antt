@@ -1,4 +1,4 @@
 pub mod Rolling
 pub mod Calls
 pub mod Blocks
-pub mod Corrections
+pub mod Slots

@@ -1,74 +1,264 @@
--- The weight of a window's state counts its readings, so a correction that is kept by the count is the weight's. Assumes nothing.
-use Prim.Native.Nat.{ℕ, _+_, _^_, _≤_, _<_}
-use mathlib.Core.Path.{_≡_, refl, ap, _∙_}
-use mathlib.Core.Bool.{Bool, true, false}
-use mathlib.Core.List.{List}
+-- A window's weights count its readings, so a correction that is kept by the count is the weight's; and a slot comes to the double
+-- of its row's answer. Assumes nothing.
+use Prim.Native.Nat.{ℕ, _+_, _-_, _^_, _≤_, _<_}
+use mathlib.Core.Path.{_≡_, refl, sym, ap, _∙_}
+use mathlib.Core.Bool.{Bool, true, false, cond}
+use mathlib.Core.List.{List, _++_, map}
 use native.Mathlib.Omega.{arith}
-use borrow.Author.Tests.{eqb-true, eqb-false}
-use lib.Dec.{eqb}
-use lib.ListN.{length, set, getD, length-set, replicate, length-replicate, getD-replicate}
-use lib.Seq.{getD-set-same, getD-set-other}
-use lib.Ieee.{Float, nan}
-use Rattle.float.specs.Operators.{zero64, count}
+use borrow.Author.Tests.{eqb-true, eqb-false, ne-eqb, leb-true, leb-false, le-leb, lt-leb, eq-eqb}
+use lib.Dec.{eqb, leb}
+use lib.ListN.{length, take, drop, set, getD, length-take, length-drop, length-set, length-map, List·getD-append, List·getD-map, replicate, length-replicate, getD-replicate}
+use lib.Seq.{getD-set-same, getD-set-other, getD-take}
+use lib.Ieee.{Float, nan, inf, fin, mul, div, ofBits}
+use Rattle.float.specs.Operators.{_⊗_, _⊘_, zero64, one64, count}
 use Rattle.float.proofs.Counts.{zero-is}
+use Rattle.root.specs.Root.{root, rootsInto}
+use Rattle.moment.specs.Figure.{doubleOf, byteOf}
 use Rattle.moment.specs.declared.skew_state.SkewState.{SkewState}
 use Rattle.moment.specs.declared.Figure.{Figure}
-use Rattle.moment.specs.Skew.{skewEmpty, skewCombine, skewCorrection, skewFinalize, skewFinalizeWith}
-use Rattle.moment.proofs.Weights.{skew-parts-count}
-use Rattle.window.specs.Places.{Series}
-use Rattle.window.specs.Window.{front, back, rising}
-use Rattle.window.specs.Readings.{ofReadings}
-use Rattle.window.specs.Stacks.{account, Held, topOf}
+use Rattle.moment.specs.declared.Figure.the-variants.{Missing as Figure·Missing, Present}
+use Rattle.moment.specs.Skew.{skewEmpty, skewInserted, skewInsert, skewCombine, isZero, skewBiased, skewCorrection, skewFinalize}
+use Rattle.moment.proofs.Weights.{skew-inserted, skew-inserts-count, skew-falls-count, skew-combine-count}
+use Rattle.moment.proofs.Figures.{skew-biased-missing, skew-unbiased-missing}
+use Rattle.window.specs.Places.{Series, entries}
+use Rattle.window.specs.Window.{front, back, orNan}
+use Rattle.window.specs.Readings.{series, ofReadings}
+use Rattle.window.specs.Rows.{table}
+use Rattle.window.specs.Stacks.{account, Held, topOf, answerBy}
 use Rattle.window.specs.declared.Window.{Window}
+use Rattle.window.proofs.Places.{count-le}
+use Rattle.window.proofs.Readings.{Flipping, Pushing}
 use Rattle.window.proofs.Rows.{top-is}
+use Rattle.window.proofs.Tables.{table-same}
 use Rattle.rolling.specs.Moments.{skewness}
-use Rattle.rolling.specs.Corrections.{Corrections}
+use Rattle.rolling.specs.declared.skew.SkewPending.{SkewPending}
+use Rattle.rolling.specs.declared.skew.SkewPending.the-variants.{Missing, State}
+use Rattle.rolling.specs.Slots.{Corrections, Weighed, secondOf, thirdOf, leastOf, estimate, doubleAt, pendingOf, Waits}
 
--- the weight of the state that a row finalises
-pub window-weight : (final : SkewState → Figure) (t : Series Float) (base : ℕ) (w : Window) (agg : SkewState) (work : List Float) → Held (ofReadings skewness) t base w agg work →
-    w .front + w .back ≤ 2 ^ 53 → skewCombine agg (topOf (ofReadings skewness) work (w .front)) .weight ≡ count (w .front + w .back)
-window-weight final t base w agg work held h =
-    let c = held .numbers in
-    let f = c .front-is in
-    let b = c .back-is in
-    let n : length (back t (account w)) + length (front t (account w)) ≡ w .front + w .back = omega arith in
-    ap (λ (s : SkewState). skewCombine s (topOf (ofReadings skewness) work (w .front)) .weight) (held .agg-is)
-    ∙ ap (λ (s : SkewState). skewCombine (rising (ofReadings skewness) skewEmpty (back t (account w))) s .weight) (top-is (ofReadings skewness) final t base w agg work held)
-    ∙ skew-parts-count (back t (account w)) (front t (account w)) (omega arith)
-    ∙ ap count n
+-- a state of readings inserted in rising order
+pub rising-weight : (t : Series Float) (base : ℕ) (w : Window) (agg : SkewState) (work : List Float) → Held (ofReadings skewness) t base w agg work → w .back ≤ 2 ^ 53 →
+    agg .weight ≡ count (w .back)
+rising-weight t base w agg work held h =
+    let b = held .numbers .back-is in
+    let k : 0 + length (back t (account w)) ≡ w .back = omega arith in
+    ap (λ (s : SkewState). s .weight) (held .agg-is) ∙ skew-inserts-count (back t (account w)) skewEmpty 0 zero-is (omega arith) ∙ ap count k
 
--- a state of that weight, finalised by the correction of the count
-pub by-count : (r s : SkewState) → r ≡ s → (bias : Bool) (n : ℕ) (correction : Float) → s .weight ≡ count n → (bias ≡ false → correction ≡ skewCorrection (count n)) →
-    skewFinalizeWith r bias correction ≡ skewFinalize s bias
-unfolding skewFinalize
-by-count r s e true n correction w c = rw e
-by-count r s e false n correction w c = rw (e, c refl, w)
+pub weighed : (t : Series Float) (base : ℕ) (w : Window) (agg : SkewState) (work : List Float) → Held (ofReadings skewness) t base w agg work →
+    w .front + w .back ≤ 2 ^ 53 → Weighed w agg work
+weighed t base w agg work held h =
+    let f = held .numbers .front-is in
+    record {
+      few = h;
+      back-is = rising-weight t base w agg work held (omega arith);
+      front-is = ap (λ (s : SkewState). s .weight) (top-is (ofReadings skewness) (λ z. Figure·Missing) t base w agg work held)
+          ∙ skew-falls-count (front t (account w)) (omega arith) ∙ ap count (sym f);
+    }
 
--- a slot taken by another count
-pub taken-slot : (counts : List ℕ) (factors : List Float) → Corrections counts factors → (i : ℕ) → i < 256 → (n : ℕ) (f : Float) → f ≡ skewCorrection (count n) →
-    Corrections (set counts i n) (set factors i f)
-taken-slot counts factors c i h n f e =
+pub total-weight : (w : Window) (agg : SkewState) (work : List Float) → Weighed w agg work →
+    skewCombine agg (topOf (ofReadings skewness) work (w .front)) .weight ≡ count (w .front + w .back)
+total-weight w agg work q =
+    let h = q .few in
+    let k : w .back + w .front ≡ w .front + w .back = omega arith in
+    skew-combine-count agg _ (w .back) (w .front) (omega arith) (omega arith) (q .back-is) (q .front-is) ∙ ap count k
+
+-- a turn of a flip inserts and clears nothing
+pub flip-inserted : (l₀ : List Float) (base n : ℕ) → base + n ≤ length l₀ → n ≤ 2 ^ 53 → {l : List Float} {agg : SkewState} {at j : ℕ} → Flipping skewness l₀ base n l agg at j → 0 < j →
+    (x : Float) → skewInserted agg x ≡ skewInsert agg x
+flip-inserted l₀ base n fits h {l} {agg} {at} {j} f g x =
+    let B = take n (drop base l₀) in
+    let k : length (drop j B) ≡ n - j = rw (length-drop, length-take, length-drop) (omega arith) in
+    let low = f .low in
+    skew-inserted agg x (length (drop j B)) (omega arith) (ap (λ (s : SkewState). s .weight) (f .agg-is) ∙ skew-falls-count (drop j B) (omega arith))
+
+-- nor does a turn of a push
+pub push-inserted : (has : Bool) (map : List ℕ) (values l₀ : List Float) (n nonfinite₀ : ℕ) (s₀ : SkewState) (a e : ℕ) {l : List Float} {many nonfinite : ℕ} {s : SkewState} {i : ℕ} →
+    Pushing skewness has map values l₀ n nonfinite₀ s₀ a e l many nonfinite s i → i < e → e ≤ 2 ^ 53 → n ≤ a → s₀ .weight ≡ count n →
+    (x : Float) → skewInserted s x ≡ skewInsert s x
+push-inserted has map values l₀ n nonfinite₀ s₀ a e {s = s} {i = i} f more h g w x =
+    let t = series has map values in
+    let l = entries (t .valid) (t .entry) a i in
+    let k = count-le (t .valid) (t .entry) a i in
+    let low = f .low in
+    skew-inserted s x (n + length l) (omega arith) (ap (λ (y : SkewState). y .weight) (f .now .agg-is) ∙ skew-inserts-count l s₀ n w (omega arith))
+
+-- ---- what a slot comes to
+div-nan : (y : Float) → nan ⊘ y ≡ nan
+unfolding div
+div-nan y = refl
+
+mul-nan : (x : Float) → x ⊗ nan ≡ nan
+unfolding mul
+mul-nan nan = refl
+mul-nan (inf s) = refl
+mul-nan (fin s m e) = refl
+
+-- a missing row's slot
+pub nothing : (bias : Bool) → estimate bias one64 zero64 zero64 (root one64) ≡ zero64
+unfolding root mul div ofBits
+nothing true = refl
+nothing false = refl
+
+-- too few readings
+pub too-few : (s : SkewState) (bias : Bool) (n nonfinite : ℕ) → n ≤ 2 ^ 53 → s .weight ≡ count n → leb (leastOf bias) n ≡ false → orNan nonfinite (skewFinalize s bias) ≡ Figure·Missing
+unfolding orNan
+too-few s bias n nonfinite h e f = ap (orNan nonfinite) (go bias f) ∙ same (eqb nonfinite 0)
+  where
+    same : (b : Bool) → cond b Figure·Missing Figure·Missing ≡ Figure·Missing
+    same true = refl
+    same false = refl
+
+    go : (bias : Bool) → leb (leastOf bias) n ≡ false → skewFinalize s bias ≡ Figure·Missing
+    go true f = skew-biased-missing n h s e ∙ rw (eq-eqb n 0 (let g = leb-false 1 n f in omega arith))
+    go false f = skew-unbiased-missing n h s e ∙ rw (le-leb n 2 (let g = leb-false 3 n f in omega arith))
+
+-- enough readings
+module _ (s : SkewState) (n nonfinite : ℕ) (h : n ≤ 2 ^ 53) (e : s .weight ≡ count n) where
+  abbrev R : Float
+  R = root (secondOf s)
+
+  figured : (bias : Bool) → leb (leastOf bias) n ≡ true → skewFinalize s bias ≡ Present (cond bias (skewBiased s) (skewCorrection (s .weight) ⊗ skewBiased s))
+  figured true f = skew-biased-missing n h s e ∙ rw (ne-eqb n 0 (λ z. let g = leb-true 1 n f in omega arith))
+  figured false f = skew-unbiased-missing n h s e ∙ rw (lt-leb n 2 (let g = leb-true 3 n f in omega arith))
+
+  biased-is : (b : Bool) → isZero (secondOf s) (s .mean) ≡ b → cond b nan (s .m3 ⊘ s .weight) ⊘ (secondOf s ⊗ R) ≡ skewBiased s
+  unfolding skewBiased
+  biased-is true z = rw z (div-nan _)
+  biased-is false z = rw z
+
+  pub present-double : (bias : Bool) (factor : Float) → leb (leastOf bias) n ≡ true → (bias ≡ false → factor ≡ skewCorrection (count n)) →
+      estimate bias (secondOf s) (thirdOf s nonfinite) factor R ≡ doubleOf (orNan nonfinite (skewFinalize s bias))
+  unfolding orNan
+  present-double bias factor f c = rw (figured bias f) (go bias c (eqb nonfinite 0))
+    where
+      go : (bias : Bool) → (bias ≡ false → factor ≡ skewCorrection (count n)) → (b : Bool) →
+          estimate bias (secondOf s) (cond b (cond (isZero (secondOf s) (s .mean)) nan (s .m3 ⊘ s .weight)) nan) factor R
+          ≡ doubleOf (cond b (Present (cond bias (skewBiased s) (skewCorrection (s .weight) ⊗ skewBiased s))) (Present nan))
+      go true c true = biased-is _ refl
+      go true c false = div-nan _
+      go false c true = rw (biased-is _ refl, c refl, e)
+      go false c false = rw div-nan (mul-nan factor)
+
+  pub present-byte : (bias : Bool) → leb (leastOf bias) n ≡ true → 1 ≡ byteOf (orNan nonfinite (skewFinalize s bias))
+  unfolding orNan
+  present-byte bias f = rw (figured bias f) (go (eqb nonfinite 0) _)
+    where
+      go : (b : Bool) (v : Float) → 1 ≡ byteOf (cond b (Present v) (Present nan))
+      go true v = refl
+      go false v = refl
+
+-- ---- a row that waits
+abbrev stateOr : SkewState → SkewPending → SkewState
+stateOr d Missing = d
+stateOr d (State s) = s
+
+abbrev tag : SkewPending → ℕ
+tag Missing = 0
+tag (State s) = 1
+
+module _ (bias mapped : Bool) (minPeriods s e : ℕ) (w : Window) (agg : SkewState) (work : List Float) where
+  abbrev N : ℕ
+  N = w .front + w .back
+
+  abbrev S : SkewState
+  S = skewCombine agg (topOf (ofReadings skewness) work (w .front))
+
+  -- a row without a state is missing
+  pub none-pending : Weighed w agg work → pendingOf bias mapped minPeriods s e w S ≡ Missing →
+      answerBy (ofReadings skewness) (λ z. skewFinalize z bias) mapped minPeriods s e w agg work ≡ Figure·Missing
+  unfolding pendingOf
+  none-pending q h = go (leb minPeriods (cond mapped N (e - s))) refl (leb (leastOf bias) N) refl h
+    where
+      go : (a : Bool) → leb minPeriods (cond mapped N (e - s)) ≡ a → (b : Bool) → leb (leastOf bias) N ≡ b → cond a (cond b (State S) Missing) Missing ≡ Missing →
+          answerBy (ofReadings skewness) (λ z. skewFinalize z bias) mapped minPeriods s e w agg work ≡ Figure·Missing
+      go true x true y z = absurd (let t : _≡_ {A = ℕ} 1 0 = ap tag z in omega arith)
+      go true x false y z = rw x (too-few S bias N (w .nonfinite) (q .few) (total-weight w agg work q) y)
+      go false x b y z = rw x
+
+  -- a row with a state has enough
+  pub some-pending : (state : SkewState) → pendingOf bias mapped minPeriods s e w S ≡ State state →
+      (leb minPeriods (cond mapped N (e - s)) ≡ true) × (leb (leastOf bias) N ≡ true) × (state ≡ S)
+  unfolding pendingOf
+  some-pending state h = go (leb minPeriods (cond mapped N (e - s))) refl (leb (leastOf bias) N) refl h
+    where
+      go : (a : Bool) → leb minPeriods (cond mapped N (e - s)) ≡ a → (b : Bool) → leb (leastOf bias) N ≡ b → cond a (cond b (State S) Missing) Missing ≡ State state →
+          (leb minPeriods (cond mapped N (e - s)) ≡ true) × (leb (leastOf bias) N ≡ true) × (state ≡ S)
+      go true x true y z = (x, y, sym (ap (stateOr state) z))
+      go true x false y z = absurd (let t : _≡_ {A = ℕ} 0 1 = ap tag z in omega arith)
+      go false x b y z = absurd (let t : _≡_ {A = ℕ} 0 1 = ap tag z in omega arith)
+
+pub missing-waits : (bias : Bool) (answer : Figure) → answer ≡ Figure·Missing → (k : ℕ) (m2s m3s factors : List Float) →
+    Waits bias answer k 0 m2s m3s factors (set m2s k one64) (set m3s k zero64) (set factors k zero64)
+missing-waits bias answer e k m2s m3s factors =
+    record {
+      second = one64;
+      third = zero64;
+      factor = zero64;
+      second-at = refl;
+      third-at = refl;
+      factor-at = refl;
+      double-is = rw e (nothing bias);
+      byte-is = rw e;
+    }
+
+pub present-waits : (bias : Bool) (s : SkewState) (n nonfinite : ℕ) → n ≤ 2 ^ 53 → s .weight ≡ count n → leb (leastOf bias) n ≡ true →
+    (factor : Float) → (bias ≡ false → factor ≡ skewCorrection (count n)) → (answer : Figure) → answer ≡ orNan nonfinite (skewFinalize s bias) →
+    (k : ℕ) (m2s m3s factors m2s' m3s' factors' : List Float) → m2s' ≡ set m2s k (secondOf s) → m3s' ≡ set m3s k (thirdOf s nonfinite) → factors' ≡ set factors k factor →
+    Waits bias answer k 1 m2s m3s factors m2s' m3s' factors'
+present-waits bias s n nonfinite h e f factor c answer a k m2s m3s factors m2s' m3s' factors' x y z =
+    record {
+      second = secondOf s;
+      third = thirdOf s nonfinite;
+      factor = factor;
+      second-at = x;
+      third-at = y;
+      factor-at = z;
+      double-is = present-double s n nonfinite h e bias factor f c ∙ ap doubleOf (sym a);
+      byte-is = present-byte s n nonfinite h e bias f ∙ ap byteOf (sym a);
+    }
+
+-- ---- a block of slots
+-- the root of slot i, of the roots r taken of the first n
+root-at : (m2s roots r : List Float) (n i : ℕ) → n ≤ length m2s → n ≤ length roots → r ≡ rootsInto (take n m2s) (take n roots) → i < n →
+    getD (r ++ drop n roots) i nan ≡ root (getD m2s i nan)
+unfolding rootsInto root
+root-at m2s roots r n i h k e l =
+    let a : length (take n m2s) ≡ n = rw length-take (omega arith) in
+    let b : length (take n roots) ≡ n = rw length-take (omega arith) in
+    let q : r ≡ map root (take n m2s) = e ∙ rw (a, b, eq-eqb n n refl) in
+    let m : i < length r = rw (q, length-map) (omega arith) in
+    List·getD-append r (drop n roots) nan i m ∙ rw q (List·getD-map root (take n m2s) i nan) ∙ ap root (getD-take n m2s i nan l)
+
+pub finished : (bias : Bool) (m2s m3s factors roots r : List Float) (n : ℕ) → n ≤ length m2s → n ≤ length roots → r ≡ rootsInto (take n m2s) (take n roots) →
+    table (λ i. estimate bias (getD m2s i nan) (getD m3s i nan) (getD factors i nan) (getD (r ++ drop n roots) i nan)) n ≡ table (doubleAt bias m2s m3s factors) n
+finished bias m2s m3s factors roots r n h k e =
+    table-same _ _ n (λ i l. ap (estimate bias (getD m2s i nan) (getD m3s i nan) (getD factors i nan)) (root-at m2s roots r n i h k e l))
+
+-- ---- corrections
+-- a place taken by another count
+pub taken-slot : (counts : List ℕ) (corrections : List Float) → Corrections counts corrections → (i : ℕ) → i < 256 → (n : ℕ) (f : Float) → f ≡ skewCorrection (count n) →
+    Corrections (set counts i n) (set corrections i f)
+taken-slot counts corrections c i h n f e =
     let l = c .counts-long in
-    let m = c .factors-long in
+    let m = c .corrections-long in
     record {
       counts-long = length-set counts i n ∙ l;
-      factors-long = length-set factors i f ∙ m;
+      corrections-long = length-set corrections i f ∙ m;
       slot = λ j k. at j k (eqb j i) refl;
     }
   where
-    at : (j : ℕ) → j < 256 → (b : Bool) → eqb j i ≡ b → getD (set factors i f) j nan ≡ skewCorrection (count (getD (set counts i n) j 0))
+    at : (j : ℕ) → j < 256 → (b : Bool) → eqb j i ≡ b → getD (set corrections i f) j nan ≡ skewCorrection (count (getD (set counts i n) j 0))
     at j k true q =
         let z = eqb-true j i q in
         let l = c .counts-long in
-        let m = c .factors-long in
-        rw (z, getD-set-same factors i f nan (omega arith), getD-set-same counts i n 0 (omega arith)) e
-    at j k false q = rw (getD-set-other factors i j f nan (eqb-false j i q), getD-set-other counts i j n 0 (eqb-false j i q)) (c .slot j k)
+        let m = c .corrections-long in
+        rw (z, getD-set-same corrections i f nan (omega arith), getD-set-same counts i n 0 (omega arith)) e
+    at j k false q = rw (getD-set-other corrections i j f nan (eqb-false j i q), getD-set-other counts i j n 0 (eqb-false j i q)) (c .slot j k)
 
--- every slot holds the count 0
+-- every place holds the count 0
 pub first-slots : (f : Float) → f ≡ skewCorrection zero64 → Corrections (replicate {A = ℕ} 256 0) (replicate 256 f)
 first-slots f e =
     record {
       counts-long = length-replicate {A = ℕ} 256 0;
-      factors-long = length-replicate 256 f;
+      corrections-long = length-replicate 256 f;
       slot = λ i h. rw (getD-replicate 256 i f nan h, getD-replicate {A = ℕ} 256 i 0 0 h) (e ∙ ap skewCorrection zero-is);
     }

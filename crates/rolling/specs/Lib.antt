@@ -1,4 +1,4 @@
--- In document 01's order: the three moments of windows, then the calls; last an invariant of the code.
+-- In document 01's order: the three moments of windows, then the calls; last what the code of skewness keeps.
 pub mod Moments
 pub mod Calls
-pub mod Corrections
+pub mod Slots

@@ -1,26 +1,27 @@
 // Skewness over moving windows: 001's `SkewMoment` and `MomentWindow` over it. The two stacks lie in the work slice, states
 // of the front stack from its beginning, readings of the back stack from `base` on.
 ghost use mathlib.Core.Path.{_≡_};
-ghost use mathlib.Core.Bool.{Bool, false};
+ghost use mathlib.Core.Bool.{false, cond};
 ghost use mathlib.Core.List.{_++_};
-ghost use Prim.Native.Nat.{_+_, _*_, _≤_, _<_};
-ghost use lib.ListN.{length, take, drop};
-ghost use Rattle.float.specs.Operators.{count};
+ghost use Prim.Native.Nat.{_+_, _*_, _^_, _≤_, _<_};
+ghost use lib.Dec.{leb};
+ghost use lib.ListN.{length, take, drop, set, getD};
+ghost use lib.Ieee.{nan};
+ghost use Rattle.float.specs.Operators.{_⊗_, count};
 ghost use Rattle.moment.specs.Skew.{skewEmpty, skewCombine, skewCorrection, skewFinalize};
 ghost use Rattle.trace.specs.Trace.{validAt};
 ghost use Rattle.window.specs.Places.{validCount};
 ghost use Rattle.window.specs.Window.{restarted, left, entered, moved};
 ghost use Rattle.window.specs.Readings.{series, ofReadings};
-ghost use Rattle.window.specs.Rows.{stepped};
-ghost use Rattle.window.specs.Stacks.{inMemory, frontStack, account, Counted, Leaves, Held, Pushed, topOf, answerBy, Movable, Moves, Accepted};
+ghost use Rattle.window.specs.Rows.{stepped, table};
+ghost use Rattle.window.specs.Stacks.{inMemory, frontStack, account, Counted, Leaves, Held, Pushed, topOf, answerBy, Movable, Moves, Planned, Accepted};
 ghost use Rattle.rolling.specs.Moments.{Skewness, skewLayout, skewness};
-ghost use Rattle.rolling.specs.Corrections.{Corrections, answered};
+ghost use Rattle.rolling.specs.Slots.{Corrections, Weighed, secondOf, thirdOf, leastOf, estimate, doubleAt, pendingOf, Waits, Filled};
 ghost use Rattle.rolling.specs.Calls.{planOf, ask, lent, traceOf, Written};
 use crate::leaving;
 use crate::leaving::Left;
 use crate::plan;
 use crate::row;
-use moment::Figure;
 use moment::SkewState;
 use window::Window;
 
@@ -41,13 +42,10 @@ pub struct SkewPushed {
     pub agg_back: SkewState,
 }
 
-// A row whose window is done: the state to finalise, of so many readings, how many of the window are not finite, and whether
-// the row has enough.
-pub struct SkewPending {
-    pub state: SkewState,
-    pub valid: usize,
-    pub nonfinite: usize,
-    pub enough: bool,
+// A row whose window is done: the state to finalise, or that the row is missing.
+pub enum SkewPending {
+    Missing,
+    State(SkewState),
 }
 
 impl SkewMoment {
@@ -69,7 +67,7 @@ impl SkewMoment {
 
     // The n readings of the back stack become the front stack, the last of them at its bottom.
     fn flip(work: &mut [f64], base: usize, n: usize)
-        requires { ⌜ (4 * n ≤ base) × (base + n ≤ length (now work)) ⌝ }
+        requires { ⌜ (4 * n ≤ base) × (base + n ≤ length (now work)) × (n ≤ 2 ^ 53) ⌝ }
         ensures { λ _. ⌜ now (work .exit) ≡ inMemory skewLayout (frontStack (ofReadings skewness) (take n (drop base (now (work .entry))))) ++ drop (4 * n) (now (work .entry)) ⌝ }
     {
         let mut agg = SkewMoment::empty();
@@ -77,7 +75,7 @@ impl SkewMoment {
         let mut j = n;
         while 0 < j {
             j -= 1;
-            agg = agg.insert_one(work[base + j]);
+            agg = agg.inserted(work[base + j]);
             work[at] = agg.weight;
             work[at + 1] = agg.mean;
             work[at + 2] = agg.m2;
@@ -98,7 +96,7 @@ impl SkewMoment {
         nonfinite: usize,
         agg_back: SkewState,
     ) -> SkewPushed
-        requires { ⌜ (a ≤ b) × (b ≤ length (now values)) × (1 * (n + validCount (series «has_map» (now map) (now values)) a b) ≤ length (now back)) × (nonfinite ≤ a) ⌝ }
+        requires { ⌜ (a ≤ b) × (b ≤ length (now values)) × (1 * (n + validCount (series «has_map» (now map) (now values)) a b) ≤ length (now back)) × (nonfinite ≤ a) × (b ≤ 2 ^ 53) × (n ≤ a) × («agg_back» .weight ≡ count n) ⌝ }
         ensures { λ q. ⌜ Pushed (ofReadings skewness) (series «has_map» (now (map .entry)) (now (values .entry))) (now (back .entry)) n nonfinite «agg_back» a b
             (now (back .exit)) (q .back) (q .nonfinite) (q .«agg_back») ⌝ }
     {
@@ -111,10 +109,10 @@ impl SkewMoment {
                 let x = values[i];
                 if float::is_finite(x) {
                     back[at] = x;
-                    state = state.insert_one(x);
+                    state = state.inserted(x);
                 } else {
                     back[at] = 0.0;
-                    state = state.insert_one(0.0);
+                    state = state.inserted(0.0);
                     count += 1;
                 }
                 at += 1;
@@ -202,7 +200,7 @@ impl SkewMoment {
         start: usize,
     ) -> SkewWindow
         requires { ⌜ Held (ofReadings skewness) (series «has_map» (now map) (now values)) base (w .window) (w .«agg_back») (now work) × (w .window .start ≤ start)
-            × (start ≤ length (now values)) × (w .window .end ≤ length (now values)) × (4 * w .window .back ≤ base) × (base + w .window .back ≤ length (now work)) ⌝ }
+            × (start ≤ length (now values)) × (w .window .end ≤ length (now values)) × (4 * w .window .back ≤ base) × (base + w .window .back ≤ length (now work)) × (length (now values) ≤ 2 ^ 53) ⌝ }
         ensures { λ q. ⌜ Moves (ofReadings skewness) (series «has_map» (now (map .entry)) (now (values .entry))) base base (left (validAt «has_map» (now (map .entry))) (restarted (account (w .window)) start) start) (now (work .entry)) (q .window) (q .«agg_back») (now (work .exit)) ⌝ }
     {
         let window = w.window;
@@ -241,7 +239,7 @@ impl SkewMoment {
         end: usize,
     ) -> SkewWindow
         requires { ⌜ Held (ofReadings skewness) (series «has_map» (now map) (now values)) base (w .window) (w .«agg_back») (now work) × (w .window .end ≤ end)
-            × (end ≤ length (now values)) × (end ≤ w .window .start + widest) × (4 * widest ≤ base) × (base + 1 * widest ≤ length (now work)) ⌝ }
+            × (end ≤ length (now values)) × (end ≤ w .window .start + widest) × (4 * widest ≤ base) × (base + 1 * widest ≤ length (now work)) × (length (now values) ≤ 2 ^ 53) ⌝ }
         ensures { λ q. ⌜ Moves (ofReadings skewness) (series «has_map» (now (map .entry)) (now (values .entry))) base (base + 1 * widest) (entered (account (w .window)) end) (now (work .entry)) (q .window) (q .«agg_back») (now (work .exit)) ⌝ }
     {
         let window = w.window;
@@ -282,7 +280,8 @@ impl SkewMoment {
         start: usize,
         end: usize,
     ) -> SkewWindow
-        requires { ⌜ Movable (ofReadings skewness) (series «has_map» (now map) (now values)) 5 start end (length (now values)) widest (w .window) (w .«agg_back») (now work) ⌝ }
+        requires { ⌜ Movable (ofReadings skewness) (series «has_map» (now map) (now values)) 5 start end (length (now values)) widest (w .window) (w .«agg_back») (now work)
+            × (length (now values) ≤ 2 ^ 53) ⌝ }
         ensures { λ q. ⌜ Moves (ofReadings skewness) (series «has_map» (now (map .entry)) (now (values .entry))) (4 * widest) (5 * widest) (moved (validAt «has_map» (now (map .entry))) (account (w .window)) start end)
             (now (work .entry)) (q .window) (q .«agg_back») (now (work .exit)) ⌝ }
     {
@@ -304,7 +303,8 @@ impl SkewMoment {
         start: usize,
         end: usize,
     ) -> SkewWindow
-        requires { ⌜ Movable (ofReadings skewness) (series «has_map» (now map) (now values)) 5 start end (length (now values)) widest (w .window) (w .«agg_back») (now work) ⌝ }
+        requires { ⌜ Movable (ofReadings skewness) (series «has_map» (now map) (now values)) 5 start end (length (now values)) widest (w .window) (w .«agg_back») (now work)
+            × (length (now values) ≤ 2 ^ 53) ⌝ }
         ensures { λ q. ⌜ Moves (ofReadings skewness) (series «has_map» (now (map .entry)) (now (values .entry))) (4 * widest) (5 * widest) (stepped (validAt «has_map» (now (map .entry))) «has_map» «min_periods» row start end (account (w .window)))
             (now (work .entry)) (q .window) (q .«agg_back») (now (work .exit)) ⌝ }
     {
@@ -315,9 +315,9 @@ impl SkewMoment {
     }
 
     // The correction for a count of readings. Rows of one count share it: a root and a division less for each.
-    fn correction(self, counts: &mut [u64], factors: &mut [f64], valid: usize) -> f64
-        requires { ⌜ Corrections (now counts) (now factors) ⌝ }
-        ensures { λ r. ⌜ (self .bias ≡ false → r ≡ skewCorrection (count valid)) × Corrections (now (counts .exit)) (now (factors .exit)) ⌝ }
+    fn correction(self, counts: &mut [u64], corrections: &mut [f64], valid: usize) -> f64
+        requires { ⌜ Corrections (now counts) (now corrections) ⌝ }
+        ensures { λ r. ⌜ (self .bias ≡ false → r ≡ skewCorrection (count valid)) × Corrections (now (counts .exit)) (now (corrections .exit)) ⌝ }
     {
         if self.bias {
             return 0.0;
@@ -325,16 +325,70 @@ impl SkewMoment {
         let slot = valid % SkewMoment::SLOTS;
         let n = valid as u64;
         if counts[slot] == n {
-            return factors[slot];
+            return corrections[slot];
         }
         let factor = SkewState::correction(std::num::nearest_u64_to_f64(n));
         counts[slot] = n;
-        factors[slot] = factor;
+        corrections[slot] = factor;
         factor
     }
 
-    // What is left of a row to finalise, of the window after its step.
-    fn prepare(
+    // The back state combined with the front state. The counts tell which weights are zero.
+    fn total(work: &[f64], w: SkewWindow) -> SkewState
+        requires { ⌜ (4 * w .window .front ≤ length (now work)) × Weighed (w .window) (w .«agg_back») (now work) ⌝ }
+        ensures { λ r. ⌜ r ≡ skewCombine (w .«agg_back») (topOf (ofReadings skewness) (now (work .entry)) (w .window .front)) ⌝ }
+    {
+        let agg_back = w.agg_back;
+        if w.window.front == 0 {
+            return agg_back;
+        }
+        let top = SkewMoment::last(work, w.window.front);
+        if w.window.back == 0 {
+            return top;
+        }
+        agg_back.merged(top)
+    }
+
+    // What is left of a row of these numbers: its second and third moments and its correction, written to slot k. Where the figure is
+    // NaN the third moment is.
+    fn hold(
+        state: SkewState,
+        nonfinite: usize,
+        factor: f64,
+        m2s: &mut [f64],
+        m3s: &mut [f64],
+        factors: &mut [f64],
+        k: usize,
+    )
+        requires { ⌜ (k < length (now m2s)) × (k < length (now m3s)) × (k < length (now factors)) ⌝ }
+        ensures { λ _. ⌜ (now (m2s .exit) ≡ set (now (m2s .entry)) k (secondOf state)) × (now (m3s .exit) ≡ set (now (m3s .entry)) k (thirdOf state nonfinite))
+            × (now (factors .exit) ≡ set (now (factors .entry)) k factor) ⌝ }
+    {
+        let m2 = state.m2 / state.weight;
+        m2s[k] = m2;
+        factors[k] = factor;
+        if nonfinite != 0 {
+            m3s[k] = 0.0 / 0.0;
+            return;
+        }
+        if moment::is_zero(m2, state.mean) {
+            m3s[k] = 0.0 / 0.0;
+            return;
+        }
+        m3s[k] = state.m3 / state.weight;
+    }
+
+    // Whether a state of so many readings has a figure.
+    fn has_figure(self, valid: usize) -> bool
+        ensures { λ r. ⌜ r ≡ leb (leastOf (self .bias)) valid ⌝ }
+    {
+        let least: usize = if self.bias { 1 } else { 3 };
+        least <= valid
+    }
+
+    // The state that a row waits with, of the window after its step, by the tests of `is_valid` and `finalize`.
+    fn pending(
+        self,
         work: &[f64],
         w: SkewWindow,
         has_map: bool,
@@ -342,47 +396,156 @@ impl SkewMoment {
         start: usize,
         end: usize,
     ) -> SkewPending
-        requires { ⌜ (4 * w .window .front ≤ length (now work)) × (w .window .front + w .window .back ≤ w .window .end) × (start ≤ end) ⌝ }
-        ensures { λ r. ⌜ ((bias : Bool) → answered bias r ≡ answerBy (ofReadings skewness) (λ z. skewFinalize z bias) «has_map» «min_periods» start end (w .window) (w .«agg_back») (now (work .entry)))
-            × (r .state .weight ≡ skewCombine (w .«agg_back») (topOf (ofReadings skewness) (now (work .entry)) (w .window .front)) .weight) × (r .valid ≡ w .window .front + w .window .back) ⌝ }
+        requires { ⌜ (4 * w .window .front ≤ length (now work)) × Weighed (w .window) (w .«agg_back») (now work) × (start ≤ end) ⌝ }
+        ensures { λ r. ⌜ r ≡ pendingOf (self .bias) «has_map» «min_periods» start end (w .window) (skewCombine (w .«agg_back») (topOf (ofReadings skewness) (now (work .entry)) (w .window .front))) ⌝ }
     {
-        let agg_back = w.agg_back;
-        let state = agg_back.combine(SkewMoment::last(work, w.window.front));
         let valid = w.window.front + w.window.back;
-        let enough = row::is_valid(has_map, min_periods, valid, start, end);
-        SkewPending {
-            state,
-            valid,
-            nonfinite: w.window.nonfinite,
-            enough,
+        if row::is_valid(has_map, min_periods, valid, start, end) {
+            if self.has_figure(valid) {
+                return SkewPending::State(SkewMoment::total(work, w));
+            }
         }
+        SkewPending::Missing
     }
 
-    // 001's `get_moment`, and no figure for a row with too few readings.
-    fn finish(self, pending: SkewPending, counts: &mut [u64], factors: &mut [f64]) -> Figure
-        requires { ⌜ (pending .state .weight ≡ count (pending .valid)) × Corrections (now counts) (now factors) ⌝ }
-        ensures { λ r. ⌜ (r ≡ answered (self .bias) pending) × Corrections (now (counts .exit)) (now (factors .exit)) ⌝ }
+    // The row's byte, and in slot k what is left of it to finalise, of the window after its step. A missing row's slot comes to zero.
+    fn prepare(
+        self,
+        work: &[f64],
+        w: SkewWindow,
+        has_map: bool,
+        min_periods: usize,
+        start: usize,
+        end: usize,
+        counts: &mut [u64],
+        corrections: &mut [f64],
+        m2s: &mut [f64],
+        m3s: &mut [f64],
+        factors: &mut [f64],
+        k: usize,
+    ) -> u8
+        requires { ⌜ (4 * w .window .front ≤ length (now work)) × Weighed (w .window) (w .«agg_back») (now work) × (start ≤ end) × (k < length (now m2s)) × (k < length (now m3s)) × (k < length (now factors)) × Corrections (now counts) (now corrections) ⌝ }
+        ensures { λ r. ⌜ Waits (self .bias) (answerBy (ofReadings skewness) (λ z. skewFinalize z (self .bias)) «has_map» «min_periods» start end (w .window) (w .«agg_back») (now (work .entry))) k r
+            (now (m2s .entry)) (now (m3s .entry)) (now (factors .entry)) (now (m2s .exit)) (now (m3s .exit)) (now (factors .exit))
+            × Corrections (now (counts .exit)) (now (corrections .exit)) ⌝ }
     {
-        if pending.enough {
-            let correction = self.correction(counts, factors, pending.valid);
-            let state = pending.state;
-            return window::or_nan(
-                state.finalize_with(self.bias, correction),
-                pending.nonfinite,
-            );
-        }
-        Figure::Missing
+        let SkewPending::State(state) = self.pending(work, w, has_map, min_periods, start, end)
+        else {
+            m2s[k] = 1.0;
+            m3s[k] = 0.0;
+            factors[k] = 0.0;
+            return 0;
+        };
+        let valid = w.window.front + w.window.back;
+        let factor = self.correction(counts, corrections, valid);
+        SkewMoment::hold(state, w.window.nonfinite, factor, m2s, m3s, factors, k);
+        1
     }
 
-    // Rows are finalised 16 at a time, so that their roots run side by side.
+    fn scaled(self, factor: f64, biased: f64) -> f64
+        ensures { λ r. ⌜ r ≡ cond (self .bias) biased (factor ⊗ biased) ⌝ }
+    {
+        if self.bias { biased } else { factor * biased }
+    }
+
+    // The doubles that the slots come to, by the roots of their second moments.
+    fn estimates(self, m2s: &[f64], m3s: &[f64], factors: &[f64], roots: &[f64], out: &mut [f64])
+        requires { ⌜ (length (now out) ≤ length (now m2s)) × (length (now out) ≤ length (now m3s)) × (length (now out) ≤ length (now factors)) × (length (now out) ≤ length (now roots)) ⌝ }
+        ensures { λ _. ⌜ now (out .exit) ≡ table (λ i. estimate (self .bias) (getD (now (m2s .entry)) i nan) (getD (now (m3s .entry)) i nan) (getD (now (factors .entry)) i nan) (getD (now (roots .entry)) i nan)) (length (now (out .entry))) ⌝ }
+    {
+        let mut i: usize = 0;
+        while i < out.len() {
+            let biased = m3s[i] / (m2s[i] * roots[i]);
+            out[i] = float::canonical(self.scaled(factors[i], biased));
+            i += 1;
+        }
+    }
+
+    // The figures of a block's rows: the roots of all slots, then what each comes to.
+    fn finish(self, m2s: &[f64], m3s: &[f64], factors: &[f64], roots: &mut [f64], out: &mut [f64])
+        requires { ⌜ (length (now out) ≤ length (now m2s)) × (length (now out) ≤ length (now m3s)) × (length (now out) ≤ length (now factors)) × (length (now out) ≤ length (now roots)) ⌝ }
+        ensures { λ _. ⌜ now (out .exit) ≡ table (λ i. doubleAt (self .bias) (now (m2s .entry)) (now (m3s .entry)) (now (factors .entry)) i) (length (now (out .entry))) ⌝ }
+    {
+        let n = out.len();
+        root::roots(&m2s[..n], &mut roots[..n]);
+        self.estimates(m2s, m3s, factors, roots, out);
+    }
+
+    // Rows are finalised 32 at a time, so that their roots run side by side.
     fn block_end(first: usize, rows: usize) -> usize
         requires { ⌜ first < rows ⌝ }
-        ensures { λ r. ⌜ (first < r) × (r ≤ rows) × (r ≤ first + 16) ⌝ }
+        ensures { λ r. ⌜ (first < r) × (r ≤ rows) × (r ≤ first + 32) ⌝ }
     {
-        if rows - first <= 16 {
+        if rows - first <= 32 {
             return rows;
         }
-        first + 16
+        first + 32
+    }
+
+    // The rows of a block, from `first` up to `until`: the window after them, with their bytes and slots written.
+    fn block(
+        self,
+        values: &[f64],
+        has_map: bool,
+        map: &[u8],
+        starts: &[u32],
+        ends: &[u32],
+        min_periods: usize,
+        widest: usize,
+        work: &mut [f64],
+        present: &mut [u8],
+        opening: SkewWindow,
+        first: usize,
+        until: usize,
+        counts: &mut [u64],
+        corrections: &mut [f64],
+        m2s: &mut [f64],
+        m3s: &mut [f64],
+        factors: &mut [f64],
+    ) -> SkewWindow
+        requires { ⌜ Planned (length (now values)) widest (planOf (now starts) (now ends)) × (length (now values) ≤ 2 ^ 53) × (5 * widest ≤ length (now work))
+            × (length (now starts) ≤ length (now present)) × (first ≤ until) × (until ≤ length (now starts)) × (until ≤ first + 32) ⌝ }
+        requires { ⌜ Filled (self .bias) (series «has_map» (now map) (now values)) «min_periods» (length (now values)) widest (planOf (now starts) (now ends)) first
+            (now work) (now work) (now present) (now present) (opening .window) (opening .«agg_back») (now counts) (now corrections) (now m2s) (now m3s) (now factors) first ⌝ }
+        ensures { λ q. ⌜ Filled (self .bias) (series «has_map» (now (map .entry)) (now (values .entry))) «min_periods» (length (now (values .entry))) widest (planOf (now (starts .entry)) (now (ends .entry))) first
+            (now (work .entry)) (now (work .exit)) (now (present .entry)) (now (present .exit)) (q .window) (q .«agg_back»)
+            (now (counts .exit)) (now (corrections .exit)) (now (m2s .exit)) (now (m3s .exit)) (now (factors .exit)) until ⌝ }
+    {
+        let mut w = opening;
+        let mut row = first;
+        while row < until {
+            let start = plan::place(starts[row]);
+            let end = plan::place(ends[row]);
+            w = SkewMoment::step(
+                work,
+                widest,
+                values,
+                has_map,
+                map,
+                w,
+                min_periods,
+                row,
+                start,
+                end,
+            );
+            let there = self.prepare(
+                work,
+                w,
+                has_map,
+                min_periods,
+                start,
+                end,
+                counts,
+                corrections,
+                m2s,
+                m3s,
+                factors,
+                row - first,
+            );
+            present[row] = there;
+            row += 1;
+        }
+        w
     }
 
     // Every row of an accepted plan.
@@ -416,49 +579,34 @@ impl SkewMoment {
         };
         let mut counts = [0u64; 256];
         let none = SkewState::correction(0.0);
-        let mut factors = [none; 256];
-        let nothing = SkewPending {
-            state: SkewMoment::empty(),
-            valid: 0,
-            nonfinite: 0,
-            enough: false,
-        };
-        let mut pending = [nothing; 16];
+        let mut corrections = [none; 256];
+        let mut m2s = [0.0; 32];
+        let mut m3s = [0.0; 32];
+        let mut factors = [0.0; 32];
+        let mut roots = [0.0; 32];
         let mut first: usize = 0;
         while first < starts.len() {
             let until = SkewMoment::block_end(first, starts.len());
-            let mut row = first;
-            while row < until {
-                let start = plan::place(starts[row]);
-                let end = plan::place(ends[row]);
-                w = SkewMoment::step(
-                    work,
-                    widest,
-                    values,
-                    has_map,
-                    map,
-                    w,
-                    min_periods,
-                    row,
-                    start,
-                    end,
-                );
-                pending[row - first] = SkewMoment::prepare(
-                    work,
-                    w,
-                    has_map,
-                    min_periods,
-                    start,
-                    end,
-                );
-                row += 1;
-            }
-            let mut done = first;
-            while done < until {
-                let figure = self.finish(pending[done - first], &mut counts, &mut factors);
-                row::write(figures, present, done, figure);
-                done += 1;
-            }
+            w = self.block(
+                values,
+                has_map,
+                map,
+                starts,
+                ends,
+                min_periods,
+                widest,
+                work,
+                present,
+                w,
+                first,
+                until,
+                &mut counts,
+                &mut corrections,
+                &mut m2s,
+                &mut m3s,
+                &mut factors,
+            );
+            self.finish(&m2s, &m3s, &factors, &mut roots, &mut figures[first..until]);
             first = until;
         }
     }

@@ -17,7 +17,7 @@ use Rattle.moment.specs.declared.Figure.{Figure}
 use Rattle.window.specs.Places.{Series, validCount}
 use Rattle.window.specs.Window.{Account, Moment, front, moved, falling, orNan, figureOf}
 use Rattle.window.specs.Rows.{Plan, rows, rowStart, rowEnd, moves, stepped, accountAt, counted, answerOf, answerAt, table}
-use Rattle.window.specs.Stacks.{inMemory, frontStack, account, Held, topOf, answerBy, Ready, Planned}
+use Rattle.window.specs.Stacks.{inMemory, frontStack, account, Held, topOf, answerBy, Ready, Planned, Standing}
 use Rattle.window.specs.declared.Window.{Window}
 use Rattle.window.proofs.Places.{two-counts, entries-self}
 use Rattle.window.proofs.Stacks.{memory-append, front-length}
@@ -71,30 +71,13 @@ module _ (M : Moment) where
       answer-is = rw (counted-is, figure-is)
 
 -- ---- the rows of a plan: the turns of the loop
-module _ (M : Moment) (final : M .State → Figure) (t : Series (M .Entry)) (minPeriods n widest : ℕ) (p : Plan) where
-  abbrev Answer : ℕ → Figure
-  Answer k = answerAt M final t minPeriods p k
+module _ (M : Moment) (t : Series (M .Entry)) (minPeriods n widest : ℕ) (p : Plan) where
+  abbrev Stands : Window → M .State → List Float → ℕ → Type 0
+  Stands w agg work k = Standing M t minPeriods n widest p w agg work k
 
-  -- before row k: w, agg and work are the window, out and pr the outputs; work₀, out₀ and pr₀ are where the loop began, and of the
-  -- work slice the first `need` doubles are its own
-  pub record Row (work₀ out₀ : List Float) (pr₀ : List ℕ) (need : ℕ) (work out : List Float) (pr : List ℕ) (w : Window) (agg : M .State) (k : ℕ) : Type 0 where
-    pub upto : k ≤ rows p
-    pub held : Held M t (M .inFront .width * widest) w agg work
-    pub at : account w ≡ accountAt (t .valid) (t .mapped) minPeriods p k
-    pub wide : w .end ≤ w .start + widest
-    pub inside : w .end ≤ n
-    pub ahead : (j : ℕ) → k ≤ j → j < rows p → (w .start ≤ rowStart p j) × (w .end ≤ rowEnd p j)
-    pub work-same : length work ≡ length work₀
-    pub work-rest : drop need work ≡ drop need work₀
-    pub out-same : length out ≡ length out₀
-    pub out-is : out ≡ table (λ j. doubleOf (Answer j)) k ++ drop k out₀
-    pub pr-same : length pr ≡ length pr₀
-    pub pr-is : pr ≡ table (λ j. byteOf (Answer j)) k ++ drop k pr₀
-
-  pub row-start : (work₀ out₀ : List Float) (pr₀ : List ℕ) (need : ℕ) (agg : M .State) → agg ≡ M .empty →
-      Row work₀ out₀ pr₀ need work₀ out₀ pr₀ (record { start = 0; end = 0; split = 0; front = 0; back = 0; nonfinite = 0 }) agg 0
-  unfolding table accountAt inMemory frontStack
-  row-start work₀ out₀ pr₀ need agg e =
+  pub stand-start : (agg : M .State) → agg ≡ M .empty → (work : List Float) → Stands (record { start = 0; end = 0; split = 0; front = 0; back = 0; nonfinite = 0 }) agg work 0
+  unfolding accountAt inMemory frontStack
+  stand-start agg e work =
       let z = entries-self (t .valid) (t .entry) 0 in
       let y = entries-self (t .nonfinite) (t .entry) 0 in
       record {
@@ -109,12 +92,6 @@ module _ (M : Moment) (final : M .State → Figure) (t : Series (M .Entry)) (min
         wide = omega arith;
         inside = omega arith;
         ahead = λ j g h. (omega arith, omega arith);
-        work-same = refl;
-        work-rest = refl;
-        out-same = refl;
-        out-is = refl;
-        pr-same = refl;
-        pr-is = refl;
       }
 
   -- what is known of the window after row k's step
@@ -124,8 +101,8 @@ module _ (M : Moment) (final : M .State → Figure) (t : Series (M .Entry)) (min
     pub ahead : (j : ℕ) → k + 1 ≤ j → j < rows p → (w .start ≤ rowStart p j) × (w .end ≤ rowEnd p j)
     pub mapped : t .mapped ≡ true → (w .start ≡ rowStart p k) × (w .end ≡ rowEnd p k)
 
-  module _ (plan : Planned n widest p) {work₀ out₀ : List Float} {pr₀ : List ℕ} {need : ℕ} {work out : List Float} {pr : List ℕ} {w : Window} {agg : M .State} {k : ℕ}
-      (row : Row work₀ out₀ pr₀ need work out pr w agg k) (more : k < rows p) (s e : ℕ) (s-is : s ≡ rowStart p k) (e-is : e ≡ rowEnd p k) where
+  module _ (plan : Planned n widest p) {work : List Float} {w : Window} {agg : M .State} {k : ℕ}
+      (row : Stands w agg work k) (more : k < rows p) (s e : ℕ) (s-is : s ≡ rowStart p k) (e-is : e ≡ rowEnd p k) where
     pub row-ready : Ready w s e n widest
     row-ready =
         rw (s-is, e-is)
@@ -191,26 +168,21 @@ module _ (M : Moment) (final : M .State → Figure) (t : Series (M .Entry)) (min
     row-inside w' y = row-stepped w' y .inside
 
     -- the row's figure is its answer
-    pub row-answer : {w' : Window} {agg' : M .State} {work' : List Float} {f : Figure} →
-        Moved w' s e → Held M t (M .inFront .width * widest) w' agg' work' → f ≡ answerBy M final (t .mapped) minPeriods s e w' agg' work' → f ≡ Answer k
+    pub row-answer : (final : M .State → Figure) {w' : Window} {agg' : M .State} {work' : List Float} {f : Figure} →
+        Moved w' s e → Held M t (M .inFront .width * widest) w' agg' work' → f ≡ answerBy M final (t .mapped) minPeriods s e w' agg' work' → f ≡ answerAt M final t minPeriods p k
     unfolding accountAt answerAt
-    row-answer {w'} {agg'} {work'} {f} y held g =
+    row-answer final {w'} {agg'} {work'} {f} y held g =
         let u = row-stepped w' y in
         let a : account w' ≡ accountAt (t .valid) (t .mapped) minPeriods p (suc k) = as-listed w' y ∙ rw (row .at) in
         let m : t .mapped ≡ true → (w' .start ≡ s) × (w' .end ≡ e) = λ z. (u .mapped z .0 ∙ sym s-is, u .mapped z .1 ∙ sym e-is) in
         g ∙ answer-is M final t (M .inFront .width * widest) w' agg' work' held minPeriods s e m
         ∙ rw (s-is, e-is) (ap (answerOf M final t minPeriods (rowStart p k) (rowEnd p k)) a)
 
-    pub row-next : {w' : Window} {agg' : M .State} {work' out' : List Float} {pr' : List ℕ} {f : Figure} →
-        Moved w' s e → Held M t (M .inFront .width * widest) w' agg' work' → length work' ≡ length work → drop need work' ≡ drop need work →
-        f ≡ answerBy M final (t .mapped) minPeriods s e w' agg' work' →
-        rows p ≤ length out₀ → rows p ≤ length pr₀ → out' ≡ set out k (doubleOf f) → pr' ≡ set pr k (byteOf f) →
-        Row work₀ out₀ pr₀ need work' out' pr' w' agg' (k + 1)
+    pub stand-next : {w' : Window} {agg' : M .State} {work' : List Float} → Moved w' s e → Held M t (M .inFront .width * widest) w' agg' work' → Stands w' agg' work' (k + 1)
     unfolding accountAt
-    row-next {w'} {agg'} {work'} {out'} {pr'} {f} y held len rest g ho hp o q =
+    stand-next {w'} {agg'} {work'} y held =
         let u = row-stepped w' y in
         let a : account w' ≡ accountAt (t .valid) (t .mapped) minPeriods p (suc k) = as-listed w' y ∙ rw (row .at) in
-        let h : f ≡ Answer k = row-answer y held g in
         record {
           upto = omega arith;
           held = held;
@@ -218,6 +190,40 @@ module _ (M : Moment) (final : M .State → Figure) (t : Series (M .Entry)) (min
           wide = u .wide;
           inside = u .inside;
           ahead = u .ahead;
+        }
+
+module _ (M : Moment) (final : M .State → Figure) (t : Series (M .Entry)) (minPeriods n widest : ℕ) (p : Plan) where
+  abbrev Answer : ℕ → Figure
+  Answer k = answerAt M final t minPeriods p k
+
+  -- with the window, out and pr are the outputs; work₀, out₀ and pr₀ are where the loop began, and of the work slice the first `need`
+  -- doubles are its own
+  pub record Row (work₀ out₀ : List Float) (pr₀ : List ℕ) (need : ℕ) (work out : List Float) (pr : List ℕ) (w : Window) (agg : M .State) (k : ℕ) : Type 0 where
+    pub standing : Standing M t minPeriods n widest p w agg work k
+    pub work-same : length work ≡ length work₀
+    pub work-rest : drop need work ≡ drop need work₀
+    pub out-same : length out ≡ length out₀
+    pub out-is : out ≡ table (λ j. doubleOf (Answer j)) k ++ drop k out₀
+    pub pr-same : length pr ≡ length pr₀
+    pub pr-is : pr ≡ table (λ j. byteOf (Answer j)) k ++ drop k pr₀
+
+  pub row-start : (work₀ out₀ : List Float) (pr₀ : List ℕ) (need : ℕ) (agg : M .State) → agg ≡ M .empty →
+      Row work₀ out₀ pr₀ need work₀ out₀ pr₀ (record { start = 0; end = 0; split = 0; front = 0; back = 0; nonfinite = 0 }) agg 0
+  unfolding table
+  row-start work₀ out₀ pr₀ need agg e =
+      record { standing = stand-start M t minPeriods n widest p agg e work₀; work-same = refl; work-rest = refl; out-same = refl; out-is = refl; pr-same = refl; pr-is = refl }
+
+  module _ (plan : Planned n widest p) {work₀ out₀ : List Float} {pr₀ : List ℕ} {need : ℕ} {work out : List Float} {pr : List ℕ} {w : Window} {agg : M .State} {k : ℕ}
+      (row : Row work₀ out₀ pr₀ need work out pr w agg k) (more : k < rows p) (s e : ℕ) (s-is : s ≡ rowStart p k) (e-is : e ≡ rowEnd p k) where
+    pub row-next : {w' : Window} {agg' : M .State} {work' out' : List Float} {pr' : List ℕ} {f : Figure} →
+        account w' ≡ stepped (t .valid) (t .mapped) minPeriods k s e (account w) → Held M t (M .inFront .width * widest) w' agg' work' →
+        length work' ≡ length work → drop need work' ≡ drop need work → f ≡ answerBy M final (t .mapped) minPeriods s e w' agg' work' →
+        rows p ≤ length out₀ → rows p ≤ length pr₀ → out' ≡ set out k (doubleOf f) → pr' ≡ set pr k (byteOf f) →
+        Row work₀ out₀ pr₀ need work' out' pr' w' agg' (k + 1)
+    row-next {w'} {agg'} {work'} {out'} {pr'} {f} y held len rest g ho hp o q =
+        let h : f ≡ Answer k = row-answer M t minPeriods n widest p plan (row .standing) more s e s-is e-is final y held g in
+        record {
+          standing = stand-next M t minPeriods n widest p plan (row .standing) more s e s-is e-is y held;
           work-same = len ∙ row .work-same;
           work-rest = rest ∙ row .work-rest;
           out-same = ap length o ∙ simp length-set (row .out-same);
@@ -230,7 +236,7 @@ module _ (M : Moment) (final : M .State → Figure) (t : Series (M .Entry)) (min
       Row work₀ out₀ pr₀ need work out pr w agg k → rows p ≤ k →
       (out ≡ table (λ j. doubleOf (Answer j)) (rows p) ++ drop (rows p) out₀)
       × (pr ≡ table (λ j. byteOf (Answer j)) (rows p) ++ drop (rows p) pr₀) × (drop need work ≡ drop need work₀)
-  row-done {k = k} row h = let u = row .upto in let e : k ≡ rows p = omega arith in rw (← e) (row .out-is, row .pr-is, row .work-rest)
+  row-done {k = k} row h = let u = row .standing .upto in let e : k ≡ rows p = omega arith in rw (← e) (row .out-is, row .pr-is, row .work-rest)
 
 -- whether a row moves the window, by the tests in the code's order
 pub moves-long : (mapped : Bool) (minPeriods k s e : ℕ) → minPeriods ≤ e - s → true ≡ moves mapped minPeriods k s e

@@ -1,7 +1,8 @@
--- A table's length, its places, and one more value of it written over a list. Assumes nothing.
+-- A table's length, its places, one more value of it written over a list, and tables side by side. Assumes nothing.
 use Prim.Native.Nat.{ℕ, zero, suc, _+_, _≤_, _<_}
 use mathlib.Core.Path.{_≡_, refl, sym, ap, _∙_}
-use mathlib.Core.List.{List, [], _∷_, _++_, append-assoc}
+use mathlib.Core.List.{List, [], _∷_, _++_, append-assoc, append-nil}
+use native.Mathlib.Nat.{add-zero, add-suc}
 use native.Mathlib.Numerals.{add-one}
 use native.Mathlib.Omega.{arith}
 use lib.ListN.{length, drop, set, getD, length-append}
@@ -31,3 +32,16 @@ module _ {A : Type 0} (f : ℕ → A) where
   table-more l k x e h =
       rw (e, add-one, drop-cons l k (f k))
       (set-at (table f k) (getD l k (f k)) (drop (suc k) l) (f k) k (table-length k) ∙ simp append-assoc)
+
+-- two tables of the same values
+pub table-same : {A : Type 0} (f g : ℕ → A) (n : ℕ) → ((i : ℕ) → i < n → f i ≡ g i) → table f n ≡ table g n
+unfolding table
+table-same f g zero h = refl
+table-same f g (suc n) h = rw (table-same f g n (λ i k. h i (omega arith)), h n (omega arith))
+
+-- a table and, behind it, the values that follow
+pub table-join : {A : Type 0} (f g : ℕ → A) (n m : ℕ) → ((i : ℕ) → i < m → g i ≡ f (n + i)) → table f n ++ table g m ≡ table f (n + m)
+unfolding table
+table-join f g n zero h = rw (append-nil, add-zero)
+table-join f g n (suc m) h =
+    rw add-suc (sym (append-assoc (table f n) (table g m) (g m ∷ [])) ∙ rw (table-join f g n m (λ i k. h i (omega arith)), h m (omega arith)))

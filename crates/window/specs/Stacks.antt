@@ -12,7 +12,7 @@ use Rattle.moment.specs.declared.Figure.{Figure}
 use Rattle.moment.specs.declared.Figure.the-variants.{Missing}
 use Rattle.window.specs.Places.{Series, entries, validCount, nonfiniteCount}
 use Rattle.window.specs.Window.{Account, Layout, Moment, restarted, left, front, back, rising, falling, orNan}
-use Rattle.window.specs.Rows.{Plan, rows, rowStart, rowEnd}
+use Rattle.window.specs.Rows.{Plan, rows, rowStart, rowEnd, accountAt}
 use Rattle.window.specs.Refusals.{widest}
 use Rattle.window.specs.declared.Window.{Window}
 
@@ -113,3 +113,12 @@ pub record Accepted (each n : ℕ) (p : Plan) (short : Bool) (figures present wo
   pub figures-fit : rows p ≤ figures
   pub present-fit : rows p ≤ present
   pub work-fits : each * wide ≤ work
+
+-- Before row k of a plan over n places: the window is held, and its account is the one after the rows before
+pub record Standing (M : Moment) (t : Series (M .Entry)) (minPeriods n widest : ℕ) (p : Plan) (w : Window) (agg : M .State) (work : List Float) (k : ℕ) : Type 0 where
+  pub upto : k ≤ rows p
+  pub held : Held M t (M .inFront .width * widest) w agg work
+  pub at : account w ≡ accountAt (t .valid) (t .mapped) minPeriods p k
+  pub wide : w .end ≤ w .start + widest
+  pub inside : w .end ≤ n
+  pub ahead : (j : ℕ) → k ≤ j → j < rows p → (w .start ≤ rowStart p j) × (w .end ≤ rowEnd p j)

@@ -1,7 +1,7 @@
 -- `root::settle` meets its contract: where there is no doubt no difference has wrapped around, so what is left of x * 2 ^ 52
 -- and r is exact, and below four times r it puts the rounded root at r or at the next number. Assumes nothing.
 use borrow.Author.Needs.{needs}
-use mathlib.Core.Path.{_≡_, sym, ap, _∙_}
+use mathlib.Core.Path.{_≡_, sym, ap}
 use Prim.Native.Nat.{ℕ, _+_, _-_, _*_, _/_, _%_, _^_, _≤_, _<_}
 use native.Mathlib.Nat.{mul-le-mul, lt-of-not-le}
 use native.Mathlib.Decide.{decLe}

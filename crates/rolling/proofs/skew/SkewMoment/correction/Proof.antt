@@ -4,7 +4,7 @@ use mathlib.Core.Path.{_≡_, sym, ap, _∙_}
 use native.Mathlib.Omega.{arith}
 use Rattle.float.specs.Operators.{count}
 use Rattle.moment.specs.Skew.{skewCorrection}
-use Rattle.rolling.proofs.Corrections.{taken-slot}
+use Rattle.rolling.proofs.Slots.{taken-slot}
 use borrow.Author.Needs.{needs}
 use Rattle.rolling.proofs.skew.SkewMoment.correction.Statement.{statement}
 use Rattle.rolling.proofs.skew.SkewMoment.correction.Tie as tie
@@ -42,11 +42,11 @@ mul-counts c = search needs
 slice-write-counts : tie.Need-slice-write-counts
 slice-write-counts c = search needs
 
-mul-factors : tie.Need-mul-factors
-mul-factors c = search needs
+mul-corrections : tie.Need-mul-corrections
+mul-corrections c = search needs
 
-slice-write-factors : tie.Need-slice-write-factors
-slice-write-factors c = search needs
+slice-write-corrections : tie.Need-slice-write-corrections
+slice-write-corrections c = search needs
 
 same-length : tie.Need-same-length
 same-length c = search needs
@@ -75,8 +75,8 @@ correction-spec =
     correction-requires
     mul-counts
     slice-write-counts
-    mul-factors
-    slice-write-factors
+    mul-corrections
+    slice-write-corrections
     same-length
     same-length-2
     returns-3)

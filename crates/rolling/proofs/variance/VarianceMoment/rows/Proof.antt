@@ -59,8 +59,8 @@ step-requires c κs =
     let l = row .work-same in
     let y = s .pre .work-fits in
     record {
-      held = row .held;
-      ready = row-ready (ofReadings variance) _ _ _ _ _ _ (s .pre .plan) row (i .loop-test .taken) _ _ (r .before .before .place .ensures) (r .place2 .ensures);
+      held = row .standing .held;
+      ready = row-ready (ofReadings variance) _ _ _ _ _ (s .pre .plan) (row .standing) (i .loop-test .taken) _ _ (r .before .before .place .ensures) (r .place2 .ensures);
       room = omega arith;
     }
 
@@ -74,7 +74,7 @@ answer-requires c κs =
     let l = row .work-same in
     let n = q .kept .0 in
     let y = s .pre .work-fits in
-    row-fits (ofReadings variance) _ _ _ _ _ _ (s .pre .plan) row (i .loop-test .taken) _ _ (r .before .before .place .ensures) (r .place2 .ensures)
+    row-fits (ofReadings variance) _ _ _ _ _ (s .pre .plan) (row .standing) (i .loop-test .taken) _ _ (r .before .before .place .ensures) (r .place2 .ensures)
     (q .result .window) _ _ (q .ensures .to) (q .ensures .held) (omega arith)
 
 write-requires : tie.Need-write-requires Inv-loop μ-loop
