@@ -132,10 +132,6 @@ pub skew-combine-count : (s o : SkewState) (a b : ℕ) → a ≤ 2 ^ 53 → b �
 unfolding skewCombine
 skew-combine-count s o a b h k p q = combined-count skewWeight s o (skewMerge s o) a b h k p q (skew-cleared _)
 
-pub skew-parts-count : (xs ys : List Float) → length xs + length ys ≤ 2 ^ 53 →
-    skewCombine (foldl skewInsert skewEmpty xs) (foldr (λ x s. skewInsert s x) skewEmpty ys) .weight ≡ count (length xs + length ys)
-skew-parts-count = parts-count skewWeight skewInsert (λ s x. skew-cleared _) skewCombine skew-combine-count skewEmpty zero-is
-
 -- which state `combine` answers, told by the counts
 pub skew-by-counts : (s o : SkewState) (a b : ℕ) → a ≤ 2 ^ 53 → b ≤ 2 ^ 53 → s .weight ≡ count a → o .weight ≡ count b →
     skewCombine s o ≡ cond (eqb b 0) s (cond (eqb a 0) o (skewMerge s o))

@@ -49,7 +49,7 @@ skewInserted s x =
 abbrev pub skewInsert : SkewState → Float → SkewState
 skewInsert s x = skewClear (skewInserted s x)
 
--- `SkewState::combine`, where neither weight is zero, before its clear_zero_weight_nan
+-- `SkewState::combine` after its tests of weights and before its clear_zero_weight_nan
 abbrev pub skewMerged : SkewState → SkewState → SkewState
 skewMerged s o =
     let w = s .weight ⊕ o .weight in
@@ -90,15 +90,9 @@ skewBiased s =
 abbrev pub skewCorrection : Float → Float
 skewCorrection n = root (n ⊗ (n ⊖ one64)) ⊘ (n ⊖ two64)
 
--- `SkewState::finalize`, of a correction that is at hand: "missing: .. biased skewness or kurtosis when weight is 0; unbiased when
--- weight ≤ 2"
-unfoldable pub skewFinalizeWith : SkewState → Bool → Float → Figure
-skewFinalizeWith s bias correction =
+-- `SkewState::finalize`: "missing: .. biased skewness or kurtosis when weight is 0; unbiased when weight ≤ 2"
+unfoldable pub skewFinalize : SkewState → Bool → Figure
+skewFinalize s bias =
     let n = s .weight in
     cond bias (cond (eq n zero64) Missing (Present (skewBiased s)))
-    (cond (le n two64) Missing (Present (correction ⊗ skewBiased s)))
-
--- `SkewState::finalize`
-unfoldable pub skewFinalize : SkewState → Bool → Figure
-unfolding skewFinalizeWith
-skewFinalize s bias = skewFinalizeWith s bias (skewCorrection (s .weight))
+    (cond (le n two64) Missing (Present (skewCorrection n ⊗ skewBiased s)))

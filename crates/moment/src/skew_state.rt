@@ -4,7 +4,7 @@ ghost use Rattle.float.specs.Operators.{zero64};
 ghost use Prim.Native.Nat.{_+_, _^_, _<_};
 ghost use lib.ListN.{length};
 ghost use Rattle.trace.specs.Trace.{validAt, validFrom};
-ghost use Rattle.moment.specs.Skew.{skewEmpty, skewAbout, skewNew, skewInserted, skewInsert, skewMerged, skewCombine, skewBiased, skewCorrection, skewFinalize, skewFinalizeWith};
+ghost use Rattle.moment.specs.Skew.{skewEmpty, skewAbout, skewNew, skewInserted, skewInsert, skewMerged, skewCombine, skewBiased, skewCorrection, skewFinalize};
 ghost use Rattle.moment.specs.Arrays.{skewRange};
 use crate::Figure;
 use crate::SkewAnswer;
@@ -216,9 +216,8 @@ impl SkewState {
         root::root(n * (n - 1.0)) / (n - 2.0)
     }
 
-    // `finalize` with the correction of its weight, which many states may share; a biased estimate does without.
-    fn finalize_with(self, bias: bool, correction: f64) -> Figure
-        ensures { λ r. ⌜ r ≡ skewFinalizeWith self bias correction ⌝ }
+    pub fn finalize(self, bias: bool) -> Figure
+        ensures { λ r. ⌜ r ≡ skewFinalize self bias ⌝ }
     {
         let biased_est = self.biased();
         if bias {
@@ -230,16 +229,7 @@ impl SkewState {
         if self.weight <= 2.0 {
             return Figure::Missing;
         }
-        Figure::Present(correction * biased_est)
-    }
-
-    pub fn finalize(self, bias: bool) -> Figure
-        ensures { λ r. ⌜ r ≡ skewFinalize self bias ⌝ }
-    {
-        if bias {
-            return self.finalize_with(bias, 0.0);
-        }
-        self.finalize_with(bias, SkewState::correction(self.weight))
+        Figure::Present(SkewState::correction(self.weight) * biased_est)
     }
 
     // One unchunked state of the valid readings of a range. The range is lent as a part that starts in the trace's middle.

@@ -22,16 +22,16 @@ use Rattle.window.specs.declared.Window.{Window}
 use Rattle.window.proofs.Rows.{Row}
 use Rattle.window.proofs.Tables.{table-length, table-more, table-join}
 use Rattle.rolling.specs.Moments.{skewness}
-use Rattle.rolling.specs.Slots.{Corrections, doubleAt, Waits, skewAnswer, Filled}
+use Rattle.rolling.specs.Slots.{Corrections, doubleAt, Waits, rowAnswer, BlockFilled}
 
 module _ (bias : Bool) (t : Series Float) (minPeriods n widest : ℕ) (p : Plan) where
   abbrev Answer : ℕ → Figure
-  Answer k = skewAnswer bias t minPeriods p k
+  Answer k = rowAnswer bias t minPeriods p k
 
   -- before the block's first row
   pub filled-start : {first : ℕ} {work : List Float} {present : List ℕ} {w : Window} {agg : SkewState} {counts : List ℕ} {corrections m2s m3s factors : List Float} →
       Standing (ofReadings skewness) t minPeriods n widest p w agg work first → Corrections counts corrections → length m2s ≡ 32 → length m3s ≡ 32 → length factors ≡ 32 →
-      Filled bias t minPeriods n widest p first work work present present w agg counts corrections m2s m3s factors first
+      BlockFilled bias t minPeriods n widest p first work work present present w agg counts corrections m2s m3s factors first
   filled-start stand c x y z =
       record {
         standing = stand;
@@ -49,10 +49,10 @@ module _ (bias : Bool) (t : Series Float) (minPeriods n widest : ℕ) (p : Plan)
   -- one row more: the window after its step, its byte and its slot
   pub filled-next : {first k byte : ℕ} {work₀ work work' : List Float} {present₀ present : List ℕ} {w w' : Window} {agg agg' : SkewState} {counts counts' : List ℕ}
       {corrections corrections' m2s m3s factors m2s' m3s' factors' : List Float} {f : Figure} →
-      Filled bias t minPeriods n widest p first work₀ work present₀ present w agg counts corrections m2s m3s factors k → first ≤ k → k - first < 32 → k < rows p →
+      BlockFilled bias t minPeriods n widest p first work₀ work present₀ present w agg counts corrections m2s m3s factors k → first ≤ k → k - first < 32 → k < rows p →
       Standing (ofReadings skewness) t minPeriods n widest p w' agg' work' (k + 1) → length work' ≡ length work → drop (5 * widest) work' ≡ drop (5 * widest) work →
       Waits bias f (k - first) byte m2s m3s factors m2s' m3s' factors' → f ≡ Answer k → Corrections counts' corrections' →
-      Filled bias t minPeriods n widest p first work₀ work' present₀ (set present k byte) w' agg' counts' corrections' m2s' m3s' factors' (k + 1)
+      BlockFilled bias t minPeriods n widest p first work₀ work' present₀ (set present k byte) w' agg' counts' corrections' m2s' m3s' factors' (k + 1)
   filled-next {first} {k} {byte} {present = present} {m2s = m2s} {m3s = m3s} {factors = factors} {m2s' = m2s'} {m3s' = m3s'} {factors' = factors'} {f = f} v g h more stand len rest q e c =
       record {
         standing = stand;
@@ -61,14 +61,14 @@ module _ (bias : Bool) (t : Series Float) (minPeriods n widest : ℕ) (p : Plan)
         present-same = simp length-set (v .present-same);
         bytes = λ l fits old. rw (v .bytes l fits old) (table-more (λ j. byteOf (Answer j)) l k byte (q .byte-is ∙ ap byteOf e) (omega arith));
         kept = c;
-        m2s-long = ap length (q .second-at) ∙ simp length-set (v .m2s-long);
-        m3s-long = ap length (q .third-at) ∙ simp length-set (v .m3s-long);
+        m2s-long = ap length (q .m2-at) ∙ simp length-set (v .m2s-long);
+        m3s-long = ap length (q .m3-at) ∙ simp length-set (v .m3s-long);
         factors-long = ap length (q .factor-at) ∙ simp length-set (v .factors-long);
-        slots = λ j i l. rw (q .second-at, q .third-at, q .factor-at) (at j i l (eqb j k) refl);
+        slots = λ j i l. rw (q .m2-at, q .m3-at, q .factor-at) (at j i l (eqb j k) refl);
       }
     where
       at : (j : ℕ) → first ≤ j → j < k + 1 → (y : Bool) → eqb j k ≡ y →
-          doubleAt bias (set m2s (k - first) (q .second)) (set m3s (k - first) (q .third)) (set factors (k - first) (q .factor)) (j - first) ≡ doubleOf (Answer j)
+          doubleAt bias (set m2s (k - first) (q .m2)) (set m3s (k - first) (q .m3)) (set factors (k - first) (q .factor)) (j - first) ≡ doubleOf (Answer j)
       at j i l true y =
           let z = eqb-true j k y in
           let a = v .m2s-long in
@@ -76,8 +76,8 @@ module _ (bias : Bool) (t : Series Float) (minPeriods n widest : ℕ) (p : Plan)
           let d = v .factors-long in
           rw (
             z,
-            getD-set-same m2s (k - first) (q .second) nan (omega arith),
-            getD-set-same m3s (k - first) (q .third) nan (omega arith),
+            getD-set-same m2s (k - first) (q .m2) nan (omega arith),
+            getD-set-same m3s (k - first) (q .m3) nan (omega arith),
             getD-set-same factors (k - first) (q .factor) nan (omega arith),
           )
           (q .double-is ∙ ap doubleOf e)
@@ -86,8 +86,8 @@ module _ (bias : Bool) (t : Series Float) (minPeriods n widest : ℕ) (p : Plan)
           let s : j < k = omega arith in
           let o : j - first ≡ k - first → ⊥ = λ x. z (omega arith) in
           rw (
-            getD-set-other m2s (k - first) (j - first) (q .second) nan o,
-            getD-set-other m3s (k - first) (j - first) (q .third) nan o,
+            getD-set-other m2s (k - first) (j - first) (q .m2) nan o,
+            getD-set-other m3s (k - first) (j - first) (q .m3) nan o,
             getD-set-other factors (k - first) (j - first) (q .factor) nan o,
           )
           (v .slots j i s)
@@ -122,7 +122,7 @@ module _ (bias : Bool) (t : Series Float) (minPeriods n widest : ℕ) (p : Plan)
 
   -- a block done, and its doubles written
   pub block-next : {work₀ work₁ work out₀ out₁ out r corrections m2s m3s factors : List Float} {pr₀ pr₁ pr counts : List ℕ} {v w : Window} {a agg : SkewState} {first until : ℕ} →
-      RowOf work₀ out₀ pr₀ work₁ out₁ pr₁ v a first → Filled bias t minPeriods n widest p first work₁ work pr₁ pr w agg counts corrections m2s m3s factors until → first ≤ until →
+      RowOf work₀ out₀ pr₀ work₁ out₁ pr₁ v a first → BlockFilled bias t minPeriods n widest p first work₁ work pr₁ pr w agg counts corrections m2s m3s factors until → first ≤ until →
       rows p ≤ length out₀ → rows p ≤ length pr₀ → r ≡ table (doubleAt bias m2s m3s factors) (length (take (until - first) (drop first out₁))) →
       out ≡ take first out₁ ++ (r ++ drop (until - first) (drop first out₁)) → RowOf work₀ out₀ pr₀ work out pr w agg until
   block-next {out₀ = out₀} {out₁ = out₁} {out = out} {r = r} {m2s = m2s} {m3s = m3s} {factors = factors} {pr₀ = pr₀} {first = first} {until = until} o f h ho hp g e =

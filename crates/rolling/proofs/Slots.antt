@@ -33,7 +33,7 @@ use Rattle.window.proofs.Tables.{table-same}
 use Rattle.rolling.specs.Moments.{skewness}
 use Rattle.rolling.specs.declared.skew.SkewPending.{SkewPending}
 use Rattle.rolling.specs.declared.skew.SkewPending.the-variants.{Missing, State}
-use Rattle.rolling.specs.Slots.{Corrections, Weighed, secondOf, thirdOf, leastOf, estimate, doubleAt, pendingOf, Waits}
+use Rattle.rolling.specs.Slots.{Corrections, Weighed, m2Of, m3Of, leastOf, estimate, doubleAt, pendingOf, Waits}
 
 -- a state of readings inserted in rising order
 pub rising-weight : (t : Series Float) (base : ℕ) (w : Window) (agg : SkewState) (work : List Float) → Held (ofReadings skewness) t base w agg work → w .back ≤ 2 ^ 53 →
@@ -114,24 +114,24 @@ too-few s bias n nonfinite h e f = ap (orNan nonfinite) (go bias f) ∙ same (eq
 -- enough readings
 module _ (s : SkewState) (n nonfinite : ℕ) (h : n ≤ 2 ^ 53) (e : s .weight ≡ count n) where
   abbrev R : Float
-  R = root (secondOf s)
+  R = root (m2Of s)
 
   figured : (bias : Bool) → leb (leastOf bias) n ≡ true → skewFinalize s bias ≡ Present (cond bias (skewBiased s) (skewCorrection (s .weight) ⊗ skewBiased s))
   figured true f = skew-biased-missing n h s e ∙ rw (ne-eqb n 0 (λ z. let g = leb-true 1 n f in omega arith))
   figured false f = skew-unbiased-missing n h s e ∙ rw (lt-leb n 2 (let g = leb-true 3 n f in omega arith))
 
-  biased-is : (b : Bool) → isZero (secondOf s) (s .mean) ≡ b → cond b nan (s .m3 ⊘ s .weight) ⊘ (secondOf s ⊗ R) ≡ skewBiased s
+  biased-is : (b : Bool) → isZero (m2Of s) (s .mean) ≡ b → cond b nan (s .m3 ⊘ s .weight) ⊘ (m2Of s ⊗ R) ≡ skewBiased s
   unfolding skewBiased
   biased-is true z = rw z (div-nan _)
   biased-is false z = rw z
 
   pub present-double : (bias : Bool) (factor : Float) → leb (leastOf bias) n ≡ true → (bias ≡ false → factor ≡ skewCorrection (count n)) →
-      estimate bias (secondOf s) (thirdOf s nonfinite) factor R ≡ doubleOf (orNan nonfinite (skewFinalize s bias))
+      estimate bias (m2Of s) (m3Of s nonfinite) factor R ≡ doubleOf (orNan nonfinite (skewFinalize s bias))
   unfolding orNan
   present-double bias factor f c = rw (figured bias f) (go bias c (eqb nonfinite 0))
     where
       go : (bias : Bool) → (bias ≡ false → factor ≡ skewCorrection (count n)) → (b : Bool) →
-          estimate bias (secondOf s) (cond b (cond (isZero (secondOf s) (s .mean)) nan (s .m3 ⊘ s .weight)) nan) factor R
+          estimate bias (m2Of s) (cond b (cond (isZero (m2Of s) (s .mean)) nan (s .m3 ⊘ s .weight)) nan) factor R
           ≡ doubleOf (cond b (Present (cond bias (skewBiased s) (skewCorrection (s .weight) ⊗ skewBiased s))) (Present nan))
       go true c true = biased-is _ refl
       go true c false = div-nan _
@@ -190,11 +190,11 @@ pub missing-waits : (bias : Bool) (answer : Figure) → answer ≡ Figure·Missi
     Waits bias answer k 0 m2s m3s factors (set m2s k one64) (set m3s k zero64) (set factors k zero64)
 missing-waits bias answer e k m2s m3s factors =
     record {
-      second = one64;
-      third = zero64;
+      m2 = one64;
+      m3 = zero64;
       factor = zero64;
-      second-at = refl;
-      third-at = refl;
+      m2-at = refl;
+      m3-at = refl;
       factor-at = refl;
       double-is = rw e (nothing bias);
       byte-is = rw e;
@@ -202,15 +202,15 @@ missing-waits bias answer e k m2s m3s factors =
 
 pub present-waits : (bias : Bool) (s : SkewState) (n nonfinite : ℕ) → n ≤ 2 ^ 53 → s .weight ≡ count n → leb (leastOf bias) n ≡ true →
     (factor : Float) → (bias ≡ false → factor ≡ skewCorrection (count n)) → (answer : Figure) → answer ≡ orNan nonfinite (skewFinalize s bias) →
-    (k : ℕ) (m2s m3s factors m2s' m3s' factors' : List Float) → m2s' ≡ set m2s k (secondOf s) → m3s' ≡ set m3s k (thirdOf s nonfinite) → factors' ≡ set factors k factor →
+    (k : ℕ) (m2s m3s factors m2s' m3s' factors' : List Float) → m2s' ≡ set m2s k (m2Of s) → m3s' ≡ set m3s k (m3Of s nonfinite) → factors' ≡ set factors k factor →
     Waits bias answer k 1 m2s m3s factors m2s' m3s' factors'
 present-waits bias s n nonfinite h e f factor c answer a k m2s m3s factors m2s' m3s' factors' x y z =
     record {
-      second = secondOf s;
-      third = thirdOf s nonfinite;
+      m2 = m2Of s;
+      m3 = m3Of s nonfinite;
       factor = factor;
-      second-at = x;
-      third-at = y;
+      m2-at = x;
+      m3-at = y;
       factor-at = z;
       double-is = present-double s n nonfinite h e bias factor f c ∙ ap doubleOf (sym a);
       byte-is = present-byte s n nonfinite h e bias f ∙ ap byteOf (sym a);
@@ -235,15 +235,15 @@ finished bias m2s m3s factors roots r n h k e =
 
 -- ---- corrections
 -- a place taken by another count
-pub taken-slot : (counts : List ℕ) (corrections : List Float) → Corrections counts corrections → (i : ℕ) → i < 256 → (n : ℕ) (f : Float) → f ≡ skewCorrection (count n) →
+pub taken-place : (counts : List ℕ) (corrections : List Float) → Corrections counts corrections → (i : ℕ) → i < 256 → (n : ℕ) (f : Float) → f ≡ skewCorrection (count n) →
     Corrections (set counts i n) (set corrections i f)
-taken-slot counts corrections c i h n f e =
+taken-place counts corrections c i h n f e =
     let l = c .counts-long in
     let m = c .corrections-long in
     record {
       counts-long = length-set counts i n ∙ l;
       corrections-long = length-set corrections i f ∙ m;
-      slot = λ j k. at j k (eqb j i) refl;
+      correction-is = λ j k. at j k (eqb j i) refl;
     }
   where
     at : (j : ℕ) → j < 256 → (b : Bool) → eqb j i ≡ b → getD (set corrections i f) j nan ≡ skewCorrection (count (getD (set counts i n) j 0))
@@ -252,13 +252,13 @@ taken-slot counts corrections c i h n f e =
         let l = c .counts-long in
         let m = c .corrections-long in
         rw (z, getD-set-same corrections i f nan (omega arith), getD-set-same counts i n 0 (omega arith)) e
-    at j k false q = rw (getD-set-other corrections i j f nan (eqb-false j i q), getD-set-other counts i j n 0 (eqb-false j i q)) (c .slot j k)
+    at j k false q = rw (getD-set-other corrections i j f nan (eqb-false j i q), getD-set-other counts i j n 0 (eqb-false j i q)) (c .correction-is j k)
 
 -- every place holds the count 0
-pub first-slots : (f : Float) → f ≡ skewCorrection zero64 → Corrections (replicate {A = ℕ} 256 0) (replicate 256 f)
-first-slots f e =
+pub first-places : (f : Float) → f ≡ skewCorrection zero64 → Corrections (replicate {A = ℕ} 256 0) (replicate 256 f)
+first-places f e =
     record {
       counts-long = length-replicate {A = ℕ} 256 0;
       corrections-long = length-replicate 256 f;
-      slot = λ i h. rw (getD-replicate 256 i f nan h, getD-replicate {A = ℕ} 256 i 0 0 h) (e ∙ ap skewCorrection zero-is);
+      correction-is = λ i h. rw (getD-replicate 256 i f nan h, getD-replicate {A = ℕ} 256 i 0 0 h) (e ∙ ap skewCorrection zero-is);
     }

@@ -27,7 +27,7 @@ use Rattle.rolling.specs.declared.skew.SkewPending.the-variants.{Missing
 pub record Corrections (counts : List ℕ) (corrections : List Float) : Type 0 where
   pub counts-long : length counts ≡ 256
   pub corrections-long : length corrections ≡ 256
-  pub slot : (i : ℕ) → i < 256 → getD corrections i nan ≡ skewCorrection (count (getD counts i 0))
+  pub correction-is : (i : ℕ) → i < 256 → getD corrections i nan ≡ skewCorrection (count (getD counts i 0))
 
 -- the weights of a window's two states count its readings
 pub record Weighed (w : Window) (agg : SkewState) (work : List Float) : Type 0 where
@@ -36,18 +36,18 @@ pub record Weighed (w : Window) (agg : SkewState) (work : List Float) : Type 0 w
   pub front-is : topOf (ofReadings skewness) work (w .front) .weight ≡ count (w .front)
 
 -- the m2 of `finalize`
-abbrev pub secondOf : SkewState → Float
-secondOf s = s .m2 ⊘ s .weight
+abbrev pub m2Of : SkewState → Float
+m2Of s = s .m2 ⊘ s .weight
 
--- the m3 of `finalize`, and NaN where the figure is NaN: m2 is zero, or so many readings are not finite
-abbrev pub thirdOf : SkewState → ℕ → Float
-thirdOf s nonfinite = cond (eqb nonfinite 0) (cond (isZero (secondOf s) (s .mean)) nan (s .m3 ⊘ s .weight)) nan
+-- the m3 of `finalize`, and NaN where its is_zero holds or the window has readings that are not finite
+abbrev pub m3Of : SkewState → ℕ → Float
+m3Of s nonfinite = cond (eqb nonfinite 0) (cond (isZero (m2Of s) (s .mean)) nan (s .m3 ⊘ s .weight)) nan
 
 -- the fewest readings that have a figure
 abbrev pub leastOf : Bool → ℕ
 leastOf bias = cond bias 1 3
 
--- a row's state, if the row has one: enough valid places or enough length, and enough readings
+-- a row's state, if the row has one: with a map enough valid places, without one enough length; and enough readings for a figure
 unfoldable pub pendingOf : Bool → Bool → ℕ → ℕ → ℕ → Window → SkewState → SkewPending
 pendingOf bias mapped minPeriods s e w state =
     let valid = w .front + w .back in
@@ -55,39 +55,39 @@ pendingOf bias mapped minPeriods s e w state =
 
 -- what a slot comes to, by the root of its m2
 abbrev pub estimate : Bool → Float → Float → Float → Float → Float
-estimate bias m2 m3 factor root = cond bias (m3 ⊘ (m2 ⊗ root)) (factor ⊗ (m3 ⊘ (m2 ⊗ root)))
+estimate bias m2 m3 factor r = cond bias (m3 ⊘ (m2 ⊗ r)) (factor ⊗ (m3 ⊘ (m2 ⊗ r)))
 
 -- the double that slot i comes to
 abbrev pub doubleAt : Bool → List Float → List Float → List Float → ℕ → Float
 doubleAt bias m2s m3s factors i = estimate bias (getD m2s i nan) (getD m3s i nan) (getD factors i nan) (root (getD m2s i nan))
 
--- a row of this answer and this byte waits in slot k
+-- a row waits in slot k, which alone is written and comes to the double of its answer; byte is the answer's
 pub record Waits (bias : Bool) (answer : Figure) (k byte : ℕ) (m2s m3s factors m2s' m3s' factors' : List Float) : Type 0 where
-  pub second : Float
-  pub third : Float
+  pub m2 : Float
+  pub m3 : Float
   pub factor : Float
-  pub second-at : m2s' ≡ set m2s k second
-  pub third-at : m3s' ≡ set m3s k third
+  pub m2-at : m2s' ≡ set m2s k m2
+  pub m3-at : m3s' ≡ set m3s k m3
   pub factor-at : factors' ≡ set factors k factor
-  pub double-is : estimate bias second third factor (root second) ≡ doubleOf answer
+  pub double-is : estimate bias m2 m3 factor (root m2) ≡ doubleOf answer
   pub byte-is : byte ≡ byteOf answer
 
 -- row k's answer
-abbrev pub skewAnswer : Bool → Series Float → ℕ → Plan → ℕ → Figure
-skewAnswer bias t minPeriods p k = answerAt (ofReadings skewness) (λ z. skewFinalize z bias) t minPeriods p k
+abbrev pub rowAnswer : Bool → Series Float → ℕ → Plan → ℕ → Figure
+rowAnswer bias t minPeriods p k = answerAt (ofReadings skewness) (λ z. skewFinalize z bias) t minPeriods p k
 
 -- The rows from `first` up to k of a block: the window stands before row k, their bytes are written, and their slots come to their
--- doubles. work₀ and present₀ are where the block began
-pub record Filled (bias : Bool) (t : Series Float) (minPeriods n widest : ℕ) (p : Plan) (first : ℕ) (work₀ work : List Float) (present₀ present : List ℕ)
+-- doubles. work₀ and present₀ are where the block began; whatever list l the plan's bytes are written over, they are written on
+pub record BlockFilled (bias : Bool) (t : Series Float) (minPeriods n widest : ℕ) (p : Plan) (first : ℕ) (work₀ work : List Float) (present₀ present : List ℕ)
     (w : Window) (agg : SkewState) (counts : List ℕ) (corrections m2s m3s factors : List Float) (k : ℕ) : Type 0 where
   pub standing : Standing (ofReadings skewness) t minPeriods n widest p w agg work k
   pub work-same : length work ≡ length work₀
   pub work-rest : drop (5 * widest) work ≡ drop (5 * widest) work₀
   pub present-same : length present ≡ length present₀
-  pub bytes : (l : List ℕ) → rows p ≤ length l → present₀ ≡ table (λ j. byteOf (skewAnswer bias t minPeriods p j)) first ++ drop first l →
-      present ≡ table (λ j. byteOf (skewAnswer bias t minPeriods p j)) k ++ drop k l
+  pub bytes : (l : List ℕ) → rows p ≤ length l → present₀ ≡ table (λ j. byteOf (rowAnswer bias t minPeriods p j)) first ++ drop first l →
+      present ≡ table (λ j. byteOf (rowAnswer bias t minPeriods p j)) k ++ drop k l
   pub kept : Corrections counts corrections
   pub m2s-long : length m2s ≡ 32
   pub m3s-long : length m3s ≡ 32
   pub factors-long : length factors ≡ 32
-  pub slots : (j : ℕ) → first ≤ j → j < k → doubleAt bias m2s m3s factors (j - first) ≡ doubleOf (skewAnswer bias t minPeriods p j)
+  pub slots : (j : ℕ) → first ≤ j → j < k → doubleAt bias m2s m3s factors (j - first) ≡ doubleOf (rowAnswer bias t minPeriods p j)

@@ -23,7 +23,8 @@ pub(crate) fn place(bound: u32) -> usize
     bound as usize
 }
 
-// Row by row. The row before is kept in locals: each row is read once.
+// The number of the first row that is refused, found row by row, and the widest window where none is. The row before is kept in
+// locals: each row is read once.
 fn first_refusal(n: usize, starts: &[u32], ends: &[u32]) -> Checked
     requires { ⌜ length (now starts) ≡ length (now ends) ⌝ }
     ensures { λ r. ⌜ (r .number ≡ rowsRefusal n (planOf (now (starts .entry)) (now (ends .entry))) (length (now (starts .entry)))) × (r .widest ≤ n)

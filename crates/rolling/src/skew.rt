@@ -16,7 +16,7 @@ ghost use Rattle.window.specs.Readings.{series, ofReadings};
 ghost use Rattle.window.specs.Rows.{stepped, table};
 ghost use Rattle.window.specs.Stacks.{inMemory, frontStack, account, Counted, Leaves, Held, Pushed, topOf, answerBy, Movable, Moves, Planned, Accepted};
 ghost use Rattle.rolling.specs.Moments.{Skewness, skewLayout, skewness};
-ghost use Rattle.rolling.specs.Slots.{Corrections, Weighed, secondOf, thirdOf, leastOf, estimate, doubleAt, pendingOf, Waits, Filled};
+ghost use Rattle.rolling.specs.Slots.{Corrections, Weighed, m2Of, m3Of, leastOf, estimate, doubleAt, pendingOf, Waits, BlockFilled};
 ghost use Rattle.rolling.specs.Calls.{planOf, ask, lent, traceOf, Written};
 use crate::leaving;
 use crate::leaving::Left;
@@ -56,8 +56,10 @@ impl SkewMoment {
 
     pub const PLACE: usize = SkewMoment::STATE + SkewMoment::ENTRY;
 
-    // Counts whose correction is kept.
-    const SLOTS: usize = 256;
+    // Counts whose correction is kept, and rows that are finalised together.
+    const KEPT: usize = 256;
+
+    const BLOCK: usize = 32;
 
     fn empty() -> SkewState
         ensures { λ r. ⌜ r ≡ skewEmpty ⌝ }
@@ -65,7 +67,8 @@ impl SkewMoment {
         SkewState::default()
     }
 
-    // The n readings of the back stack become the front stack, the last of them at its bottom.
+    // The n readings of the back stack become the front stack, the last of them at its bottom. The weight counts them, so that `insert_one`
+    // has nothing to clear.
     fn flip(work: &mut [f64], base: usize, n: usize)
         requires { ⌜ (4 * n ≤ base) × (base + n ≤ length (now work)) × (n ≤ 2 ^ 53) ⌝ }
         ensures { λ _. ⌜ now (work .exit) ≡ inMemory skewLayout (frontStack (ofReadings skewness) (take n (drop base (now (work .entry))))) ++ drop (4 * n) (now (work .entry)) ⌝ }
@@ -322,14 +325,14 @@ impl SkewMoment {
         if self.bias {
             return 0.0;
         }
-        let slot = valid % SkewMoment::SLOTS;
+        let at = valid % SkewMoment::KEPT;
         let n = valid as u64;
-        if counts[slot] == n {
-            return corrections[slot];
+        if counts[at] == n {
+            return corrections[at];
         }
         let factor = SkewState::correction(std::num::nearest_u64_to_f64(n));
-        counts[slot] = n;
-        corrections[slot] = factor;
+        counts[at] = n;
+        corrections[at] = factor;
         factor
     }
 
@@ -349,8 +352,7 @@ impl SkewMoment {
         agg_back.merged(top)
     }
 
-    // What is left of a row of these numbers: its second and third moments and its correction, written to slot k. Where the figure is
-    // NaN the third moment is.
+    // A row's m2, m3 and correction, written to slot k. NaN stands for m3 where `is_zero` holds or a reading is not finite.
     fn hold(
         state: SkewState,
         nonfinite: usize,
@@ -361,7 +363,7 @@ impl SkewMoment {
         k: usize,
     )
         requires { ⌜ (k < length (now m2s)) × (k < length (now m3s)) × (k < length (now factors)) ⌝ }
-        ensures { λ _. ⌜ (now (m2s .exit) ≡ set (now (m2s .entry)) k (secondOf state)) × (now (m3s .exit) ≡ set (now (m3s .entry)) k (thirdOf state nonfinite))
+        ensures { λ _. ⌜ (now (m2s .exit) ≡ set (now (m2s .entry)) k (m2Of state)) × (now (m3s .exit) ≡ set (now (m3s .entry)) k (m3Of state nonfinite))
             × (now (factors .exit) ≡ set (now (factors .entry)) k factor) ⌝ }
     {
         let m2 = state.m2 / state.weight;
@@ -442,6 +444,7 @@ impl SkewMoment {
         1
     }
 
+    // The last step of `finalize`: an unbiased estimate takes the correction.
     fn scaled(self, factor: f64, biased: f64) -> f64
         ensures { λ r. ⌜ r ≡ cond (self .bias) biased (factor ⊗ biased) ⌝ }
     {
@@ -471,15 +474,15 @@ impl SkewMoment {
         self.estimates(m2s, m3s, factors, roots, out);
     }
 
-    // Rows are finalised 32 at a time, so that their roots run side by side.
+    // Where the block that begins with row `first` ends. Rows are finalised together, so that their roots run side by side.
     fn block_end(first: usize, rows: usize) -> usize
         requires { ⌜ first < rows ⌝ }
         ensures { λ r. ⌜ (first < r) × (r ≤ rows) × (r ≤ first + 32) ⌝ }
     {
-        if rows - first <= 32 {
+        if rows - first <= SkewMoment::BLOCK {
             return rows;
         }
-        first + 32
+        first + SkewMoment::BLOCK
     }
 
     // The rows of a block, from `first` up to `until`: the window after them, with their bytes and slots written.
@@ -505,9 +508,9 @@ impl SkewMoment {
     ) -> SkewWindow
         requires { ⌜ Planned (length (now values)) widest (planOf (now starts) (now ends)) × (length (now values) ≤ 2 ^ 53) × (5 * widest ≤ length (now work))
             × (length (now starts) ≤ length (now present)) × (first ≤ until) × (until ≤ length (now starts)) × (until ≤ first + 32) ⌝ }
-        requires { ⌜ Filled (self .bias) (series «has_map» (now map) (now values)) «min_periods» (length (now values)) widest (planOf (now starts) (now ends)) first
+        requires { ⌜ BlockFilled (self .bias) (series «has_map» (now map) (now values)) «min_periods» (length (now values)) widest (planOf (now starts) (now ends)) first
             (now work) (now work) (now present) (now present) (opening .window) (opening .«agg_back») (now counts) (now corrections) (now m2s) (now m3s) (now factors) first ⌝ }
-        ensures { λ q. ⌜ Filled (self .bias) (series «has_map» (now (map .entry)) (now (values .entry))) «min_periods» (length (now (values .entry))) widest (planOf (now (starts .entry)) (now (ends .entry))) first
+        ensures { λ q. ⌜ BlockFilled (self .bias) (series «has_map» (now (map .entry)) (now (values .entry))) «min_periods» (length (now (values .entry))) widest (planOf (now (starts .entry)) (now (ends .entry))) first
             (now (work .entry)) (now (work .exit)) (now (present .entry)) (now (present .exit)) (q .window) (q .«agg_back»)
             (now (counts .exit)) (now (corrections .exit)) (now (m2s .exit)) (now (m3s .exit)) (now (factors .exit)) until ⌝ }
     {
@@ -577,6 +580,7 @@ impl SkewMoment {
             },
             agg_back: SkewMoment::empty(),
         };
+        // Every place holds the correction of the count 0.
         let mut counts = [0u64; 256];
         let none = SkewState::correction(0.0);
         let mut corrections = [none; 256];

@@ -302,17 +302,14 @@ high-root b h g =
 -- the exponent of its root is half of its own, which half of its bits holds
 pub normal-root : (b w q : ℕ) → 2 ^ 52 ≤ b → b < 0x7ff0000000000000
     → w ≡ (b % 2 ^ 52 + 2 ^ 52) * 2 ^ ((1073 + b / 2 ^ 52) % 2) → q ≡ roundedRoot 0 (w * 2 ^ 52)
-    → let v = (b / 2 + 0x1fe8000000000000) / 2 ^ 52 * 2 ^ 52 + q in
-    (v < 0x7ff0000000000000) × (ofBits binary64 v ≡ root (ofBits binary64 b))
+    → ofBits binary64 ((b / 2 + 0x1fe8000000000000) / 2 ^ 52 * 2 ^ 52 + q) ≡ root (ofBits binary64 b)
 normal-root b w q h g f is =
     let m = b % 2 ^ 52 + 2 ^ 52 in
     let j = 1073 + b / 2 ^ 52 in
     let n : Normal m j = omega arith in
     let k : (b / 2 + 0x1fe8000000000000) / 2 ^ 52 ≡ j / 2 - 26 = omega arith in
-    let r = root-bits m j n q (is ∙ ap (λ (x : ℕ). roundedRoot 0 (x * 2 ^ 52)) (f ∙ sym (word-whole m j n))) in (
-      omega (arith, r .0),
-      ap (λ (x : ℕ). ofBits binary64 (x * 2 ^ 52 + q)) k ∙ r .1 ∙ sym (high-root b h g),
-    )
+    let r = root-bits m j n q (is ∙ ap (λ (x : ℕ). roundedRoot 0 (x * 2 ^ 52)) (f ∙ sym (word-whole m j n))) in
+    ap (λ (x : ℕ). ofBits binary64 (x * 2 ^ 52 + q)) k ∙ r .1 ∙ sym (high-root b h g)
 
 -- ---- below zero, minus infinity and NaN
 neg-fin : (m : ℕ) (e : ℤ) (a c : ℕ) → 0 < a → m * up e * c ≡ a * down e → root (fin true m e) ≡ nan

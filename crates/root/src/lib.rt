@@ -112,8 +112,8 @@ struct Settled {
 // What to add to r, 0 or 1, for the whole number nearest to the root of x * 2^52, with a doubt above 0 where neither may do.
 // The square of r has more bits than a word, so it is taken off in parts: with r = high * 2^26 + low,
 // x * 2^52 - r * r = ((x - high * high) * 2^25 - high * low) * 2^27 - low * low. The 1 added to x, and taken off again as
-// 2^52, keeps the differences of a good guess above zero; others wrap around, and are too large. There is no branch, so
-// that the roots of a list are checked side by side.
+// 2^52, keeps the differences of a good guess above zero; others are too large, or wrap around and so become too large.
+// There is no branch, so that the roots of a list are checked side by side.
 fn settle(x: u64, r: u64) -> Settled
     requires { ⌜ (x < 2 ^ 54) × (r < 2 ^ 53) ⌝ }
     ensures { λ s. ⌜ (s .more ≤ 1) × (s .doubt < 2 ^ 38) × (s .doubt ≡ 0 → r + s .more ≡ roundedRoot 0 (x * 2 ^ 52)) ⌝ }

@@ -114,7 +114,8 @@ pub record Accepted (each n : ℕ) (p : Plan) (short : Bool) (figures present wo
   pub present-fit : rows p ≤ present
   pub work-fits : each * wide ≤ work
 
--- Before row k of a plan over n places: the window is held, and its account is the one after the rows before
+-- Before row k of a plan over n places: the window is held, its account is the one after the rows before, it is no wider than
+-- `widest`, and no row from k on starts or ends before it
 pub record Standing (M : Moment) (t : Series (M .Entry)) (minPeriods n widest : ℕ) (p : Plan) (w : Window) (agg : M .State) (work : List Float) (k : ℕ) : Type 0 where
   pub upto : k ≤ rows p
   pub held : Held M t (M .inFront .width * widest) w agg work

@@ -66,7 +66,7 @@ returns c =
           let z : other .result ≡ 0 = omega arith in
           let normal = other .ensures .1 z in
           same-bits
-          (normal-root (b .result) (w .result) (r + s .result .more) (normal .0) (normal .1) (w .ensures .1) (s .ensures .2 d) .1
+          (normal-root (b .result) (w .result) (r + s .result .more) (normal .0) (normal .1) (w .ensures .1) (s .ensures .2 d)
           ∙ ap root (b .ensures (omega arith)))
           (omega arith),
     )

@@ -8,7 +8,7 @@ use Rattle.window.specs.Readings.{series, ofReadings}
 use Rattle.window.proofs.Rows.{row-ready, row-fits, row-inside, row-answer, stand-next}
 use Rattle.rolling.specs.Moments.{skewness}
 use Rattle.rolling.specs.Calls.{planOf}
-use Rattle.rolling.specs.Slots.{Filled}
+use Rattle.rolling.specs.Slots.{BlockFilled}
 use Rattle.rolling.proofs.Slots.{weighed}
 use Rattle.rolling.proofs.Blocks.{filled-next}
 use Rattle.rolling.proofs.skew.SkewMoment.block.Statement.{statement}
@@ -16,7 +16,7 @@ use Rattle.rolling.proofs.skew.SkewMoment.block.Tie as tie
 
 abbrev Inv-loop : tie.InvT-loop
 Inv-loop self values has-map map starts ends min-periods widest work₀ present₀ first until counts₀ corrections₀ m2s₀ m3s₀ factors₀ w₀ row₀ work present counts corrections m2s m3s factors w row =
-    Filled (self .bias) (series has-map map values) min-periods (length values) widest (planOf starts ends) first
+    BlockFilled (self .bias) (series has-map map values) min-periods (length values) widest (planOf starts ends) first
     work₀ work present₀ present (w .window) (w .«agg_back») counts corrections m2s m3s factors row
     × (first ≤ row) × (row ≤ until)
 

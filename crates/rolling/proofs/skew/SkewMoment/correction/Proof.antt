@@ -4,7 +4,7 @@ use mathlib.Core.Path.{_≡_, sym, ap, _∙_}
 use native.Mathlib.Omega.{arith}
 use Rattle.float.specs.Operators.{count}
 use Rattle.moment.specs.Skew.{skewCorrection}
-use Rattle.rolling.proofs.Slots.{taken-slot}
+use Rattle.rolling.proofs.Slots.{taken-place}
 use borrow.Author.Needs.{needs}
 use Rattle.rolling.proofs.skew.SkewMoment.correction.Statement.{statement}
 use Rattle.rolling.proofs.skew.SkewMoment.correction.Tie as tie
@@ -28,7 +28,7 @@ returns-2 : tie.Need-returns-2
 returns-2 c =
     let a = c .before .before .before .before .before .before in
     let h : a .args .valid % 256 < 256 = omega arith in
-    (λ z. a .pre .slot (a .args .valid % 256) h ∙ ap (λ n. skewCorrection (count n)) (c .before .if2 .taken), a .pre)
+    (λ z. a .pre .correction-is (a .args .valid % 256) h ∙ ap (λ n. skewCorrection (count n)) (c .before .if2 .taken), a .pre)
 
 nearest-u64-to-f64-requires : tie.Need-nearest-u64-to-f64-requires
 nearest-u64-to-f64-requires c κs = search needs
@@ -59,7 +59,7 @@ returns-3 c =
     let a = c .before .before .before .before .before .before .before in
     let h : a .args .valid % 256 < 256 = omega arith in
     let e = c .correction .ensures ∙ ap skewCorrection (c .before .nearest-u64-to-f64 .ensures) in
-    (λ z. e, taken-slot _ _ (a .pre) _ h _ _ e)
+    (λ z. e, taken-place _ _ (a .pre) _ h _ _ e)
 
 pub correction-spec : {M : Type 1} → statement M
 correction-spec =

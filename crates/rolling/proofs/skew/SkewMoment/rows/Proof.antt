@@ -13,7 +13,7 @@ use Rattle.window.proofs.Rows.{Row, row-start, row-done}
 use Rattle.rolling.specs.Moments.{skewness}
 use Rattle.rolling.specs.Calls.{planOf}
 use Rattle.rolling.specs.Slots.{Corrections}
-use Rattle.rolling.proofs.Slots.{first-slots}
+use Rattle.rolling.proofs.Slots.{first-places}
 use Rattle.rolling.proofs.Blocks.{filled-start, block-next}
 use Rattle.rolling.proofs.skew.SkewMoment.rows.Statement.{statement}
 use Rattle.rolling.proofs.skew.SkewMoment.rows.Tie as tie
@@ -37,7 +37,7 @@ correction-requires c κs = search needs
 loop-holds : tie.Need-loop-holds Inv-loop μ-loop
 loop-holds c =
     let l = length-replicate {A = Float} 32 zero64 in
-    (row-start (ofReadings skewness) _ _ _ _ _ _ _ _ _ _ _ (c .before .empty .ensures), first-slots _ (c .correction .ensures), l, l, l, l)
+    (row-start (ofReadings skewness) _ _ _ _ _ _ _ _ _ _ _ (c .before .empty .ensures), first-places _ (c .correction .ensures), l, l, l, l)
 
 block-end-requires : tie.Need-block-end-requires Inv-loop μ-loop
 block-end-requires c κs = search needs
