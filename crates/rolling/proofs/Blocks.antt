@@ -2,14 +2,15 @@
 -- the doubles of their answers. Assumes nothing.
 use Prim.Native.Nat.{ℕ, _+_, _-_, _*_, _≤_, _<_}
 use mathlib.Core.Path.{_≡_, refl, sym, ap, _∙_}
-use mathlib.Core.Bool.{Bool, true, false}
+use mathlib.Core.Bool.{Bool, true, false, cond}
 use mathlib.Core.List.{List, _++_, append-assoc}
 use native.Mathlib.Omega.{arith}
 use borrow.Author.Tests.{eqb-true, eqb-false}
 use lib.Dec.{eqb}
-use lib.ListN.{length, set, take, drop, length-set, length-append, length-take, length-drop}
-use lib.Seq.{getD-set-same, getD-set-other, take-at, drop-at, drop-drop}
+use lib.ListN.{length, set, take, drop, getD, length-set, length-append, length-take, length-drop}
+use lib.Seq.{take-at, drop-at, drop-drop}
 use lib.Ieee.{Float, nan}
+use Rattle.root.specs.Root.{root}
 use Rattle.moment.specs.Figure.{doubleOf, byteOf}
 use Rattle.moment.specs.declared.Figure.{Figure}
 use Rattle.moment.specs.declared.skew_state.SkewState.{SkewState}
@@ -22,7 +23,8 @@ use Rattle.window.specs.declared.Window.{Window}
 use Rattle.window.proofs.Rows.{Row}
 use Rattle.window.proofs.Tables.{table-length, table-more, table-join}
 use Rattle.rolling.specs.Moments.{skewness}
-use Rattle.rolling.specs.Slots.{Corrections, doubleAt, Waits, rowAnswer, BlockFilled}
+use Rattle.rolling.specs.Slots.{Corrections, estimate, doubleAt, Waits, rowAnswer, BlockFilled}
+use Rattle.rolling.proofs.Slots.{set-at}
 
 module _ (bias : Bool) (t : Series Float) (minPeriods n widest : ℕ) (p : Plan) where
   abbrev Answer : ℕ → Figure
@@ -64,33 +66,31 @@ module _ (bias : Bool) (t : Series Float) (minPeriods n widest : ℕ) (p : Plan)
         m2s-long = ap length (q .m2-at) ∙ simp length-set (v .m2s-long);
         m3s-long = ap length (q .m3-at) ∙ simp length-set (v .m3s-long);
         factors-long = ap length (q .factor-at) ∙ simp length-set (v .factors-long);
-        slots = λ j i l. rw (q .m2-at, q .m3-at, q .factor-at) (at j i l (eqb j k) refl);
+        slots = λ j i l.
+            let x = v .m2s-long in
+            let y = v .m3s-long in
+            let z = v .factors-long in
+            rw (
+              q .m2-at,
+              q .m3-at,
+              q .factor-at,
+              set-at m2s (k - first) (j - first) (q .m2) nan (omega arith),
+              set-at m3s (k - first) (j - first) (q .m3) nan (omega arith),
+              set-at factors (k - first) (j - first) (q .factor) nan (omega arith),
+            )
+            (at j i l (eqb (j - first) (k - first)) refl);
       }
     where
-      at : (j : ℕ) → first ≤ j → j < k + 1 → (y : Bool) → eqb j k ≡ y →
-          doubleAt bias (set m2s (k - first) (q .m2)) (set m3s (k - first) (q .m3)) (set factors (k - first) (q .factor)) (j - first) ≡ doubleOf (Answer j)
+      at : (j : ℕ) → first ≤ j → j < k + 1 → (b : Bool) → eqb (j - first) (k - first) ≡ b →
+          estimate bias (cond b (q .m2) (getD m2s (j - first) nan)) (cond b (q .m3) (getD m3s (j - first) nan)) (cond b (q .factor) (getD factors (j - first) nan)) (root (cond b (q .m2) (getD m2s (j - first) nan))) ≡ doubleOf (Answer j)
       at j i l true y =
-          let z = eqb-true j k y in
-          let a = v .m2s-long in
-          let b = v .m3s-long in
-          let d = v .factors-long in
-          rw (
-            z,
-            getD-set-same m2s (k - first) (q .m2) nan (omega arith),
-            getD-set-same m3s (k - first) (q .m3) nan (omega arith),
-            getD-set-same factors (k - first) (q .factor) nan (omega arith),
-          )
-          (q .double-is ∙ ap doubleOf e)
+          let o = eqb-true (j - first) (k - first) y in
+          let z : j ≡ k = omega arith in
+          rw z (q .double-is ∙ ap doubleOf e)
       at j i l false y =
-          let z = eqb-false j k y in
-          let s : j < k = omega arith in
-          let o : j - first ≡ k - first → ⊥ = λ x. z (omega arith) in
-          rw (
-            getD-set-other m2s (k - first) (j - first) (q .m2) nan o,
-            getD-set-other m3s (k - first) (j - first) (q .m3) nan o,
-            getD-set-other factors (k - first) (j - first) (q .factor) nan o,
-          )
-          (v .slots j i s)
+          let o = eqb-false (j - first) (k - first) y in
+          let z : j ≡ k → ⊥ = λ x. o (ap (λ (m : ℕ). m - first) x) in
+          v .slots j i (omega arith)
 
   -- the doubles of a block's slots, written behind those of the rows before it
   written : (out₀ out₁ out r m2s m3s factors : List Float) (first until : ℕ) → first ≤ until → until ≤ rows p → rows p ≤ length out₀ →

@@ -1,4 +1,4 @@
--- A window's weights count its readings, so a correction that is kept by the count is the weight's; and a slot comes to the double
+-- A window's weights count its readings, so a correction that is kept by the count is the weight's; a slot comes to the double
 -- of its row's answer. Assumes nothing.
 use Prim.Native.Nat.{ℕ, _+_, _-_, _^_, _≤_, _<_}
 use mathlib.Core.Path.{_≡_, refl, sym, ap, _∙_}
@@ -35,7 +35,7 @@ use Rattle.rolling.specs.declared.skew.SkewPending.{SkewPending}
 use Rattle.rolling.specs.declared.skew.SkewPending.the-variants.{Missing, State}
 use Rattle.rolling.specs.Slots.{Corrections, Weighed, m2Of, m3Of, leastOf, estimate, doubleAt, pendingOf, Waits}
 
--- a state of readings inserted in rising order
+-- the weight of a window's back state, of both its states, and of the two combined
 pub rising-weight : (t : Series Float) (base : ℕ) (w : Window) (agg : SkewState) (work : List Float) → Held (ofReadings skewness) t base w agg work → w .back ≤ 2 ^ 53 →
     agg .weight ≡ count (w .back)
 rising-weight t base w agg work held h =
@@ -93,13 +93,13 @@ mul-nan (inf s) = refl
 mul-nan (fin s m e) = refl
 
 -- a missing row's slot
-pub nothing : (bias : Bool) → estimate bias one64 zero64 zero64 (root one64) ≡ zero64
+nothing : (bias : Bool) → estimate bias one64 zero64 zero64 (root one64) ≡ zero64
 unfolding root mul div ofBits
 nothing true = refl
 nothing false = refl
 
 -- too few readings
-pub too-few : (s : SkewState) (bias : Bool) (n nonfinite : ℕ) → n ≤ 2 ^ 53 → s .weight ≡ count n → leb (leastOf bias) n ≡ false → orNan nonfinite (skewFinalize s bias) ≡ Figure·Missing
+too-few : (s : SkewState) (bias : Bool) (n nonfinite : ℕ) → n ≤ 2 ^ 53 → s .weight ≡ count n → leb (leastOf bias) n ≡ false → orNan nonfinite (skewFinalize s bias) ≡ Figure·Missing
 unfolding orNan
 too-few s bias n nonfinite h e f = ap (orNan nonfinite) (go bias f) ∙ same (eqb nonfinite 0)
   where
@@ -125,7 +125,7 @@ module _ (s : SkewState) (n nonfinite : ℕ) (h : n ≤ 2 ^ 53) (e : s .weight �
   biased-is true z = rw z (div-nan _)
   biased-is false z = rw z
 
-  pub present-double : (bias : Bool) (factor : Float) → leb (leastOf bias) n ≡ true → (bias ≡ false → factor ≡ skewCorrection (count n)) →
+  present-double : (bias : Bool) (factor : Float) → leb (leastOf bias) n ≡ true → (bias ≡ false → factor ≡ skewCorrection (count n)) →
       estimate bias (m2Of s) (m3Of s nonfinite) factor R ≡ doubleOf (orNan nonfinite (skewFinalize s bias))
   unfolding orNan
   present-double bias factor f c = rw (figured bias f) (go bias c (eqb nonfinite 0))
@@ -138,7 +138,7 @@ module _ (s : SkewState) (n nonfinite : ℕ) (h : n ≤ 2 ^ 53) (e : s .weight �
       go false c true = rw (biased-is _ refl, c refl, e)
       go false c false = rw div-nan (mul-nan factor)
 
-  pub present-byte : (bias : Bool) → leb (leastOf bias) n ≡ true → 1 ≡ byteOf (orNan nonfinite (skewFinalize s bias))
+  present-byte : (bias : Bool) → leb (leastOf bias) n ≡ true → 1 ≡ byteOf (orNan nonfinite (skewFinalize s bias))
   unfolding orNan
   present-byte bias f = rw (figured bias f) (go (eqb nonfinite 0) _)
     where
@@ -234,6 +234,14 @@ finished bias m2s m3s factors roots r n h k e =
     table-same _ _ n (λ i l. ap (estimate bias (getD m2s i nan) (getD m3s i nan) (getD factors i nan)) (root-at m2s roots r n i h k e l))
 
 -- ---- corrections
+-- what stands in each place of a list after one is written
+pub set-at : {A : Type 0} (l : List A) (i j : ℕ) (a d : A) → i < length l → getD (set l i a) j d ≡ cond (eqb j i) a (getD l j d)
+set-at l i j a d h = go (eqb j i) refl
+  where
+    go : (b : Bool) → eqb j i ≡ b → getD (set l i a) j d ≡ cond b a (getD l j d)
+    go true e = rw (eqb-true j i e) (getD-set-same l i a d h)
+    go false e = getD-set-other l i j a d (eqb-false j i e)
+
 -- a place taken by another count
 pub taken-place : (counts : List ℕ) (corrections : List Float) → Corrections counts corrections → (i : ℕ) → i < 256 → (n : ℕ) (f : Float) → f ≡ skewCorrection (count n) →
     Corrections (set counts i n) (set corrections i f)
@@ -243,16 +251,12 @@ taken-place counts corrections c i h n f e =
     record {
       counts-long = length-set counts i n ∙ l;
       corrections-long = length-set corrections i f ∙ m;
-      correction-is = λ j k. at j k (eqb j i) refl;
+      correction-is = λ j k. rw (set-at corrections i j f nan (omega arith), set-at counts i j n 0 (omega arith)) (go j k (eqb j i));
     }
   where
-    at : (j : ℕ) → j < 256 → (b : Bool) → eqb j i ≡ b → getD (set corrections i f) j nan ≡ skewCorrection (count (getD (set counts i n) j 0))
-    at j k true q =
-        let z = eqb-true j i q in
-        let l = c .counts-long in
-        let m = c .corrections-long in
-        rw (z, getD-set-same corrections i f nan (omega arith), getD-set-same counts i n 0 (omega arith)) e
-    at j k false q = rw (getD-set-other corrections i j f nan (eqb-false j i q), getD-set-other counts i j n 0 (eqb-false j i q)) (c .correction-is j k)
+    go : (j : ℕ) → j < 256 → (b : Bool) → cond b f (getD corrections j nan) ≡ skewCorrection (count (cond b n (getD counts j 0)))
+    go j k true = e
+    go j k false = c .correction-is j k
 
 -- every place holds the count 0
 pub first-places : (f : Float) → f ≡ skewCorrection zero64 → Corrections (replicate {A = ℕ} 256 0) (replicate 256 f)

@@ -77,7 +77,8 @@ abbrev pub rowAnswer : Bool → Series Float → ℕ → Plan → ℕ → Figure
 rowAnswer bias t minPeriods p k = answerAt (ofReadings skewness) (λ z. skewFinalize z bias) t minPeriods p k
 
 -- The rows from `first` up to k of a block: the window stands before row k, their bytes are written, and their slots come to their
--- doubles. work₀ and present₀ are where the block began; whatever list l the plan's bytes are written over, they are written on
+-- doubles. work₀ and present₀ are where the block began; `bytes` says that where the rows before `first` have their bytes written over a
+-- list l, the rows before k have them so
 pub record BlockFilled (bias : Bool) (t : Series Float) (minPeriods n widest : ℕ) (p : Plan) (first : ℕ) (work₀ work : List Float) (present₀ present : List ℕ)
     (w : Window) (agg : SkewState) (counts : List ℕ) (corrections m2s m3s factors : List Float) (k : ℕ) : Type 0 where
   pub standing : Standing (ofReadings skewness) t minPeriods n widest p w agg work k

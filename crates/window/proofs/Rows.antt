@@ -75,7 +75,7 @@ module _ (M : Moment) (t : Series (M .Entry)) (minPeriods n widest : ℕ) (p : P
   abbrev Stands : Window → M .State → List Float → ℕ → Type 0
   Stands w agg work k = Standing M t minPeriods n widest p w agg work k
 
-  pub stand-start : (agg : M .State) → agg ≡ M .empty → (work : List Float) → Stands (record { start = 0; end = 0; split = 0; front = 0; back = 0; nonfinite = 0 }) agg work 0
+  stand-start : (agg : M .State) → agg ≡ M .empty → (work : List Float) → Stands (record { start = 0; end = 0; split = 0; front = 0; back = 0; nonfinite = 0 }) agg work 0
   unfolding accountAt inMemory frontStack
   stand-start agg e work =
       let z = entries-self (t .valid) (t .entry) 0 in
