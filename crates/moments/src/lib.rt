@@ -1,6 +1,5 @@
-// The library's face to other languages: each entry of docs/ABI.md on plans, whole arrays, ranges and states, with the whole contract
-// of what stands behind it. Nothing is required of a caller. A figure that is NaN has the bits 7FF8000000000000; a member of a
-// state may be any NaN.
+// The library's face to other languages: each entry of docs/ABI.md, with the whole contract of what stands behind it. Nothing is
+// required of a caller. A figure that is NaN has the bits 7FF8000000000000; a member of a state may be any NaN.
 ghost use mathlib.Core.Path.{_≡_};
 ghost use Rattle.root.specs.Root.{root as rootOf};
 ghost use Rattle.moment.specs.Var.{varInsert, varCombine, varFinalize};
@@ -10,7 +9,8 @@ ghost use Rattle.moment.specs.Skew.{skewInsert, skewCombine, skewFinalize};
 ghost use Rattle.moment.specs.Kurtosis.{kurtosisInsert, kurtosisCombine, kurtosisFinalize};
 ghost use Rattle.moment.specs.Arrays.{varAnswer, varNumber, varMembers, covAnswer, covNumber, covMembers, pearsonAnswer, pearsonNumber, pearsonMembers, skewAnswer, skewRange, skewNumber, skewMembers, kurtosisAnswer, kurtosisRange, kurtosisNumber, kurtosisMembers};
 ghost use Rattle.rolling.specs.Moments.{Variance, Skewness, Kurtosis};
-ghost use Rattle.rolling.specs.Calls.{ask, lent, CalledBytes};
+ghost use Rattle.rolling.specs.Calls.{ask, lent, traceOf, CalledBytes};
+ghost use Rattle.rolling.specs.Fixed.{CalledFixed};
 ghost use Rattle.moments.specs.Results.{StateResult, FigureResult};
 use moment::CovAnswer;
 use moment::CovState;
@@ -119,6 +119,99 @@ pub extern "C" fn moments_plan_kurtosis(
         starts,
         ends,
         min_periods,
+        fisher,
+        bias,
+        work,
+        figures,
+        present,
+    )
+}
+
+// Fixed windows and weights: the trace as doubles; 0, or the number of the first refusal and every list as it was.
+#[no_mangle]
+pub extern "C" fn moments_rolling_var(
+    trace: &[f64],
+    has_map: bool,
+    map: &[u8],
+    window_size: usize,
+    min_periods: usize,
+    center: bool,
+    ddof: u8,
+    work: &mut [f64],
+    figures: &mut [f64],
+    present: &mut [u8],
+) -> u32
+    ensures { λ r. ⌜ CalledFixed center «window_size» «min_periods» (Variance ddof) (traceOf (now (trace .entry)) «has_map» (now (map .entry)))
+        (lent (now (figures .entry)) (now (present .entry)) (now (work .entry))) (lent (now (figures .exit)) (now (present .exit)) (now (work .exit))) r ⌝ }
+{
+    rolling::rolling_var(
+        trace,
+        has_map,
+        map,
+        window_size,
+        min_periods,
+        center,
+        ddof,
+        work,
+        figures,
+        present,
+    )
+}
+
+#[no_mangle]
+pub extern "C" fn moments_rolling_skew(
+    trace: &[f64],
+    has_map: bool,
+    map: &[u8],
+    window_size: usize,
+    min_periods: usize,
+    center: bool,
+    bias: bool,
+    work: &mut [f64],
+    figures: &mut [f64],
+    present: &mut [u8],
+) -> u32
+    ensures { λ r. ⌜ CalledFixed center «window_size» «min_periods» (Skewness bias) (traceOf (now (trace .entry)) «has_map» (now (map .entry)))
+        (lent (now (figures .entry)) (now (present .entry)) (now (work .entry))) (lent (now (figures .exit)) (now (present .exit)) (now (work .exit))) r ⌝ }
+{
+    rolling::rolling_skew(
+        trace,
+        has_map,
+        map,
+        window_size,
+        min_periods,
+        center,
+        bias,
+        work,
+        figures,
+        present,
+    )
+}
+
+#[no_mangle]
+pub extern "C" fn moments_rolling_kurtosis(
+    trace: &[f64],
+    has_map: bool,
+    map: &[u8],
+    window_size: usize,
+    min_periods: usize,
+    center: bool,
+    fisher: bool,
+    bias: bool,
+    work: &mut [f64],
+    figures: &mut [f64],
+    present: &mut [u8],
+) -> u32
+    ensures { λ r. ⌜ CalledFixed center «window_size» «min_periods» (Kurtosis fisher bias) (traceOf (now (trace .entry)) «has_map» (now (map .entry)))
+        (lent (now (figures .entry)) (now (present .entry)) (now (work .entry))) (lent (now (figures .exit)) (now (present .exit)) (now (work .exit))) r ⌝ }
+{
+    rolling::rolling_kurtosis(
+        trace,
+        has_map,
+        map,
+        window_size,
+        min_periods,
+        center,
         fisher,
         bias,
         work,

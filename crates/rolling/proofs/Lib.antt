@@ -1,4 +1,5 @@
 pub mod Rolling
 pub mod Calls
+pub mod Fixed
 pub mod Blocks
 pub mod Slots

@@ -39,8 +39,11 @@ pub record Lent : Type 0 where
 abbrev pub planOf : List ℕ → List ℕ → Plan
 planOf starts ends = record { starts = starts; ends = ends }
 
+abbrev pub askPlan : Plan → ℕ → Asked → Ask
+askPlan plan minPeriods figure = record { plan = plan; minPeriods = minPeriods; figure = figure }
+
 abbrev pub ask : List ℕ → List ℕ → ℕ → Asked → Ask
-ask starts ends minPeriods figure = record { plan = planOf starts ends; minPeriods = minPeriods; figure = figure }
+ask starts ends minPeriods figure = askPlan (planOf starts ends) minPeriods figure
 
 abbrev pub lent : List Float → List ℕ → List Float → Lent
 lent figures present work = record { figures = figures; present = present; work = work }

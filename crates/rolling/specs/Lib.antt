@@ -1,4 +1,5 @@
--- In document 01's order: the three moments of windows, then the calls; last what the code of skewness keeps.
+-- In document 01's order: the three moments of windows, the plan calls, fixed windows; last what the code of skewness keeps.
 pub mod Moments
 pub mod Calls
+pub mod Fixed
 pub mod Slots

@@ -1,11 +1,14 @@
-// Figures over moving windows: document 01's 001, 002 and 003, driven by a plan. A public function takes any lists; what is
-// below it is kept inside the crate.
+// Figures over moving windows: document 01's 001 to 006, driven by a plan or by fixed windows. A public function takes any lists;
+// what is below it is kept inside the crate.
 ghost use Rattle.rolling.specs.Moments.{Variance, Skewness, Kurtosis};
 ghost use Rattle.rolling.specs.Calls.{ask, lent, traceOf, Called, CalledBytes};
+ghost use mathlib.Core.Path.{_≡_};
+ghost use Rattle.rolling.specs.Fixed.{CalledFixed, offsetsAt};
 use crate::kurtosis::KurtosisMoment;
 use crate::skew::SkewMoment;
 use crate::variance::VarianceMoment;
 
+mod bounds;
 mod kurtosis;
 mod leaving;
 mod plan;
@@ -49,6 +52,9 @@ pub fn plan_var(
         values,
         has_map,
         map,
+        false,
+        0,
+        0,
         starts,
         ends,
         min_periods,
@@ -103,6 +109,9 @@ pub fn plan_var_bytes(
         &readings[..n],
         has_map,
         map,
+        false,
+        0,
+        0,
         starts,
         ends,
         min_periods,
@@ -150,6 +159,9 @@ pub fn plan_skew(
         values,
         has_map,
         map,
+        false,
+        0,
+        0,
         starts,
         ends,
         min_periods,
@@ -204,6 +216,9 @@ pub fn plan_skew_bytes(
         &readings[..n],
         has_map,
         map,
+        false,
+        0,
+        0,
         starts,
         ends,
         min_periods,
@@ -252,6 +267,9 @@ pub fn plan_kurtosis(
         values,
         has_map,
         map,
+        false,
+        0,
+        0,
         starts,
         ends,
         min_periods,
@@ -307,6 +325,9 @@ pub fn plan_kurtosis_bytes(
         &readings[..n],
         has_map,
         map,
+        false,
+        0,
+        0,
         starts,
         ends,
         min_periods,
@@ -316,4 +337,182 @@ pub fn plan_kurtosis_bytes(
         present,
     );
     0
+}
+
+// Rolling variance over fixed windows: 004's and 005's `rolling_var`.
+pub fn rolling_var(
+    values: &[f64],
+    has_map: bool,
+    map: &[u8],
+    window_size: usize,
+    min_periods: usize,
+    center: bool,
+    ddof: u8,
+    work: &mut [f64],
+    figures: &mut [f64],
+    present: &mut [u8],
+) -> u32
+    ensures { λ r. ⌜ CalledFixed center «window_size» «min_periods» (Variance ddof) (traceOf (now (values .entry)) «has_map» (now (map .entry)))
+        (lent (now (figures .entry)) (now (present .entry)) (now (work .entry))) (lent (now (figures .exit)) (now (present .exit)) (now (work .exit))) r ⌝ }
+{
+    let checked = bounds::judge(
+        VarianceMoment::PLACE,
+        values.len(),
+        has_map,
+        map,
+        center,
+        window_size,
+        figures.len(),
+        present.len(),
+        work.len(),
+    );
+    if checked.number != 0 {
+        return checked.number;
+    }
+    let right = bounds::right_window(center, window_size);
+    let none = [0u32; 1];
+    let moment = VarianceMoment { ddof };
+    moment.rows(
+        values,
+        has_map,
+        map,
+        true,
+        window_size - right,
+        right,
+        &none,
+        &none,
+        min_periods,
+        checked.widest,
+        work,
+        figures,
+        present,
+    );
+    0
+}
+
+// Rolling skewness over fixed windows: 004's and 005's `rolling_skew`.
+pub fn rolling_skew(
+    values: &[f64],
+    has_map: bool,
+    map: &[u8],
+    window_size: usize,
+    min_periods: usize,
+    center: bool,
+    bias: bool,
+    work: &mut [f64],
+    figures: &mut [f64],
+    present: &mut [u8],
+) -> u32
+    ensures { λ r. ⌜ CalledFixed center «window_size» «min_periods» (Skewness bias) (traceOf (now (values .entry)) «has_map» (now (map .entry)))
+        (lent (now (figures .entry)) (now (present .entry)) (now (work .entry))) (lent (now (figures .exit)) (now (present .exit)) (now (work .exit))) r ⌝ }
+{
+    let checked = bounds::judge(
+        SkewMoment::PLACE,
+        values.len(),
+        has_map,
+        map,
+        center,
+        window_size,
+        figures.len(),
+        present.len(),
+        work.len(),
+    );
+    if checked.number != 0 {
+        return checked.number;
+    }
+    let right = bounds::right_window(center, window_size);
+    let none = [0u32; 1];
+    let moment = SkewMoment { bias };
+    moment.rows(
+        values,
+        has_map,
+        map,
+        true,
+        window_size - right,
+        right,
+        &none,
+        &none,
+        min_periods,
+        checked.widest,
+        work,
+        figures,
+        present,
+    );
+    0
+}
+
+// Rolling kurtosis over fixed windows: 004's and 005's `rolling_kurtosis`.
+pub fn rolling_kurtosis(
+    values: &[f64],
+    has_map: bool,
+    map: &[u8],
+    window_size: usize,
+    min_periods: usize,
+    center: bool,
+    fisher: bool,
+    bias: bool,
+    work: &mut [f64],
+    figures: &mut [f64],
+    present: &mut [u8],
+) -> u32
+    ensures { λ r. ⌜ CalledFixed center «window_size» «min_periods» (Kurtosis fisher bias) (traceOf (now (values .entry)) «has_map» (now (map .entry)))
+        (lent (now (figures .entry)) (now (present .entry)) (now (work .entry))) (lent (now (figures .exit)) (now (present .exit)) (now (work .exit))) r ⌝ }
+{
+    let checked = bounds::judge(
+        KurtosisMoment::PLACE,
+        values.len(),
+        has_map,
+        map,
+        center,
+        window_size,
+        figures.len(),
+        present.len(),
+        work.len(),
+    );
+    if checked.number != 0 {
+        return checked.number;
+    }
+    let right = bounds::right_window(center, window_size);
+    let none = [0u32; 1];
+    let moment = KurtosisMoment { fisher, bias };
+    moment.rows(
+        values,
+        has_map,
+        map,
+        true,
+        window_size - right,
+        right,
+        &none,
+        &none,
+        min_periods,
+        checked.widest,
+        work,
+        figures,
+        present,
+    );
+    0
+}
+
+// The window of a row: places start up to but not including end.
+pub struct Offsets {
+    pub start: usize,
+    pub end: usize,
+}
+
+// The window of row i of a call with fixed windows over `len` places: 006's `det_offsets` or `det_offsets_center`. Past the last row
+// there is no place: the window is empty, at the end.
+pub fn det_offsets(i: usize, window_size: usize, len: usize, center: bool) -> Offsets
+    ensures { λ r. ⌜ (r .start ≡ offsetsAt center «window_size» len i .0) × (r .end ≡ offsetsAt center «window_size» len i .1) ⌝ }
+{
+    if len <= i {
+        return Offsets {
+            start: len,
+            end: len,
+        };
+    }
+    let right = bounds::right_window(center, window_size);
+    Offsets {
+        start: bounds::start_of(window_size - right, i),
+        end: bounds::end_of(right, len, i),
+    }
 }

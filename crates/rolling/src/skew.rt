@@ -13,14 +13,15 @@ ghost use Rattle.trace.specs.Trace.{validAt};
 ghost use Rattle.window.specs.Places.{validCount};
 ghost use Rattle.window.specs.Window.{restarted, left, entered, moved};
 ghost use Rattle.window.specs.Readings.{series, ofReadings};
-ghost use Rattle.window.specs.Rows.{stepped, table};
+ghost use Rattle.window.specs.Rows.{rows, stepped, table};
 ghost use Rattle.window.specs.Stacks.{inMemory, frontStack, account, Counted, Leaves, Held, Pushed, topOf, answerBy, Movable, Moves, Planned, Accepted};
 ghost use Rattle.rolling.specs.Moments.{Skewness, skewLayout, skewness};
 ghost use Rattle.rolling.specs.Slots.{Corrections, Weighed, m2Of, m3Of, leastOf, estimate, doubleAt, pendingOf, Waits, BlockFilled};
-ghost use Rattle.rolling.specs.Calls.{planOf, ask, lent, traceOf, Written};
+ghost use Rattle.rolling.specs.Calls.{askPlan, lent, traceOf, Written};
+ghost use Rattle.rolling.specs.Fixed.{rowsOf};
+use crate::bounds;
 use crate::leaving;
 use crate::leaving::Left;
-use crate::plan;
 use crate::row;
 use moment::SkewState;
 use window::Window;
@@ -491,6 +492,9 @@ impl SkewMoment {
         values: &[f64],
         has_map: bool,
         map: &[u8],
+        fixed: bool,
+        left: usize,
+        right: usize,
         starts: &[u32],
         ends: &[u32],
         min_periods: usize,
@@ -506,19 +510,20 @@ impl SkewMoment {
         m3s: &mut [f64],
         factors: &mut [f64],
     ) -> SkewWindow
-        requires { ⌜ Planned (length (now values)) widest (planOf (now starts) (now ends)) × (length (now values) ≤ 2 ^ 53) × (5 * widest ≤ length (now work))
-            × (length (now starts) ≤ length (now present)) × (first ≤ until) × (until ≤ length (now starts)) × (until ≤ first + 32) ⌝ }
-        requires { ⌜ BlockFilled (self .bias) (series «has_map» (now map) (now values)) «min_periods» (length (now values)) widest (planOf (now starts) (now ends)) first
+        requires { ⌜ Planned (length (now values)) widest (rowsOf fixed left right (length (now values)) (now starts) (now ends)) × (length (now values) ≤ 2 ^ 53) × (5 * widest ≤ length (now work))
+            × (rows (rowsOf fixed left right (length (now values)) (now starts) (now ends)) ≤ length (now present)) × (first ≤ until) × (until ≤ rows (rowsOf fixed left right (length (now values)) (now starts) (now ends))) × (until ≤ first + 32) ⌝ }
+        requires { ⌜ BlockFilled (self .bias) (series «has_map» (now map) (now values)) «min_periods» (length (now values)) widest (rowsOf fixed left right (length (now values)) (now starts) (now ends)) first
             (now work) (now work) (now present) (now present) (opening .window) (opening .«agg_back») (now counts) (now corrections) (now m2s) (now m3s) (now factors) first ⌝ }
-        ensures { λ q. ⌜ BlockFilled (self .bias) (series «has_map» (now (map .entry)) (now (values .entry))) «min_periods» (length (now (values .entry))) widest (planOf (now (starts .entry)) (now (ends .entry))) first
+        ensures { λ q. ⌜ BlockFilled (self .bias) (series «has_map» (now (map .entry)) (now (values .entry))) «min_periods» (length (now (values .entry))) widest (rowsOf fixed left right (length (now (values .entry))) (now (starts .entry)) (now (ends .entry))) first
             (now (work .entry)) (now (work .exit)) (now (present .entry)) (now (present .exit)) (q .window) (q .«agg_back»)
             (now (counts .exit)) (now (corrections .exit)) (now (m2s .exit)) (now (m3s .exit)) (now (factors .exit)) until ⌝ }
     {
+        let n = values.len();
         let mut w = opening;
         let mut row = first;
         while row < until {
-            let start = plan::place(starts[row]);
-            let end = plan::place(ends[row]);
+            let start = bounds::row_start(fixed, left, starts, row);
+            let end = bounds::row_end(fixed, right, n, ends, row);
             w = SkewMoment::step(
                 work,
                 widest,
@@ -551,12 +556,15 @@ impl SkewMoment {
         w
     }
 
-    // Every row of an accepted plan.
+    // Every row of an accepted plan, or of fixed windows.
     pub(crate) fn rows(
         self,
         values: &[f64],
         has_map: bool,
         map: &[u8],
+        fixed: bool,
+        left: usize,
+        right: usize,
         starts: &[u32],
         ends: &[u32],
         min_periods: usize,
@@ -565,8 +573,8 @@ impl SkewMoment {
         figures: &mut [f64],
         present: &mut [u8],
     )
-        requires { ⌜ Accepted 5 (length (now values)) (planOf (now starts) (now ends)) false (length (now figures)) (length (now present)) (length (now work)) widest ⌝ }
-        ensures { λ _. ⌜ Written (ask (now (starts .entry)) (now (ends .entry)) «min_periods» (Skewness (self .bias))) (traceOf (now (values .entry)) «has_map» (now (map .entry)))
+        requires { ⌜ Accepted 5 (length (now values)) (rowsOf fixed left right (length (now values)) (now starts) (now ends)) false (length (now figures)) (length (now present)) (length (now work)) widest ⌝ }
+        ensures { λ _. ⌜ Written (askPlan (rowsOf fixed left right (length (now (values .entry))) (now (starts .entry)) (now (ends .entry))) «min_periods» (Skewness (self .bias))) (traceOf (now (values .entry)) «has_map» (now (map .entry)))
             (lent (now (figures .entry)) (now (present .entry)) (now (work .entry))) (lent (now (figures .exit)) (now (present .exit)) (now (work .exit))) 0 ⌝ }
     {
         let mut w = SkewWindow {
@@ -588,13 +596,17 @@ impl SkewMoment {
         let mut m3s = [0.0; 32];
         let mut factors = [0.0; 32];
         let mut roots = [0.0; 32];
+        let rows = bounds::rows(fixed, values.len(), starts.len());
         let mut first: usize = 0;
-        while first < starts.len() {
-            let until = SkewMoment::block_end(first, starts.len());
+        while first < rows {
+            let until = SkewMoment::block_end(first, rows);
             w = self.block(
                 values,
                 has_map,
                 map,
+                fixed,
+                left,
+                right,
                 starts,
                 ends,
                 min_periods,

@@ -13,10 +13,11 @@ ghost use Rattle.window.specs.Readings.{series, ofReadings};
 ghost use Rattle.window.specs.Rows.{stepped};
 ghost use Rattle.window.specs.Stacks.{inMemory, frontStack, account, Counted, Leaves, Held, Pushed, topOf, answerBy, Movable, Moves, Accepted};
 ghost use Rattle.rolling.specs.Moments.{Variance, varLayout, variance};
-ghost use Rattle.rolling.specs.Calls.{planOf, ask, lent, traceOf, Written};
+ghost use Rattle.rolling.specs.Calls.{askPlan, lent, traceOf, Written};
+ghost use Rattle.rolling.specs.Fixed.{rowsOf};
+use crate::bounds;
 use crate::leaving;
 use crate::leaving::Left;
-use crate::plan;
 use crate::row;
 use moment::Figure;
 use moment::VarState;
@@ -328,12 +329,15 @@ impl VarianceMoment {
         Figure::Missing
     }
 
-    // Every row of an accepted plan.
+    // Every row of an accepted plan, or of fixed windows.
     pub(crate) fn rows(
         self,
         values: &[f64],
         has_map: bool,
         map: &[u8],
+        fixed: bool,
+        left: usize,
+        right: usize,
         starts: &[u32],
         ends: &[u32],
         min_periods: usize,
@@ -342,8 +346,8 @@ impl VarianceMoment {
         figures: &mut [f64],
         present: &mut [u8],
     )
-        requires { ⌜ Accepted 4 (length (now values)) (planOf (now starts) (now ends)) false (length (now figures)) (length (now present)) (length (now work)) widest ⌝ }
-        ensures { λ _. ⌜ Written (ask (now (starts .entry)) (now (ends .entry)) «min_periods» (Variance (self .ddof))) (traceOf (now (values .entry)) «has_map» (now (map .entry)))
+        requires { ⌜ Accepted 4 (length (now values)) (rowsOf fixed left right (length (now values)) (now starts) (now ends)) false (length (now figures)) (length (now present)) (length (now work)) widest ⌝ }
+        ensures { λ _. ⌜ Written (askPlan (rowsOf fixed left right (length (now (values .entry))) (now (starts .entry)) (now (ends .entry))) «min_periods» (Variance (self .ddof))) (traceOf (now (values .entry)) «has_map» (now (map .entry)))
             (lent (now (figures .entry)) (now (present .entry)) (now (work .entry))) (lent (now (figures .exit)) (now (present .exit)) (now (work .exit))) 0 ⌝ }
     {
         let mut w = VarWindow {
@@ -357,10 +361,12 @@ impl VarianceMoment {
             },
             agg_back: VarianceMoment::empty(),
         };
+        let n = values.len();
+        let rows = bounds::rows(fixed, n, starts.len());
         let mut row = 0;
-        while row < starts.len() {
-            let start = plan::place(starts[row]);
-            let end = plan::place(ends[row]);
+        while row < rows {
+            let start = bounds::row_start(fixed, left, starts, row);
+            let end = bounds::row_end(fixed, right, n, ends, row);
             w = VarianceMoment::step(
                 work,
                 widest,

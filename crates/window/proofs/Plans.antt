@@ -93,7 +93,7 @@ module _ (n : ℕ) (p : Plan) where
   all-good zero k e h = absurd (omega arith)
   all-good (suc m) k e h = last-or m k h (good m (rows-before m e .1)) (λ l. all-good m k (rows-before m e .0) l)
 
-  wide-all : (m k : ℕ) → k < m → rowEnd p k - rowStart p k ≤ widest p m
+  pub wide-all : (m k : ℕ) → k < m → rowEnd p k - rowStart p k ≤ widest p m
   unfolding widest
   wide-all zero k h = absurd (omega arith)
   wide-all (suc m) k h = go (order m k) (λ l. wide-all m k l)
@@ -124,6 +124,30 @@ module _ (n : ℕ) (p : Plan) where
             let z : j + (k - j) ≡ k = omega arith in
             rw z at (climb (rows p) e j (k - j) (rw z h));
       }
+
+  -- ---- a plan that is in order is not refused
+  in-order : (w k : ℕ) → Planned n w p → k < rows p → Row k ≡ 0
+  in-order w zero o h =
+      let r = o .row zero h in
+      unrefused zero (le-ltb _ _ (r .0)) (le-ltb _ _ (r .1)) (le-ltb (rowStart p zero) 0 (omega arith)) (le-ltb (rowEnd p zero) 0 (omega arith))
+  in-order w (suc k) o h =
+      let r = o .row (suc k) h in
+      let i = o .rising k (suc k) (omega arith) h in
+      unrefused (suc k) (le-ltb _ _ (r .0)) (le-ltb _ _ (r .1)) (le-ltb _ _ (i .0)) (le-ltb _ _ (i .1))
+
+  pub rows-in-order : (w k : ℕ) → Planned n w p → k ≤ rows p → rowsRefusal n p k ≡ 0
+  unfolding rowsRefusal
+  rows-in-order w zero o h = refl
+  rows-in-order w (suc k) o h = rows-more k (rows-in-order w k o (omega arith)) ∙ in-order w k o (omega arith)
+
+  -- a bound on every window's width bounds the widest
+  pub widest-under : (w m : ℕ) → ((k : ℕ) → k < m → rowEnd p k - rowStart p k ≤ w) → widest p m ≤ w
+  unfolding widest
+  widest-under w zero f = omega arith
+  widest-under w (suc m) f =
+      let i = widest-under w m (λ k h. f k (omega arith)) in
+      let o = f m (omega arith) in
+      omega arith
 
   -- no window is wider than the series
   pub widest-le : (m : ℕ) → rowsRefusal n p m ≡ 0 → widest p m ≤ n

@@ -27,6 +27,9 @@ module _ {A : Type 0} (f : ℕ → A) where
           rw (append-assoc, e) (ap (λ (i : ℕ). getD (table f n ++ (f n ∷ l)) i d) (sym (table-length n)) ∙ getD-append-seam (table f n) (f n) l d)
       go (there p) i = rw append-assoc (i p)
 
+  pub table-place : (n k : ℕ) (d : A) → k < n → getD (table f n) k d ≡ f k
+  table-place n k d h = ap (λ (l : List A). getD l k d) (sym (append-nil (table f n))) ∙ table-at n k [] d h
+
   pub table-more : (l : List A) (k : ℕ) (x : A) → x ≡ f k → k < length l → set (table f k ++ drop k l) k x ≡ table f (k + 1) ++ drop (k + 1) l
   unfolding table
   table-more l k x e h =

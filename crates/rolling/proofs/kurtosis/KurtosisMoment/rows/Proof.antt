@@ -1,87 +1,94 @@
 -- Row after row the window holds the account, and the outputs its answers. Assumes nothing.
 use Prim.Native.Nat.{_-_, _*_, _<_}
+use mathlib.Core.Path.{_≡_, _∙_}
 use native.Mathlib.Omega.{arith}
 use borrow.Author.Needs.{needs}
 use lib.ListN.{length}
 use Rattle.moment.specs.Kurtosis.{kurtosisFinalize}
 use Rattle.window.specs.Refusals.{filled, kept}
 use Rattle.window.specs.Readings.{series, ofReadings}
+use Rattle.window.specs.Rows.{Plan, rows, rowStart, rowEnd}
 use Rattle.window.proofs.Rows.{Row, row-start, row-ready, row-fits, row-next, row-done}
 use Rattle.rolling.specs.Moments.{kurtosis}
-use Rattle.rolling.specs.Calls.{planOf}
+use Rattle.rolling.specs.Fixed.{rowsOf}
+use Rattle.rolling.proofs.Fixed.{rows-are, start-is, end-is, start-listed, end-listed}
 use Rattle.rolling.proofs.kurtosis.KurtosisMoment.rows.Statement.{statement}
 use Rattle.rolling.proofs.kurtosis.KurtosisMoment.rows.Tie as tie
 
 abbrev Inv-loop : tie.InvT-loop
-Inv-loop self values has-map map starts ends min-periods widest work₀ figures₀ present₀ w₀ row₀ work figures present w row =
-    Row (ofReadings kurtosis) (λ z. kurtosisFinalize z (self .fisher) (self .bias)) (series has-map map values) min-periods (length values) widest (planOf starts ends)
+Inv-loop self values has-map map fixed left right starts ends min-periods widest work₀ figures₀ present₀ w₀ n rows row₀ work figures present w row =
+    Row (ofReadings kurtosis) (λ z. kurtosisFinalize z (self .fisher) (self .bias)) (series has-map map values) min-periods (length values) widest (rowsOf fixed left right (length values) starts ends)
     work₀ figures₀ present₀ (6 * widest) work figures present (w .window) (w .«agg_back») row
 
 abbrev μ-loop : tie.MeasureT-loop
-μ-loop self values has-map map starts ends min-periods widest work₀ figures₀ present₀ w₀ row₀ work figures present w row = length starts - row
+μ-loop self values has-map map fixed left right starts ends min-periods widest work₀ figures₀ present₀ w₀ n rows row₀ work figures present w row = rows - row
 
 empty-requires : tie.Need-empty-requires Inv-loop μ-loop
 empty-requires c κs = search needs
 
+rows-requires : tie.Need-rows-requires Inv-loop μ-loop
+rows-requires c κs = search needs
+
 loop-holds : tie.Need-loop-holds Inv-loop μ-loop
-loop-holds c = row-start (ofReadings kurtosis) _ _ _ _ _ _ _ _ _ _ _ (c .empty .ensures)
-
-mul-place : tie.Need-mul-place Inv-loop μ-loop
-mul-place c = search needs
-
-shared-slice-read-place : tie.Need-shared-slice-read-place Inv-loop μ-loop
-shared-slice-read-place c = search needs
-
-place-requires : tie.Need-place-requires Inv-loop μ-loop
-place-requires c κs = search needs
+loop-holds c = row-start (ofReadings kurtosis) _ _ _ _ _ _ _ _ _ _ _ (c .before .empty .ensures)
 
 abbrev start : tie.In-loop Inv-loop μ-loop → tie.Start Inv-loop μ-loop
-start i = i .before .before .before .before .before .before .before .before .before .before
+start i = i .before .before .before .before .before .before .before .before .before .before .before
 
-ends-too : (i : tie.In-loop Inv-loop μ-loop) → i .before .loop .row < length (start i .args .ends .now)
-ends-too i = let e = start i .pre .plan .same in let h = i .loop-test .taken in omega arith
+abbrev plan : tie.Start Inv-loop μ-loop → Plan
+plan s = let g = s .args in rowsOf (g .fixed) (g .left) (g .right) (length (g .values .now)) (g .starts .now) (g .ends .now)
 
-mul-place-2 : tie.Need-mul-place-2 Inv-loop μ-loop
-mul-place-2 c = let h = ends-too (c .before .before) in omega arith
+more : (i : tie.In-loop Inv-loop μ-loop) → i .before .loop .row < rows (plan (start i))
+more i =
+    let g = start i .args in
+    let e = i .before .before .rows .ensures ∙ rows-are (g .left) (g .right) (length (g .values .now)) (g .starts .now) (g .ends .now) (g .fixed) in
+    let h = i .loop-test .taken in
+    omega arith
 
-shared-slice-read-place-2 : tie.Need-shared-slice-read-place-2 Inv-loop μ-loop
-shared-slice-read-place-2 c = ends-too (c .before .before .before)
+row-start-requires : tie.Need-row-start-requires Inv-loop μ-loop
+row-start-requires c κs = let g = start c .args in start-listed (g .left) (g .right) _ _ (g .ends .now) _ (g .fixed) (more c)
 
-place-requires-2 : tie.Need-place-requires-2 Inv-loop μ-loop
-place-requires-2 c κs = search needs
+row-end-requires : tie.Need-row-end-requires Inv-loop μ-loop
+row-end-requires c κs = let s = start (c .before) in let g = s .args in end-listed (g .left) (g .right) _ (g .starts .now) _ _ (g .fixed) _ (s .pre .plan) (more (c .before))
+
+starts-at : (r : tie.After-row-end Inv-loop μ-loop) → r .before .row-start .result ≡ rowStart (plan (start (r .before .before))) (r .before .before .before .loop .row)
+starts-at r = let i = r .before .before in let g = start i .args in start-is (g .left) (g .right) _ _ (g .ends .now) _ (g .fixed) _ (more i) (r .before .row-start .ensures)
+
+ends-at : (r : tie.After-row-end Inv-loop μ-loop) → r .row-end .result ≡ rowEnd (plan (start (r .before .before))) (r .before .before .before .loop .row)
+ends-at r = let i = r .before .before in let g = start i .args in end-is (g .left) (g .right) _ (g .starts .now) _ _ (g .fixed) _ (more i) (r .row-end .ensures)
 
 step-requires : tie.Need-step-requires Inv-loop μ-loop
 step-requires c κs =
     let r = c .before in
-    let i = r .before .before .before .before in
+    let i = r .before .before in
     let s = start i in
     let row = i .before .loop .inv in
     let l = row .work-same in
     let y = s .pre .work-fits in
     record {
       held = row .standing .held;
-      ready = row-ready (ofReadings kurtosis) _ _ _ _ _ (s .pre .plan) (row .standing) (i .loop-test .taken) _ _ (r .before .before .place .ensures) (r .place2 .ensures);
+      ready = row-ready (ofReadings kurtosis) _ _ _ _ _ (s .pre .plan) (row .standing) (more i) _ _ (starts-at r) (ends-at r);
       room = omega arith;
     }
 
 answer-requires : tie.Need-answer-requires Inv-loop μ-loop
 answer-requires c κs =
     let r = c .before .before .before .before .before in
-    let i = r .before .before .before .before in
+    let i = r .before .before in
     let s = start i in
     let row = i .before .loop .inv in
     let q = c .before .before .before .step in
     let l = row .work-same in
     let n = q .kept .0 in
     let y = s .pre .work-fits in
-    row-fits (ofReadings kurtosis) _ _ _ _ _ (s .pre .plan) (row .standing) (i .loop-test .taken) _ _ (r .before .before .place .ensures) (r .place2 .ensures)
+    row-fits (ofReadings kurtosis) _ _ _ _ _ (s .pre .plan) (row .standing) (more i) _ _ (starts-at r) (ends-at r)
     (q .result .window) _ _ (q .ensures .to) (q .ensures .held) (omega arith)
 
 write-requires : tie.Need-write-requires Inv-loop μ-loop
 write-requires c κs =
-    let i = c .before .before .before .before .before .before .before .before .before .before .before .before in
+    let i = c .before .before .before .before .before .before .before .before .before .before in
     let s = start i in
-    let h = i .loop-test .taken in
+    let h = more i in
     let o = i .before .loop .inv .out-same in
     let p = i .before .loop .inv .pr-same in
     let y = s .pre .figures-fit in
@@ -89,7 +96,7 @@ write-requires c κs =
     (omega arith, omega arith)
 
 add-row : tie.Need-add-row Inv-loop μ-loop
-add-row c = let i = c .before .before .before .before .before .before .before .before .before .before .before .before .before .before .before .before .before in omega (arith, i .loop-test .taken, start i)
+add-row c = let i = c .before .before .before .before .before .before .before .before .before .before .before .before .before .before .before in omega (arith, i .loop-test .taken, start i)
 
 loop-less : tie.Need-loop-less Inv-loop μ-loop
 loop-less c = search needs
@@ -97,11 +104,11 @@ loop-less c = search needs
 loop-again : tie.Need-loop-again Inv-loop μ-loop
 loop-again c =
     let r = c .before .before .before .before .before .before .before .before .before .before .before .before .before in
-    let i = r .before .before .before .before in
+    let i = r .before .before in
     let s = start i in
     let q = c .before .before .before .before .before .before .before .before .before .before .before .step in
     let p = c .before .before .before .before .write .ensures in
-    row-next (ofReadings kurtosis) _ _ _ _ _ _ (s .pre .plan) (i .before .loop .inv) (i .loop-test .taken) _ _ (r .before .before .place .ensures) (r .place2 .ensures)
+    row-next (ofReadings kurtosis) _ _ _ _ _ _ (s .pre .plan) (i .before .loop .inv) (more i) _ _ (starts-at r) (ends-at r)
     (q .ensures .to) (q .ensures .held) (q .kept .0) (q .ensures .rest) (c .before .before .before .before .before .before .before .answer .ensures)
     (s .pre .figures-fit) (s .pre .present-fit) (p .0) (p .1)
 
@@ -117,8 +124,11 @@ same-length-3 c = search needs
 returns : tie.Need-returns Inv-loop μ-loop
 unfolding filled kept
 returns c =
-    let s = c .before .before .before .before .before .before .before .before .before .before in
-    let d = row-done (ofReadings kurtosis) _ _ _ _ _ _ (c .before .loop .inv) (c .loop-test .left) in
+    let s = c .before .before .before .before .before .before .before .before .before .before .before in
+    let g = s .args in
+    let e = c .before .before .rows .ensures ∙ rows-are (g .left) (g .right) (length (g .values .now)) (g .starts .now) (g .ends .now) (g .fixed) in
+    let h = c .loop-test .left in
+    let d = row-done (ofReadings kurtosis) _ _ _ _ _ _ (c .before .loop .inv) (omega arith) in
     record { figures-are = d .0; present-are = d .1; work-kept = rw (← s .pre .wide-is) (d .2) }
 
 pub rows-spec : {M : Type 1} → statement M
@@ -128,13 +138,10 @@ rows-spec =
     Inv-loop
     μ-loop
     empty-requires
+    rows-requires
     loop-holds
-    mul-place
-    shared-slice-read-place
-    place-requires
-    mul-place-2
-    shared-slice-read-place-2
-    place-requires-2
+    row-start-requires
+    row-end-requires
     step-requires
     answer-requires
     write-requires

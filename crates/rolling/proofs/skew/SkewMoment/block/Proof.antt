@@ -5,32 +5,34 @@ use native.Mathlib.Omega.{arith}
 use borrow.Author.Needs.{needs}
 use lib.ListN.{length}
 use Rattle.window.specs.Readings.{series, ofReadings}
+use Rattle.window.specs.Rows.{Plan, rows, rowStart, rowEnd}
 use Rattle.window.proofs.Rows.{row-ready, row-fits, row-inside, row-answer, stand-next}
 use Rattle.rolling.specs.Moments.{skewness}
-use Rattle.rolling.specs.Calls.{planOf}
+use Rattle.rolling.specs.Fixed.{rowsOf}
 use Rattle.rolling.specs.Slots.{BlockFilled}
+use Rattle.rolling.proofs.Fixed.{start-is, end-is, start-listed, end-listed}
 use Rattle.rolling.proofs.Slots.{weighed}
 use Rattle.rolling.proofs.Blocks.{filled-next}
 use Rattle.rolling.proofs.skew.SkewMoment.block.Statement.{statement}
 use Rattle.rolling.proofs.skew.SkewMoment.block.Tie as tie
 
 abbrev Inv-loop : tie.InvT-loop
-Inv-loop self values has-map map starts ends min-periods widest work₀ present₀ first until counts₀ corrections₀ m2s₀ m3s₀ factors₀ w₀ row₀ work present counts corrections m2s m3s factors w row =
-    BlockFilled (self .bias) (series has-map map values) min-periods (length values) widest (planOf starts ends) first
+Inv-loop self values has-map map fixed left right starts ends min-periods widest work₀ present₀ first until counts₀ corrections₀ m2s₀ m3s₀ factors₀ n w₀ row₀ work present counts corrections m2s m3s factors w row =
+    BlockFilled (self .bias) (series has-map map values) min-periods (length values) widest (rowsOf fixed left right (length values) starts ends) first
     work₀ work present₀ present (w .window) (w .«agg_back») counts corrections m2s m3s factors row
     × (first ≤ row) × (row ≤ until)
 
 abbrev μ-loop : tie.MeasureT-loop
-μ-loop self values has-map map starts ends min-periods widest work₀ present₀ first until counts₀ corrections₀ m2s₀ m3s₀ factors₀ w₀ row₀ work present counts corrections m2s m3s factors w row = until - row
+μ-loop self values has-map map fixed left right starts ends min-periods widest work₀ present₀ first until counts₀ corrections₀ m2s₀ m3s₀ factors₀ n w₀ row₀ work present counts corrections m2s m3s factors w row = until - row
 
 abbrev start : tie.In-loop Inv-loop μ-loop → tie.Start Inv-loop μ-loop
 start i = i .before .before .before .before .before .before .before .before .before .before .before .before .before
 
-in-rows : (i : tie.In-loop Inv-loop μ-loop) → i .before .loop .row < length (start i .args .starts .now)
-in-rows i = let h = i .loop-test .taken in let b = start i .pre .0 .5 in omega arith
+abbrev plan : tie.Start Inv-loop μ-loop → Plan
+plan s = let g = s .args in rowsOf (g .fixed) (g .left) (g .right) (length (g .values .now)) (g .starts .now) (g .ends .now)
 
-ends-too : (i : tie.In-loop Inv-loop μ-loop) → i .before .loop .row < length (start i .args .ends .now)
-ends-too i = let e = start i .pre .0 .0 .same in let h = in-rows i in omega arith
+in-rows : (i : tie.In-loop Inv-loop μ-loop) → i .before .loop .row < rows (plan (start i))
+in-rows i = let h = i .loop-test .taken in let b = start i .pre .0 .5 in omega arith
 
 slot-in : (i : tie.In-loop Inv-loop μ-loop) → i .before .loop .row - start i .args .first < 32
 slot-in i = let h = i .loop-test .taken in let b = start i .pre .0 .6 in let f = i .before .loop .inv .1 in omega arith
@@ -38,52 +40,46 @@ slot-in i = let h = i .loop-test .taken in let b = start i .pre .0 .6 in let f =
 loop-holds : tie.Need-loop-holds Inv-loop μ-loop
 loop-holds c = let p = c .before .before .before .before .before .before .before .before .before .before .before .pre in let b = p .0 .4 in (p .1, omega arith, b)
 
-mul-place : tie.Need-mul-place Inv-loop μ-loop
-mul-place c = let h = in-rows c in omega arith
+row-start-requires : tie.Need-row-start-requires Inv-loop μ-loop
+row-start-requires c κs = let g = start c .args in start-listed (g .left) (g .right) _ _ (g .ends .now) _ (g .fixed) (in-rows c)
 
-shared-slice-read-place : tie.Need-shared-slice-read-place Inv-loop μ-loop
-shared-slice-read-place c = in-rows (c .before)
+row-end-requires : tie.Need-row-end-requires Inv-loop μ-loop
+row-end-requires c κs = let s = start (c .before) in let g = s .args in end-listed (g .left) (g .right) _ (g .starts .now) _ _ (g .fixed) _ (s .pre .0 .0) (in-rows (c .before))
 
-place-requires : tie.Need-place-requires Inv-loop μ-loop
-place-requires c κs = search needs
+starts-at : (r : tie.After-row-end Inv-loop μ-loop) → r .before .row-start .result ≡ rowStart (plan (start (r .before .before))) (r .before .before .before .loop .row)
+starts-at r = let i = r .before .before in let g = start i .args in start-is (g .left) (g .right) _ _ (g .ends .now) _ (g .fixed) _ (in-rows i) (r .before .row-start .ensures)
 
-mul-place-2 : tie.Need-mul-place-2 Inv-loop μ-loop
-mul-place-2 c = let h = ends-too (c .before .before) in omega arith
-
-shared-slice-read-place-2 : tie.Need-shared-slice-read-place-2 Inv-loop μ-loop
-shared-slice-read-place-2 c = ends-too (c .before .before .before)
-
-place-requires-2 : tie.Need-place-requires-2 Inv-loop μ-loop
-place-requires-2 c κs = search needs
+ends-at : (r : tie.After-row-end Inv-loop μ-loop) → r .row-end .result ≡ rowEnd (plan (start (r .before .before))) (r .before .before .before .loop .row)
+ends-at r = let i = r .before .before in let g = start i .args in end-is (g .left) (g .right) _ (g .starts .now) _ _ (g .fixed) _ (in-rows i) (r .row-end .ensures)
 
 step-requires : tie.Need-step-requires Inv-loop μ-loop
 step-requires c κs =
     let r = c .before in
-    let i = r .before .before .before .before in
+    let i = r .before .before in
     let s = start i in
     let v = i .before .loop .inv .0 in
     let l = v .work-same in
     let y = s .pre .0 .2 in (
       record {
         held = v .standing .held;
-        ready = row-ready (ofReadings skewness) _ _ _ _ _ (s .pre .0 .0) (v .standing) (in-rows i) _ _ (r .before .before .place .ensures) (r .place2 .ensures);
+        ready = row-ready (ofReadings skewness) _ _ _ _ _ (s .pre .0 .0) (v .standing) (in-rows i) _ _ (starts-at r) (ends-at r);
         room = omega arith;
       },
       s .pre .0 .1,
     )
 
 sub-prepare : tie.Need-sub-prepare Inv-loop μ-loop
-sub-prepare c = c .before .before .before .before .before .before .before .before .before .before .before .before .before .before .before .loop .inv .1
+sub-prepare c = c .before .before .before .before .before .before .before .before .before .before .before .before .before .loop .inv .1
 
 prepare-requires : tie.Need-prepare-requires Inv-loop μ-loop
 prepare-requires c κs =
     let r = c .before .before .before .before .before .before .before .before .before .before in
-    let i = r .before .before .before .before in
+    let i = r .before .before in
     let s = start i in
     let v = i .before .loop .inv .0 in
     let q = c .before .before .before .before .before .before .before .before .step in
-    let a = r .before .before .place .ensures in
-    let b = r .place2 .ensures in
+    let a = starts-at r in
+    let b = ends-at r in
     let l = v .work-same in
     let n = q .kept .0 in
     let y = s .pre .0 .2 in
@@ -98,10 +94,10 @@ prepare-requires c κs =
     (f .0, weighed _ _ (q .result .window) _ _ (q .ensures .held) (omega arith), f .2, omega arith, omega arith, omega arith, v .kept)
 
 slice-write-present : tie.Need-slice-write-present Inv-loop μ-loop
-slice-write-present c = let i = c .before .before .before .before .before .before .before .before .before .before .before .before .before .before .before .before .before .before .before .before .before .before .before .before .before in let h = in-rows i in let e = i .before .loop .inv .0 .present-same in let f = start i .pre .0 .3 in omega arith
+slice-write-present c = let i = c .before .before .before .before .before .before .before .before .before .before .before .before .before .before .before .before .before .before .before .before .before .before .before in let h = in-rows i in let e = i .before .loop .inv .0 .present-same in let f = start i .pre .0 .3 in omega arith
 
 add-row : tie.Need-add-row Inv-loop μ-loop
-add-row c = let h = in-rows (c .before .before .before .before .before .before .before .before .before .before .before .before .before .before .before .before .before .before .before .before .before .before .before .before .before) in omega (arith, start (c .before .before .before .before .before .before .before .before .before .before .before .before .before .before .before .before .before .before .before .before .before .before .before .before .before))
+add-row c = let h = in-rows (c .before .before .before .before .before .before .before .before .before .before .before .before .before .before .before .before .before .before .before .before .before .before .before) in omega (arith, start (c .before .before .before .before .before .before .before .before .before .before .before .before .before .before .before .before .before .before .before .before .before .before .before))
 
 loop-less : tie.Need-loop-less Inv-loop μ-loop
 loop-less c = search needs
@@ -109,12 +105,12 @@ loop-less c = search needs
 loop-again : tie.Need-loop-again Inv-loop μ-loop
 loop-again c =
     let r = c .before .before .before .before .before .before .before .before .before .before .before .before .before .before .before .before .before .before .before .before .before in
-    let i = r .before .before .before .before in
+    let i = r .before .before in
     let s = start i in
     let v = i .before .loop .inv .0 in
     let q = c .before .before .before .before .before .before .before .before .before .before .before .before .before .before .before .before .before .before .before .step in
-    let a = r .before .before .place .ensures in
-    let b = r .place2 .ensures in
+    let a = starts-at r in
+    let b = ends-at r in
     let p = c .before .before .before .before .before .before .before .before .before .before .prepare .ensures in
     let w = i .before .loop .inv in
     let t = i .loop-test .taken in
@@ -162,12 +158,8 @@ block-spec =
     Inv-loop
     μ-loop
     loop-holds
-    mul-place
-    shared-slice-read-place
-    place-requires
-    mul-place-2
-    shared-slice-read-place-2
-    place-requires-2
+    row-start-requires
+    row-end-requires
     step-requires
     sub-prepare
     prepare-requires

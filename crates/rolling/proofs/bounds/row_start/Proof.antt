@@ -1,0 +1,28 @@
+-- By the kind of the call. Assumes nothing.
+use native.Mathlib.Omega.{arith}
+use borrow.Author.Needs.{needs}
+use Rattle.rolling.proofs.bounds.row_start.Statement.{statement}
+use Rattle.rolling.proofs.bounds.row_start.Tie as tie
+
+start-of-requires : tie.Need-start-of-requires
+start-of-requires c κs = search needs
+
+returns : tie.Need-returns
+returns c = rw (c .before .if1 .taken) (c .start-of .ensures)
+
+mul-place : tie.Need-mul-place
+mul-place c = let h = c .before .before .pre (c .if1 .left) in omega arith
+
+shared-slice-read-place : tie.Need-shared-slice-read-place
+shared-slice-read-place c = c .before .before .before .pre (c .before .if1 .left)
+
+place-requires : tie.Need-place-requires
+place-requires c κs = search needs
+
+returns-2 : tie.Need-returns-2
+returns-2 c = rw (c .before .before .if1 .left) (c .place .ensures)
+
+pub row-start-spec : {M : Type 1} → statement M
+row-start-spec =
+    tie.close
+    (tie.spec start-of-requires returns mul-place shared-slice-read-place place-requires returns-2)
