@@ -18,6 +18,7 @@ pub use cov_state::CovState;
 pub use kurtosis_state::KurtosisState;
 pub use pearson_state::PearsonState;
 pub use skew_state::SkewState;
+pub use sums::sum;
 pub use var_state::VarState;
 
 // f64::EPSILON, 2^-52.

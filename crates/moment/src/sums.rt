@@ -5,7 +5,7 @@ ghost use lib.ListN.{length};
 ghost use Rattle.moment.specs.Sums.{sumOf, itself, square};
 ghost use Rattle.trace.specs.Trace.{validAt, validFrom};
 
-pub(crate) fn sum(x: &[f64]) -> f64
+pub fn sum(x: &[f64]) -> f64
     ensures { λ r. ⌜ r ≡ sumOf itself (now (x .entry)) ⌝ }
 {
     let mut t = 0.0;

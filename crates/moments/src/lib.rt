@@ -11,6 +11,7 @@ ghost use Rattle.moment.specs.Arrays.{varAnswer, varNumber, varMembers, covAnsw
 ghost use Rattle.rolling.specs.Moments.{Variance, Skewness, Kurtosis};
 ghost use Rattle.rolling.specs.Calls.{ask, lent, traceOf, CalledBytes};
 ghost use Rattle.rolling.specs.Fixed.{CalledFixed};
+ghost use Rattle.rolling.specs.Weights.{CalledWeights};
 ghost use Rattle.moments.specs.Results.{StateResult, FigureResult};
 use moment::CovAnswer;
 use moment::CovState;
@@ -215,6 +216,34 @@ pub extern "C" fn moments_rolling_kurtosis(
         fisher,
         bias,
         work,
+        figures,
+        present,
+    )
+}
+
+#[no_mangle]
+pub extern "C" fn moments_rolling_var_weights(
+    trace: &[f64],
+    has_map: bool,
+    map: &[u8],
+    window_size: usize,
+    min_periods: usize,
+    center: bool,
+    weights: &[f64],
+    figures: &mut [f64],
+    present: &mut [u8],
+) -> u32
+    ensures { λ r. ⌜ CalledWeights center «window_size» «min_periods» (now (weights .entry)) (traceOf (now (trace .entry)) «has_map» (now (map .entry)))
+        (now (figures .entry)) (now (figures .exit)) (now (present .entry)) (now (present .exit)) r ⌝ }
+{
+    rolling::rolling_var_weights(
+        trace,
+        has_map,
+        map,
+        window_size,
+        min_periods,
+        center,
+        weights,
         figures,
         present,
     )

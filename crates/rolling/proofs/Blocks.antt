@@ -3,12 +3,11 @@
 use Prim.Native.Nat.{ℕ, _+_, _-_, _*_, _≤_, _<_}
 use mathlib.Core.Path.{_≡_, refl, sym, ap, _∙_}
 use mathlib.Core.Bool.{Bool, true, false, cond}
-use mathlib.Core.List.{List, _++_, append-assoc}
+use mathlib.Core.List.{List, _++_}
 use native.Mathlib.Omega.{arith}
 use borrow.Author.Tests.{eqb-true, eqb-false}
 use lib.Dec.{eqb}
 use lib.ListN.{length, set, take, drop, getD, length-set, length-append, length-take, length-drop}
-use lib.Seq.{take-at, drop-at, drop-drop}
 use lib.Ieee.{Float, nan}
 use Rattle.root.specs.Root.{root}
 use Rattle.moment.specs.Figure.{doubleOf, byteOf}
@@ -21,7 +20,7 @@ use Rattle.window.specs.Readings.{ofReadings}
 use Rattle.window.specs.Stacks.{Standing}
 use Rattle.window.specs.declared.Window.{Window}
 use Rattle.window.proofs.Rows.{Row}
-use Rattle.window.proofs.Tables.{table-length, table-more, table-join}
+use Rattle.window.proofs.Tables.{table-length, table-more, table-part}
 use Rattle.rolling.specs.Moments.{skewness}
 use Rattle.rolling.specs.Slots.{Corrections, estimate, doubleAt, Waits, rowAnswer, BlockFilled}
 use Rattle.rolling.proofs.Slots.{set-at}
@@ -99,22 +98,12 @@ module _ (bias : Bool) (t : Series Float) (minPeriods n widest : ℕ) (p : Plan)
       r ≡ table (doubleAt bias m2s m3s factors) (until - first) → out ≡ take first out₁ ++ (r ++ drop (until - first) (drop first out₁)) →
       out ≡ table (λ j. doubleOf (Answer j)) until ++ drop until out₀
   written out₀ out₁ out r m2s m3s factors first until a b h e slots g o =
-      let D : ℕ → Float = λ j. doubleOf (Answer j) in
-      let T = table D first in
-      let l : length T ≡ first = table-length D first in
-      let x : take first out₁ ≡ T = ap (take first) e ∙ take-at T (drop first out₀) first l in
-      let n : first + (until - first) ≡ until = omega arith in
-      let y : drop (until - first) (drop first out₁) ≡ drop until out₀ =
-      ap (λ (k : List Float). drop (until - first) (drop first k)) e
-      ∙ ap (drop (until - first)) (drop-at T (drop first out₀) first l)
-      ∙ drop-drop (until - first) first out₀ ∙ ap (λ (k : ℕ). drop k out₀) n in
-      let t : T ++ table (doubleAt bias m2s m3s factors) (until - first) ≡ table D until =
-      table-join D (doubleAt bias m2s m3s factors) first (until - first)
+      o
+      ∙ table-part (λ j. doubleOf (Answer j)) (doubleAt bias m2s m3s factors) out₀ out₁ r first until a e
       (λ i k.
       let z : first + i - first ≡ i = omega arith in
       ap (doubleAt bias m2s m3s factors) (sym z) ∙ slots (first + i) (omega arith) (omega arith))
-      ∙ ap (table D) n in
-      o ∙ rw (x, y, g) (sym (append-assoc T (table (doubleAt bias m2s m3s factors) (until - first)) (drop until out₀)) ∙ ap (λ (k : List Float). k ++ drop until out₀) t)
+      g
 
   abbrev RowOf : (work₀ out₀ : List Float) (pr₀ : List ℕ) (work out : List Float) (pr : List ℕ) (w : Window) (agg : SkewState) (k : ℕ) → Type 0
   RowOf work₀ out₀ pr₀ work out pr w agg k =

@@ -3,3 +3,4 @@ pub mod Calls
 pub mod Fixed
 pub mod Blocks
 pub mod Slots
+pub mod Weighted

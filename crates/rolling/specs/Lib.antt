@@ -1,5 +1,6 @@
--- In document 01's order: the three moments of windows, the plan calls, fixed windows; last what the code of skewness keeps.
+-- In document 01's order: the three moments of windows, the plan calls, fixed windows, weights; last what the code of skewness keeps.
 pub mod Moments
 pub mod Calls
 pub mod Fixed
+pub mod Weights
 pub mod Slots

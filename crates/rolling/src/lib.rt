@@ -4,6 +4,7 @@ ghost use Rattle.rolling.specs.Moments.{Variance, Skewness, Kurtosis};
 ghost use Rattle.rolling.specs.Calls.{ask, lent, traceOf, Called, CalledBytes};
 ghost use mathlib.Core.Path.{_≡_};
 ghost use Rattle.rolling.specs.Fixed.{CalledFixed, offsetsAt};
+ghost use Rattle.rolling.specs.Weights.{CalledWeights};
 use crate::kurtosis::KurtosisMoment;
 use crate::skew::SkewMoment;
 use crate::variance::VarianceMoment;
@@ -15,6 +16,7 @@ mod plan;
 mod row;
 mod skew;
 mod variance;
+mod weights;
 
 // Rolling variance over a plan.
 pub fn plan_var(
@@ -487,6 +489,47 @@ pub fn rolling_kurtosis(
         min_periods,
         checked.widest,
         work,
+        figures,
+        present,
+    );
+    0
+}
+
+// Weighted rolling variance over fixed windows: 004's `rolling_var` with weights.
+pub fn rolling_var_weights(
+    values: &[f64],
+    has_map: bool,
+    map: &[u8],
+    window_size: usize,
+    min_periods: usize,
+    center: bool,
+    weights: &[f64],
+    figures: &mut [f64],
+    present: &mut [u8],
+) -> u32
+    ensures { λ r. ⌜ CalledWeights center «window_size» «min_periods» (now (weights .entry)) (traceOf (now (values .entry)) «has_map» (now (map .entry)))
+        (now (figures .entry)) (now (figures .exit)) (now (present .entry)) (now (present .exit)) r ⌝ }
+{
+    let total = moment::sum(weights);
+    let number = weights::judge(
+        values.len(),
+        has_map,
+        map,
+        window_size,
+        weights.len(),
+        total,
+        figures.len(),
+        present.len(),
+    );
+    if number != 0 {
+        return number;
+    }
+    weights::rows(
+        values,
+        center,
+        min_periods,
+        weights,
+        total,
         figures,
         present,
     );
