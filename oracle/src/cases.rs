@@ -1,10 +1,10 @@
-//! The plan calls that `words` stores: those by hand, then random ones of every number and figure.
-use crate::host::{Case, Room};
+//! The calls on windows that `words` stores: those by hand, then random ones of every number and figure.
+use crate::account::afresh;
+use crate::host::{Case, Room, EASY};
 use crate::rng::Rng;
-use crate::{plan, same_row, Figure};
+use crate::{fixed, offsets, plan, same_row, windows, Figure};
 
-const VAR: Figure = Figure::Var { ddof: 1 };
-const FIGURES: [Figure; 3] = [VAR, Figure::Skew { bias: true }, Figure::Kurt { fisher: true, bias: true }];
+const VAR: Figure = EASY[0];
 const INF: f64 = f64::INFINITY;
 const NAN: f64 = f64::NAN;
 
@@ -32,7 +32,7 @@ fn by_hand(r: &mut Rng) -> Vec<Case> {
     let far = [h, -h, h, 1.0, 2.0, 4.0, 9.0, NAN, INF, 3.0, 5.0, 8.0];
     let gaps = [(0, 3), (1, 3), (3, 6), (4, 9), (9, 11), (9, 12)];
     let x: Vec<f64> = (0..9).map(|_| r.reading(1)).collect();
-    for f in FIGURES {
+    for f in EASY {
         // a copy of the front state into an empty back state would give 0 as variance in row 1
         v.push(Case::new(f, 1, &[1.0, -h, h], None, &[(0, 3), (1, 3)]));
         v.push(Case::new(f, 1, &far, None, &gaps));
@@ -116,7 +116,7 @@ fn random(r: &mut Rng, count: usize) -> Vec<Case> {
     (0..count)
         .map(|i| {
             let number = if i % 3 == 2 { numbers[i / 9 % 8] } else { 0 };
-            let figure = kind(&FIGURES[i / 3 % 3]);
+            let figure = kind(&EASY[i / 3 % 3]);
             let tells = |case: &Case| i % 4 == 3 || case.call().answers().iter().flatten().any(|x| !x.is_nan() && *x != 0.0);
             loop {
                 let case = if number == 0 { Case::any(r, 10, 6) } else { Case::any(r, 5, 3) };
@@ -134,5 +134,267 @@ pub fn cases(r: &mut Rng) -> Vec<Case> {
         v.push(case);
     }
     v.extend(random(r, 400));
+    v
+}
+
+// ---- fixed windows ----
+/// Document 01's cases of fixed windows, and each size and minimum at which something begins, ends or wraps.
+fn fixed_by_hand(r: &mut Rng) -> Vec<windows::Case> {
+    use windows::Case;
+    let mut v = Vec::new();
+    let x: Vec<f64> = (0..5).map(|_| r.reading(1)).collect();
+    let settings = |f: Figure, k: usize| match f {
+        Figure::Var { .. } => Figure::Var { ddof: [1, 0, 2][k % 3] },
+        Figure::Skew { .. } => Figure::Skew { bias: k % 3 != 2 },
+        Figure::Kurt { .. } => Figure::Kurt { fisher: k % 2 == 0, bias: k % 3 != 2 },
+    };
+    let mut turn = 0;
+    for f in EASY {
+        for centre in [false, true] {
+            for map in [None, Some(&[0xFB][..])] {
+                // every size and every minimum with each figure, either alignment, with a map and without
+                for (k, size) in [0, 1, 2, 5, 6, 1 << 63, usize::MAX].into_iter().enumerate() {
+                    let min = [0, 1, size, size.saturating_add(1), usize::MAX][(k + turn) % 5];
+                    v.push(Case::new(settings(f, k), &x, map, size, min, centre));
+                }
+                turn += 1;
+            }
+            // even and odd, with a figure in most rows: document 01's centred window 4 of 5 places is among them
+            for size in [3, 4] {
+                v.push(Case::new(f, &x, None, size, 2, centre));
+            }
+            // readings that are not finite, and an overflow, come and go; with a map some are missing
+            let h = 1.7e308;
+            let far = [h, -h, h, 1.0, 2.0, NAN, 9.0, INF, 3.0, 5.0, 8.0];
+            v.push(Case::new(f, &far, None, 3, 2, centre));
+            v.push(Case::new(f, &far, Some(&[0x5F, 0x07]), 3, 2, centre));
+            // a window worked afresh in rising order gives other bits in some row
+            let rows: Vec<(usize, usize)> = (0..9).map(|i| offsets(i, 5, 9, centre)).collect();
+            let y = telling(r, |x| fixed(x, None, 5, 3, centre, f), |x| afresh(x, None, &rows, f, 3));
+            v.push(Case::new(f, &y, None, 5, 3, centre));
+            v.push(Case::new(f, &y, Some(&[0xFF, 0xFF]), 5, 3, centre));
+        }
+        // no readings: no rows, also where the Rust panics
+        for (size, centre, map) in [(0, false, None), (1, false, None), (3, false, Some(&[][..])), (usize::MAX, true, None)] {
+            v.push(Case::new(f, &[], map, size, 0, centre));
+        }
+        // one reading; no place valid; spare bits of the map are not looked at
+        v.push(Case::new(f, &x[..1], None, 1, 1, true));
+        v.push(Case::new(f, &x, Some(&[0xE0]), 2, 0, false));
+    }
+    // rows past a block of 32 and not a multiple of it
+    let long: Vec<f64> = (0..67).map(|_| r.reading(1)).collect();
+    v.push(Case::new(EASY[1], &long, None, 4, 3, false));
+    v.push(Case::new(EASY[1], &long[..33], Some(&[0xFF; 5]), 5, 2, true));
+    v
+}
+/// Calls to which several numbers apply, each with the one that is answered, the least; and lists at their least lengths.
+fn fixed_in_order(r: &mut Rng) -> Vec<(u32, windows::Case)> {
+    use windows::Case;
+    let x: Vec<f64> = (0..9).map(|_| r.reading(1)).collect();
+    let mut v = Vec::new();
+    for (k, f) in EASY.into_iter().enumerate() {
+        let good = Case::new(f, &x, Some(&[0xFF, 1]), 3, 1, k == 1);
+        let none = Room { readings: 0, work: 0, figures: 0, present: 0 };
+        let need = good.room.work;
+        // n = 9 needs a map of 2 bytes, no more and no fewer
+        for map in [vec![], vec![0xFF], vec![0xFF; 3]] {
+            v.push((3, Case { map, room: none, ..good.clone() }));
+        }
+        for (number, room) in [
+            (12, none),
+            (12, Room { figures: 8, work: 0, ..good.room }),
+            (12, Room { present: 8, work: 0, ..good.room }),
+            (12, Room { figures: 8, ..good.room }),
+            (13, Room { work: 0, ..good.room }),
+            (13, Room { work: need - 1, figures: 11, ..good.room }),
+            (0, Room { work: need + 3, figures: 10, present: 12, ..good.room }),
+        ] {
+            v.push((number, Case { room, ..good.clone() }));
+        }
+        // the widest window is the trace where the size is more: as much work is needed, and one double less is 13
+        for (number, work) in [(0, f.entry() * 9), (13, f.entry() * 9 - 1)] {
+            v.push((number, Case { size: usize::MAX - k, room: Room { work, ..good.room }, ..good.clone() }));
+        }
+        // a size of 0 needs no work, and without a map nothing is asked of what stands there
+        let without = Case { has_map: false, map: vec![1, 2, 3], ..good.clone() };
+        v.push((0, Case { size: 0, min: 0, room: Room { work: 0, ..good.room }, ..without.clone() }));
+        v.push((0, without));
+    }
+    v
+}
+
+// ---- weights ----
+/// Document 01's cases of weights and what it says of them.
+fn weighted_by_hand(r: &mut Rng) -> Vec<windows::Case> {
+    use windows::Case;
+    let mut v = Vec::new();
+    v.push(Case::weighted(&[1.0, 1.0], &[1.0, 3.0], 1, false));
+    v.push(Case::weighted(&[1.0, 0.0], &[1.0, 3.0], 1, false));
+    let x: Vec<f64> = (0..7).map(|_| r.reading(1)).collect();
+    let h = 1.7e308;
+    let odd = [1.0, NAN, 2.0, INF, 3.0, -INF, 4.0, h, -h, 5.0];
+    for centre in [false, true] {
+        // every alignment: windows of one place, even, odd, as long as the trace, and longer
+        for count in [1, 2, 3, 4, 5, 7, 8, 13, 14, 15, 20] {
+            let w: Vec<f64> = (0..count).map(|j| 1.0 + (j * j) as f64).collect();
+            v.push(Case::weighted(&w, &x, 1, centre));
+        }
+        // minimums about the shortest and the longest window
+        for count in [3, 4] {
+            for min in [0, 2, 3, 4, 5, usize::MAX] {
+                let w: Vec<f64> = (0..count).map(|j| 1.5 - j as f64 / 4.0).collect();
+                v.push(Case::weighted(&w, &x, min, centre));
+            }
+        }
+        // a total of zero in some rows: weights of zero, of both signs, and opposite ones
+        for w in [&[2.0, 0.0, 0.0][..], &[0.0, 0.0, 2.0], &[-0.0, 3.0, 0.0], &[5.0, 1.0, -1.0], &[1.0, -1.0, 4.0], &[-1.0, 2.0, 1.0, -1.0]] {
+            v.push(Case::weighted(w, &x, 1, centre));
+        }
+        // negative weights and figures below zero; readings whose variance is rounded below zero
+        v.push(Case::weighted(&[-1.0, 3.0], &x, 1, centre));
+        v.push(Case::weighted(&[-1.0, -3.0, -0.5], &x, 2, centre));
+        v.push(Case::weighted(&[0.1, 0.2, 0.7], &[0.1; 6], 1, centre));
+        // readings that are not finite stand in the sums as they are
+        v.push(Case::weighted(&[0.5, 1.0, 2.0], &odd, 1, centre));
+        v.push(Case::weighted(&[1.0, 0.0, 0.0], &odd, 2, centre));
+        // weights that are not finite or whose sum is not; sums that are very small
+        for w in [&[1.0, NAN][..], &[INF, 1.0], &[-INF, 1.0], &[INF, -INF], &[h, h, 1.0], &[h, -h, 1.0], &[5e-324, 0.0, 5e-324], &[1e-310, 1e300]] {
+            v.push(Case::weighted(w, &x[..4], 1, centre));
+        }
+        // no readings, one reading
+        v.push(Case::weighted(&[1.0, 2.0], &[], 1, centre));
+        v.push(Case::weighted(&[1.0, 2.0], &x[..1], 1, centre));
+    }
+    // rows past a block of 64 and not a multiple of it
+    let long: Vec<f64> = (0..131).map(|_| r.reading(1)).collect();
+    let w: Vec<f64> = (0..70).map(|j| ((j * 7) % 11) as f64 - 2.0).collect();
+    v.push(Case::weighted(&[1.0, 2.0, 4.0], &long, 3, false));
+    v.push(Case::weighted(&w, &long[..66], 30, true));
+    v.push(Case::weighted(&w, &long[..65], 1, false));
+    v
+}
+/// Calls to which several numbers apply, each with the one that is answered, the least.
+fn weighted_in_order(r: &mut Rng) -> Vec<(u32, windows::Case)> {
+    use windows::Case;
+    let x: Vec<f64> = (0..9).map(|_| r.reading(1)).collect();
+    let good = Case::weighted(&[1.0, 2.0, 1.0], &x, 1, false);
+    let none = Room { readings: 0, work: 0, figures: 0, present: 0 };
+    let zero = Some(vec![1.0, -1.0]);
+    let with = |map: &[u8]| Case { has_map: true, map: map.to_vec(), ..good.clone() };
+    let weights = |w: &[f64]| Case { weights: Some(w.to_vec()), ..good.clone() };
+    let mut v = vec![
+        // 3 before 8, 9, 10 and 12
+        (3, Case { weights: zero.clone(), room: none, ..with(&[0xFF]) }),
+        (3, with(&[])),
+        // 8 with any map of the right length, ones too
+        (8, with(&[0xFF, 1])),
+        (8, with(&[0, 0])),
+        (8, Case { weights: zero.clone(), room: none, ..with(&[0xFF, 0xFF]) }),
+        (8, Case { weights: Some(vec![1.0]), ..with(&[0xFF, 1]) }),
+        (8, Case { room: none, ..with(&[0xFF, 1]) }),
+        // 9 before 10 and 12: opposite weights, zeros of either sign, a sum that rounds to zero, no weights
+        (9, Case { room: none, ..weights(&[1.0, -1.0]) }),
+        (9, weights(&[0.0, 0.0, 0.0])),
+        (9, weights(&[-0.0, -0.0, -0.0])),
+        (9, weights(&[-0.0])),
+        (9, weights(&[1e16, 1.0, -1e16])),
+        (9, weights(&[1e-320, 0.0, -1e-320])),
+        (9, weights(&[])),
+        (9, Case { size: 0, ..weights(&[]) }),
+        (9, Case { size: 0, ..weights(&[0.0]) }),
+        (9, Case { size: usize::MAX, ..weights(&[-0.0, 0.0]) }),
+        (9, Case { x: vec![], size: 2, ..weights(&[2.0, -2.0]) }),
+        (9, Case { room: Room { figures: 8, ..good.room }, ..weights(&[0.0, 0.0, 0.0]) }),
+        // 10 before 12: one weight too few, one too many, and far from the size
+        (10, Case { room: none, ..weights(&[1.0, 2.0]) }),
+        (10, weights(&[1.0, 2.0, 3.0, 4.0])),
+        (10, Case { size: 0, ..good.clone() }),
+        (10, Case { size: 1 << 63, ..good.clone() }),
+        (10, Case { size: usize::MAX, room: none, ..good.clone() }),
+        (10, Case { x: vec![], room: none, ..weights(&[1.0]) }),
+        (10, weights(&[NAN])),
+        (12, Case { room: none, ..good.clone() }),
+        (12, Case { room: Room { figures: 8, ..good.room }, ..good.clone() }),
+        (12, Case { room: Room { present: 8, ..good.room }, ..good.clone() }),
+        (12, Case { room: Room { figures: 8, ..good.room }, ..weights(&[NAN, 1.0, 1.0]) }),
+        (0, Case { room: Room { figures: 10, present: 12, ..good.room }, ..good.clone() }),
+    ];
+    // without a map nothing is asked of what stands there; no rows need no room
+    v.push((0, Case { map: vec![1, 2, 3], ..good.clone() }));
+    v.push((0, Case { x: vec![], room: none, ..good }));
+    v
+}
+
+/// Random calls, small; two thirds are accepted, most of those with a number among the answers.
+fn random_windows(r: &mut Rng, count: usize, numbers: &[u32], any: fn(&mut Rng, usize) -> windows::Case) -> Vec<windows::Case> {
+    let kind = std::mem::discriminant::<Figure>;
+    (0..count)
+        .map(|i| {
+            let number = if i % 3 == 2 { numbers[i / 9 % numbers.len()] } else { 0 };
+            let figure = kind(&EASY[i / 3 % 3]);
+            let tells = |case: &windows::Case| i % 4 == 3 || case.call().answers().iter().flatten().any(|x| !x.is_nan() && *x != 0.0);
+            loop {
+                let case = any(r, if number == 0 { 9 } else { 4 });
+                let asked = case.weights.is_some() || kind(&case.figure) == figure;
+                if asked && case.call().refusal(case.room) == number && (number != 0 || tells(&case)) {
+                    return case;
+                }
+            }
+        })
+        .collect()
+}
+fn numbered(list: Vec<(u32, windows::Case)>) -> impl Iterator<Item = windows::Case> {
+    list.into_iter().map(|(number, case)| {
+        assert_eq!(case.call().refusal(case.room), number, "{case:?}");
+        case
+    })
+}
+pub fn fixed_cases(r: &mut Rng) -> Vec<windows::Case> {
+    let mut v = fixed_by_hand(r);
+    v.extend(numbered(fixed_in_order(r)));
+    v.extend(random_windows(r, 72, &[3, 12, 13], windows::Case::any));
+    v
+}
+pub fn weighted_cases(r: &mut Rng) -> Vec<windows::Case> {
+    let mut v = weighted_by_hand(r);
+    v.extend(numbered(weighted_in_order(r)));
+    v.extend(random_windows(r, 72, &[3, 8, 9, 10, 12], windows::Case::any_weighted));
+    v
+}
+
+// ---- bounds ----
+/// Size, centred or not, readings and row. Some rows lie past the last.
+pub fn bounds(r: &mut Rng) -> Vec<(usize, bool, usize, usize)> {
+    const MOST: usize = crate::refusal::LIMIT;
+    let mut v = Vec::new();
+    for n in [1, 5, 8, MOST] {
+        let mut sizes = vec![0, 1, 2, 3, 4, 5, n - 1, n, n + 1, 2 * n, 1 << 63, usize::MAX];
+        let mut rows = vec![0, 1, 2, n / 2, n.saturating_sub(2), n - 1];
+        sizes.sort();
+        sizes.dedup();
+        rows.retain(|i| *i < n);
+        rows.sort();
+        rows.dedup();
+        for centre in [false, true] {
+            for size in &sizes {
+                v.extend(rows.iter().map(|i| (*size, centre, n, *i)));
+            }
+        }
+    }
+    // sizes about a row's place, and about twice as far
+    for k in 0..48 {
+        let n = 1 + r.below(if k % 2 == 0 { 40 } else { MOST });
+        let i = r.below(n);
+        let size = [i, 2 * i, n - i, 2 * (n - i)][k / 4 % 4] + r.below(4);
+        v.push((size, k % 4 < 2, n, i));
+    }
+    for n in [0, 5] {
+        for i in [n, n + 1, usize::MAX] {
+            for size in [0, 3, usize::MAX] {
+                v.extend([(size, false, n, i), (size, true, n, i)]);
+            }
+        }
+    }
     v
 }

@@ -3,6 +3,9 @@ use crate::account::valid;
 use crate::rng::Rng;
 use crate::{plan, refusal, Figure};
 
+/// Each figure with a setting under which it is present wherever the window has some readings.
+pub const EASY: [Figure; 3] = [Figure::Var { ddof: 1 }, Figure::Skew { bias: true }, Figure::Kurt { fisher: true, bias: true }];
+
 /// What a call is given, in our entries' order; `map` may hold anything where `has_map` is false.
 #[derive(Clone, Copy, Debug)]
 pub struct Call<'a> {
@@ -112,10 +115,9 @@ impl Case {
             _ if keen => r.below(5),
             _ => r.minimum(),
         };
-        let easy = [Figure::Var { ddof: 1 }, Figure::Skew { bias: true }, Figure::Kurt { fisher: true, bias: true }];
         let figure = match r.below(40) {
             0 => Figure::Var { ddof: 255 },
-            1..=19 if keen => easy[r.below(3)],
+            1..=19 if keen => EASY[r.below(3)],
             _ => r.figure(),
         };
         let mut case = Case::new(figure, min, &x, map.as_deref(), &rows);
@@ -195,7 +197,7 @@ impl Case {
 
 /// Readings and a map, if there is one: now and then all that is not finite is missing, or all that is missing is not
 /// finite. Where `keen`, the readings are mostly finite and of one size.
-fn readings(r: &mut Rng, n: usize, keen: bool) -> (Vec<f64>, Option<Vec<u8>>) {
+pub fn readings(r: &mut Rng, n: usize, keen: bool) -> (Vec<f64>, Option<Vec<u8>>) {
     let mut x = r.trace(n);
     if keen && r.chance(3, 4) {
         let style = [0, 1, 2, 3, 6][r.below(5)];

@@ -14,6 +14,7 @@ pub mod record;
 pub mod refusal;
 pub mod rng;
 pub mod second;
+pub mod windows;
 
 use arrow::array::{ArrayRef, PrimitiveArray};
 use arrow::bitmap::Bitmap;

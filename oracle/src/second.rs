@@ -2,14 +2,12 @@
 //! `second` it is our libmoments.a, whose entries are declared in `c`; the feature `plans` adds the plan calls, `rolling`
 //! fixed windows and weights too.
 use crate::host::Call;
-use crate::Figure;
+use crate::windows;
 
 /// call, readings out, work, figures out, present out -> 0 or refusal
 pub type PlanFn = fn(&Call, &mut [f64], &mut [f64], &mut [f64], &mut [u8]) -> u32;
-/// trace, map, size, centred, figure, minimum, figures out, present out, work -> 0 or refusal
-pub type FixedFn = fn(&[f64], Option<&[u8]>, usize, bool, Figure, usize, &mut [f64], &mut [u8], &mut [f64]) -> u32;
-/// trace, size, centred, weights, minimum, figures out, present out -> 0 or refusal
-pub type WeightedFn = fn(&[f64], usize, bool, &[f64], usize, &mut [f64], &mut [u8]) -> u32;
+/// call (of a figure, or with weights), work, figures out, present out -> 0 or refusal
+pub type WindowsFn = fn(&windows::Call, &mut [f64], &mut [f64], &mut [u8]) -> u32;
 /// "var" "skew" "kurt" "cov" "pearson": x, its map, y, its map, state fields out -> 0 or refusal
 pub type WholeFn = fn(&str, &[f64], Option<&[u8]>, &[f64], Option<&[u8]>, &mut [f64; 6]) -> u32;
 /// "skew" "kurt": trace, map, start, length, state fields out -> 0 or refusal
@@ -20,14 +18,14 @@ pub type RootFn = extern "C" fn(f64) -> f64;
 pub struct Impl {
     pub name: &'static str,
     pub plan: Option<PlanFn>,
-    pub fixed: Option<FixedFn>,
-    pub weighted: Option<WeightedFn>,
+    pub fixed: Option<WindowsFn>,
+    pub weighted: Option<WindowsFn>,
     pub whole: Option<WholeFn>,
     pub range: Option<RangeFn>,
     pub root: Option<RootFn>,
 }
 
-/// A demonstration: the work-slice model of src/model.rs. Of refusals it knows those of a plan.
+/// A demonstration: the work-slice model of src/model.rs, which has no weights.
 pub fn demo() -> Impl {
     use crate::host::Room;
     fn put(outv: &mut [f64], outp: &mut [u8], i: usize, r: Option<f64>) {
@@ -50,11 +48,14 @@ pub fn demo() -> Impl {
         }
         number
     }
-    fn fixed(x: &[f64], m: Option<&[u8]>, size: usize, c: bool, f: Figure, min: usize, ov: &mut [f64], op: &mut [u8], w: &mut [f64]) -> u32 {
-        let n = x.len();
-        let rows = (0..n).map(|i| crate::offsets(i, size, n, c));
-        crate::model::plan_into(x, m, rows, f, min, w, |i, r| put(ov, op, i, r), |_, _| {});
-        0
+    fn fixed(c: &windows::Call, work: &mut [f64], figures: &mut [f64], present: &mut [u8]) -> u32 {
+        let number = c.refusal(Room { readings: 0, work: work.len(), figures: figures.len(), present: present.len() });
+        if number == 0 {
+            let n = c.x.len();
+            let rows = (0..n).map(|i| crate::offsets(i, c.size, n, c.centre));
+            crate::model::plan_into(c.x, c.map(), rows, c.figure, c.min, work, |i, r| put(figures, present, i, r), |_, _| {});
+        }
+        number
     }
     Impl { name: "demo", plan: Some(plan), fixed: Some(fixed), weighted: None, whole: None, range: None, root: None }
 }
@@ -211,13 +212,14 @@ pub fn second() -> Option<Impl> {
     #[cfg(feature = "plans")]
     let impl_ = Impl { plan: Some(plan), ..impl_ };
     #[cfg(feature = "rolling")]
-    let impl_ = Impl { fixed: Some(rolling::fixed), weighted: Some(rolling::weighted), ..impl_ };
+    let impl_ = Impl { fixed: Some(rolling), weighted: Some(rolling), ..impl_ };
     Some(impl_)
 }
 
 #[cfg(feature = "plans")]
 #[rustfmt::skip]
 fn plan(c: &Call, readings: &mut [f64], work: &mut [f64], figures: &mut [f64], present: &mut [u8]) -> u32 {
+    use crate::Figure;
     use c::*;
     let (t, tn, rd, rn) = (c.trace.as_ptr(), c.trace.len(), readings.as_mut_ptr(), readings.len());
     let (h, mp, mn) = (c.has_map, c.map.as_ptr(), c.map.len());
@@ -233,28 +235,18 @@ fn plan(c: &Call, readings: &mut [f64], work: &mut [f64], figures: &mut [f64], p
 }
 
 #[cfg(feature = "rolling")]
-mod rolling {
-    use super::c::*;
+#[rustfmt::skip]
+fn rolling(c: &windows::Call, work: &mut [f64], figures: &mut [f64], present: &mut [u8]) -> u32 {
     use crate::Figure;
-
-    #[rustfmt::skip]
-    pub fn fixed(x: &[f64], m: Option<&[u8]>, size: usize, c: bool, f: Figure, min: usize, ov: &mut [f64], op: &mut [u8], w: &mut [f64]) -> u32 {
-        let b = m.unwrap_or(&[]);
-        let (t, n, h, mp, mn) = (x.as_ptr(), x.len(), m.is_some(), b.as_ptr(), b.len());
-        let (wp, wn, vp, vn, pp, pn) = (w.as_mut_ptr(), w.len(), ov.as_mut_ptr(), ov.len(), op.as_mut_ptr(), op.len());
-        unsafe {
-            match f {
-                Figure::Var { ddof } => moments_rolling_var(t, n, h, mp, mn, size, min, c, ddof, wp, wn, vp, vn, pp, pn),
-                Figure::Skew { bias } => moments_rolling_skew(t, n, h, mp, mn, size, min, c, bias, wp, wn, vp, vn, pp, pn),
-                Figure::Kurt { fisher, bias } => moments_rolling_kurtosis(t, n, h, mp, mn, size, min, c, fisher, bias, wp, wn, vp, vn, pp, pn),
-            }
-        }
-    }
-    #[rustfmt::skip]
-    pub fn weighted(x: &[f64], size: usize, c: bool, w: &[f64], min: usize, ov: &mut [f64], op: &mut [u8]) -> u32 {
-        let none: &[u8] = &[];
-        unsafe {
-            moments_rolling_var_weights(x.as_ptr(), x.len(), false, none.as_ptr(), 0, size, min, c, w.as_ptr(), w.len(), ov.as_mut_ptr(), ov.len(), op.as_mut_ptr(), op.len())
+    use c::*;
+    let (t, n, h, mp, mn, size, min, centre) = (c.x.as_ptr(), c.x.len(), c.has_map, c.map.as_ptr(), c.map.len(), c.size, c.min, c.centre);
+    let (wp, wn, vp, vn, pp, pn) = (work.as_mut_ptr(), work.len(), figures.as_mut_ptr(), figures.len(), present.as_mut_ptr(), present.len());
+    unsafe {
+        match (c.weights, c.figure) {
+            (Some(w), _) => moments_rolling_var_weights(t, n, h, mp, mn, size, min, centre, w.as_ptr(), w.len(), vp, vn, pp, pn),
+            (_, Figure::Var { ddof }) => moments_rolling_var(t, n, h, mp, mn, size, min, centre, ddof, wp, wn, vp, vn, pp, pn),
+            (_, Figure::Skew { bias }) => moments_rolling_skew(t, n, h, mp, mn, size, min, centre, bias, wp, wn, vp, vn, pp, pn),
+            (_, Figure::Kurt { fisher, bias }) => moments_rolling_kurtosis(t, n, h, mp, mn, size, min, centre, fisher, bias, wp, wn, vp, vn, pp, pn),
         }
     }
 }

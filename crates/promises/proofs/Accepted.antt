@@ -18,7 +18,7 @@ use Rattle.window.specs.Stacks.{Planned}
 use Rattle.window.proofs.Tables.{table-length, table-at}
 use Rattle.window.proofs.Plans.{taken}
 use Rattle.rolling.specs.Calls.{Trace, Ask, Lent, each, yields, Written, decoded}
-use Rattle.promises.specs.Demands.{answerIn, ofFigure, AcceptedCall, planCall, hostCall}
+use Rattle.promises.specs.Demands.{answerIn, ofFigure, AcceptedCall, planCall, hostCall, fixedCall}
 
 pub record Known (q : Ask) (t : Trace) (l : Lent) : Type 0 where
   pub few : length (t .readings) ≤ 16777216
@@ -74,3 +74,4 @@ known q t l (planCall {l₀ = l₀} c) = known-of q t l₀ l _ (c .written) (sym
 known q t l (hostCall {bytes = bytes} {has = has} {map = map} {readings₀ = readings₀} {l₀ = l₀} c) =
     known-of q (decoded bytes has map) l₀ l (ltb (length readings₀) (length bytes / 8)) (c .written)
     (rw (table-length (readingAt bytes) (length bytes / 8)) (none-of _ _ (sym (c .number-is)) .1))
+known q t l (fixedCall {l₀ = l₀} c) = known-of q t l₀ l _ (c .plan-call .written) (sym (c .plan-call .number-is))

@@ -1,9 +1,12 @@
--- Laws by subject: whole arrays; the account over a plan; the source's windows and rows; then the demands, accepted calls that bear
--- witness, and the table.
+-- Laws by subject: whole arrays; the account over a plan; the source's windows, marks and rows, its fixed windows and its weights;
+-- then the demands, accepted calls that bear witness, and the table.
 pub mod Source
 pub mod Accounts
 pub mod SourceWindow
+pub mod Validity
 pub mod SourceRows
+pub mod SourceFixed
+pub mod SourceWeights
 pub mod Accepted
 pub mod DemandTwo
 pub mod DemandThree

@@ -5,14 +5,13 @@ use Prim.Native.Nat.{ℕ, zero, suc, _+_, _-_, _≤_, _<_}
 use mathlib.Core.Path.{_≡_, refl, sym, ap, _∙_, subst}
 use mathlib.Core.Bool.{Bool, true, false, cond, not, _||_}
 use mathlib.Core.List.{List, [], _∷_, _++_}
-use mathlib.Core.Option.{none, some, Option·getD}
 use native.Mathlib.Nat.{add-zero, zero-add}
 use native.Mathlib.Omega.{arith}
 use lib.Dec.{leb, ltb, eqb}
-use lib.ListN.{length, getD, set, replicate, length-set, length-replicate, getD-replicate}
+use lib.ListN.{length, getD, length-set}
 use lib.Seq.{getD-set-same, getD-set-other}
 use lib.Ieee.{Float, nan}
-use borrow.Author.Tests.{le-leb, lt-leb, lt-ltb, leb-true, ltb-true, ltb-false, ne-eqb, eqb-true, eqb-false}
+use borrow.Author.Tests.{le-leb, lt-leb, lt-ltb, leb-true, ltb-true, ltb-false, ne-eqb}
 use Rattle.trace.specs.Trace.{validAt}
 use Rattle.moment.specs.declared.Figure.{Figure}
 use Rattle.moment.specs.declared.Figure.the-variants.{Missing, Present}
@@ -23,9 +22,10 @@ use Rattle.window.specs.Rows.{Plan, rows, rowStart, rowEnd, moves, accountAt, c
 use Rattle.window.specs.Stacks.{Planned}
 use Rattle.window.proofs.Places.{Or, here, there, order}
 use Rattle.promises.specs.SourceWindow.{Rust, Bitmap, combined, mapNan, MomentWindow, newImpl, getMoment, updateNoNulls, updateNulls, isValid}
-use Rattle.promises.specs.SourceRows.{outNoNulls, rollingNoNulls, tooShort, headSet, tailSet, createValidity, Array, matched, outNulls, rollingNulls}
+use Rattle.promises.specs.SourceRows.{outNoNulls, rollingNoNulls, Array, matched, outNulls, rollingNulls}
 use Rattle.promises.specs.Demands.{offsets}
 use Rattle.promises.proofs.Accounts.{lies, meets}
+use Rattle.promises.proofs.Validity.{From, created, created-marks}
 use Rattle.promises.proofs.SourceWindow.{tops, updateOn, Whole, new-whole, moved-whole, no-nulls-same, nulls-same}
 
 -- combining with the empty state changes nothing
@@ -33,7 +33,7 @@ abbrev pub Neutral : ReadingMoment → Type 0
 Neutral M = (s : M .State) → M .combine s (M .empty) ≡ s
 
 -- the k values of f from i on
-span : {A : Type 0} → (ℕ → A) → ℕ → ℕ → List A
+unfoldable pub span : {A : Type 0} → (ℕ → A) → ℕ → ℕ → List A
 span f zero i = []
 span f (suc k) i = f i ∷ span f k (suc i)
 
@@ -42,7 +42,7 @@ unfolding span
 span-snoc f zero i = rw add-zero
 span-snoc f (suc k) i = let z : i + suc k ≡ suc i + k = omega arith in ap (λ (l : List _). f i ∷ l) (span-snoc f k (suc i)) ∙ rw z
 
-span-table : {A : Type 0} (f : ℕ → A) (k : ℕ) → span f k 0 ≡ table f k
+pub span-table : {A : Type 0} (f : ℕ → A) (k : ℕ) → span f k 0 ≡ table f k
 unfolding span table
 span-table f zero = refl
 span-table f (suc k) = span-snoc f k 0 ∙ rw (zero-add, span-table f k)
@@ -272,74 +272,6 @@ module _ (M : ReadingMoment) (rust : Rust) (neutral : Neutral M) (final : M .Sta
         rw (rust .unset-is l i o)
         record { long = length-set l i false; other = λ j h. getD-set-other l i j false false h; this = λ h k. rw (getD-set-same l i false false k) }
 
-    -- marks that are off, of the rows from i on, are of rows that are too short
-    abbrev From : ℕ → List Bool → Type 0
-    From i l = (j : ℕ) → i ≤ j → j < length l → getD l j false ≡ false → tooShort rust minPeriods (offsets p) j ≡ true
-
-    abbrev short : ℕ → Bool
-    short i = tooShort rust minPeriods (offsets p) i
-
-    -- marks that `create_validity` may leave of l
-    abbrev Marks : List Bool → List Bool → Type 0
-    Marks l m = From 0 m × (length m ≡ length l)
-
-    unset-long : (l : List Bool) (i : ℕ) → i < length l → length (rust .unset l i) ≡ length l
-    unset-long l i o = ap length (rust .unset-is l i o) ∙ length-set l i false
-
-    short-set : (l : List Bool) (i : ℕ) → short i ≡ true → From 0 l → From 0 (set l i false)
-    short-set l i h f j o k e = go (eqb j i) refl
-      where
-        go : (u : Bool) → eqb j i ≡ u → short j ≡ true
-        go true q = rw (eqb-true j i q) h
-        go false q = f j o (rw length-set at k) (sym (getD-set-other l i j false false (eqb-false j i q)) ∙ e)
-
-    short-unset : (l : List Bool) (i : ℕ) → i < length l → short i ≡ true → From 0 l → From 0 (rust .unset l i)
-    short-unset l i o h f = subst (From 0) (sym (rust .unset-is l i o)) (short-set l i h f)
-
-    -- a row is marked and the loop goes on, or the loop ends
-    either : (i : ℕ) (l m : List Bool) → i < length l → From 0 l → (short i ≡ true → Marks (rust .unset l i) m) → Marks l (cond (short i) m l)
-    either i l m o f g = go (short i) refl
-      where
-        go : (u : Bool) → short i ≡ u → Marks l (cond u m l)
-        go true q = (g q .0, g q .1 ∙ unset-long l i o)
-        go false q = (f, refl)
-
-    head-marks : (k i : ℕ) (l : List Bool) → i + k ≤ length l → From 0 l → Marks l (headSet rust minPeriods (offsets p) k i l)
-    unfolding headSet
-    head-marks zero i l o f = (f, refl)
-    head-marks (suc k) i l o f =
-        let n = unset-long l i (omega arith) in
-        either i l _ (omega arith) f (λ h. head-marks k (suc i) (rust .unset l i) (omega arith) (short-unset l i (omega arith) h f))
-
-    tail-marks : (k : ℕ) (l : List Bool) → k ≤ length l → From 0 l → Marks l (tailSet rust minPeriods (offsets p) k l)
-    unfolding tailSet
-    tail-marks zero l o f = (f, refl)
-    tail-marks (suc k) l o f =
-        let n = unset-long l k (omega arith) in
-        either k l _ (omega arith) f (λ h. tail-marks k (rust .unset l k) (omega arith) (short-unset l k (omega arith) h f))
-
-    all-marks : (n : ℕ) → From 0 (replicate n true)
-    all-marks n j o h e = absurd (let z : _≡_ {A = ℕ} 0 1 = cc (getD-replicate n j true false (rw length-replicate at h), e) in omega arith)
-
-    abbrev created : ℕ → List Bool
-    created n = Option·getD (createValidity rust minPeriods (offsets p) n) (replicate n true)
-
-    abbrev ends-set : ℕ → List Bool
-    ends-set n = tailSet rust minPeriods (offsets p) n (headSet rust minPeriods (offsets p) n 0 (replicate n true))
-
-    created-marks : (n : ℕ) → From 0 (created n) × (length (created n) ≡ n)
-    unfolding createValidity
-    created-marks n = go (ltb 1 minPeriods)
-      where
-        go : (u : Bool) → From 0 (Option·getD (cond u (some (ends-set n)) none) (replicate n true)) × (length (Option·getD (cond u (some (ends-set n)) none) (replicate n true)) ≡ n)
-        go true =
-            let r = length-replicate n true in
-            let h = head-marks n 0 (replicate n true) (omega arith) (all-marks n) in
-            let g = h .1 in
-            let e = tail-marks n (headSet rust minPeriods (offsets p) n 0 (replicate n true)) (omega arith) (h .0) in
-            (e .0, e .1 ∙ g ∙ r)
-        go false = (all-marks n, length-replicate n true)
-
     module _ (yes : has ≡ true) (bitmap : Bitmap) (bits : (i : ℕ) → i < length xs → rust .bit bitmap i ≡ validAt has map i) where
       counted-yes : (s e : ℕ) → counted t s e ≡ validCount t s e
       counted-yes s e = ap (λ (m : Bool). cond m (validCount t s e) (e - s)) yes
@@ -353,7 +285,7 @@ module _ (M : ReadingMoment) (rust : Rust) (neutral : Neutral M) (final : M .Sta
         pub before : (j : ℕ) → j < i → getD (a .validity) j false ≡ getD l j false
         pub row : (m : ℕ) → m < k → cond (getD (a .validity) (i + m) false) (Present (getD (a .values) m nan)) Missing ≡ answer (i + m)
 
-      module _ (k i : ℕ) (w : MomentWindow M) (l : List Bool) (h : i + suc k ≡ rows p) (g : length l ≡ rows p) (f : From i l) (c : Before i w) where
+      module _ (k i : ℕ) (w : MomentWindow M) (l : List Bool) (h : i + suc k ≡ rows p) (g : length l ≡ rows p) (f : From rust minPeriods (offsets p) i l) (c : Before i w) where
         abbrev W′ : MomentWindow M
         W′ = update w i
 
@@ -398,7 +330,7 @@ module _ (M : ReadingMoment) (rust : Rust) (neutral : Neutral M) (final : M .Sta
         marks : Matched i (getMoment final W′) (isValid rust W′ minPeriods) l X L′
         marks = matched-is i (getMoment final W′) (isValid rust W′ minPeriods) l (omega arith)
 
-        from′ : From (suc i) L′
+        from′ : From rust minPeriods (offsets p) (suc i) L′
         from′ j o q e =
             let n : j ≡ i → ⊥ = λ z. omega arith in
             f j (omega arith) (rw (marks .long) at q) (sym (marks .other j n) ∙ e)
@@ -428,7 +360,7 @@ module _ (M : ReadingMoment) (rust : Rust) (neutral : Neutral M) (final : M .Sta
           let a = array k (suc i) w (m .1) in
           record { values = m .0 ∷ a .values; validity = a .validity }
 
-      rows-yes : (k i : ℕ) (w : MomentWindow M) (l : List Bool) → i + k ≡ rows p → length l ≡ rows p → From i l → (0 < k → Before i w) → Rolls k i l (array k i w l)
+      rows-yes : (k i : ℕ) (w : MomentWindow M) (l : List Bool) → i + k ≡ rows p → length l ≡ rows p → From rust minPeriods (offsets p) i l → (0 < k → Before i w) → Rolls k i l (array k i w l)
       unfolding outNulls
       rows-yes zero i w l h g f c = record { long = refl; before = λ j q. refl; row = λ m q. absurd (omega arith) }
       rows-yes (suc k) i w l h g f c =
@@ -438,9 +370,9 @@ module _ (M : ReadingMoment) (rust : Rust) (neutral : Neutral M) (final : M .Sta
           (rows-yes k (suc i) (W′ k i w l h g f d) (L′ k i w l h g f d) (omega arith) (marks k i w l h g f d .long ∙ g) (from′ k i w l h g f d)
           (λ q. before-suc i (W′ k i w l h g f d) (omega arith) (whole′ k i w l h g f d))))
 
-      pub rolled-yes : Rolls (rows p) 0 (created (rows p)) (rollingNulls M rust final xs bitmap minPeriods (offsets p) (rows p))
+      pub rolled-yes : Rolls (rows p) 0 (created rust minPeriods (offsets p) (rows p)) (rollingNulls M rust final xs bitmap minPeriods (offsets p) (rows p))
       unfolding rollingNulls
       rolled-yes =
-          let m = created-marks (rows p) in
-          rows-yes (rows p) 0 (updateNulls rust bitmap xs newImpl (S 0) (E 0)) (created (rows p)) (zero-add (rows p)) (m .1) (m .0)
+          let m = created-marks rust minPeriods (offsets p) (rows p) in
+          rows-yes (rows p) 0 (updateNulls rust bitmap xs newImpl (S 0) (E 0)) (created rust minPeriods (offsets p) (rows p)) (zero-add (rows p)) (m .1) (m .0)
           (λ h. rw (update-yes newImpl 0 h) (before-zero h))

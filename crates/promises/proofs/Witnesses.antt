@@ -1,5 +1,5 @@
--- Accepted calls, by computation: P7 as a plan call, P8 as a host call, P9 with a map; and two calls that show why demand 3 asks that
--- the same rows move the window. Assumes nothing.
+-- Accepted calls, by computation: P7 as a plan call, P8 as a host call, P9 with a map, a trailing window, and the same with weights;
+-- and two calls that show why demand 3 asks that the same rows move the window. Assumes nothing.
 use Prim.Native.Nat.{ℕ, zero, suc, _<_}
 use mathlib.Core.Path.{_≡_, refl, ap}
 use mathlib.Core.Bool.{true, false}
@@ -16,9 +16,11 @@ use Rattle.window.specs.Readings.{insertedAt, nonfiniteAt}
 use Rattle.window.specs.Rows.{rows, rowStart, rowEnd, answerAt, table}
 use Rattle.window.specs.Refusals.{planRefusal, filled, kept}
 use Rattle.rolling.specs.Moments.{Variance}
-use Rattle.rolling.specs.Calls.{Trace, Ask, Lent, ask, lent, traceOf, decoded}
+use Rattle.rolling.specs.Calls.{Trace, Ask, Lent, planOf, ask, askPlan, lent, traceOf, decoded}
+use Rattle.rolling.specs.Fixed.{bounds, fixedRefusal}
+use Rattle.rolling.specs.Weights.{weightedAt, weightsRefusal, CalledWeights}
 use Rattle.promises.specs.Table.{whole, p7, trace7, p8, trace8, p9, trace9}
-use Rattle.promises.specs.Demands.{Answer, answerIn, AcceptedCall, planCall, hostCall, Alike, Agree}
+use Rattle.promises.specs.Demands.{Answer, answerIn, AcceptedCall, planCall, hostCall, fixedCall, Alike, Agree}
 
 -- ---- there are accepted calls
 -- four places to each output list, each place with something in it, and a work slice of zeros
@@ -58,6 +60,33 @@ unfolding table refusal _orElse_ wrongMap planRefusal filled kept ofBits ofInt a
 p9-accepted =
     planCall {l₀ = fourLent 12}
     record { number-is = refl; written = record { figures-are = refl; present-are = refl; work-kept = refl } }
+
+-- "Trailing window 2, minimum 1, trace 1,3", with ddof 1: row 0 has one place, and so no figure
+abbrev trace13 : Trace
+trace13 = traceOf (whole 1 ∷ whole 3 ∷ []) false []
+
+pub trailing-accepted : AcceptedCall (askPlan (bounds false 2 2) 1 (Variance 1)) trace13 (fourLeft 8 (zero64 ∷ two64 ∷ one64 ∷ one64 ∷ []) (0 ∷ 1 ∷ 7 ∷ 7 ∷ []))
+unfolding table refusal _orElse_ wrongMap planRefusal bounds fixedRefusal filled kept ofBits ofInt add sub mul div eq lt le varClear varCombine varFinalize entriesFrom splitAfter figureOf insertedAt nonfiniteAt answerAt validAt
+trailing-accepted =
+    fixedCall {center = false} {windowSize = 2} {minPeriods = 1} {figure = Variance 1} {t = trace13} {l₀ = fourLent 8}
+    record {
+      number-is = refl;
+      plan-call = record { number-is = refl; written = record { figures-are = refl; present-are = refl; work-kept = refl } };
+    }
+
+-- "Centred window 4, n = 5: row 0 (0,2), row 2 (0,4), row 4 (2,5)."
+pub centred : bounds true 4 5 ≡ planOf (0 ∷ 0 ∷ 0 ∷ 1 ∷ 2 ∷ []) (2 ∷ 3 ∷ 4 ∷ 5 ∷ 5 ∷ [])
+unfolding table bounds
+centred = refl
+
+-- "weights 1,1 give 0, 1; weights 1,0 give 0, 0, both present"
+pub weights11-accepted : CalledWeights false 2 1 (one64 ∷ one64 ∷ []) trace13 (fourLent 0 .figures) (zero64 ∷ one64 ∷ one64 ∷ one64 ∷ []) (fourLent 0 .present) (1 ∷ 1 ∷ 7 ∷ 7 ∷ []) 0
+unfolding table refusal _orElse_ wrongMap weightsRefusal weightedAt filled ofBits ofInt add sub mul div eq
+weights11-accepted = record { number-is = refl; figures-are = refl; present-are = refl }
+
+pub weights10-accepted : CalledWeights false 2 1 (one64 ∷ zero64 ∷ []) trace13 (fourLent 0 .figures) (zero64 ∷ zero64 ∷ one64 ∷ one64 ∷ []) (fourLent 0 .present) (1 ∷ 1 ∷ 7 ∷ 7 ∷ []) 0
+unfolding table refusal _orElse_ wrongMap weightsRefusal weightedAt filled ofBits ofInt add sub mul div eq
+weights10-accepted = record { number-is = refl; figures-are = refl; present-are = refl }
 
 -- ---- a map of ones is not no map
 -- Minimum 3, rows (0,0), (0,2), (1,4). Row 1 is too short: with a map it moves the window, and row 2 inserts reading 1 apart from

@@ -1,9 +1,9 @@
--- Demands 2 and 3 for windows, each as one statement over every accepted call without weights and over its whole plan, from the
--- first row to the last. Assumes nothing.
-use Prim.Native.Nat.{ℕ, _≤_, _<_}
+-- Demands 2 and 3 for windows, each as one statement over every accepted call and over its whole plan, from the first row to the
+-- last. Demand 2 speaks of plan calls, of fixed windows and of weights, demand 3 of every call without weights. Assumes nothing.
+use Prim.Native.Nat.{ℕ, _^_, _≤_, _<_}
 use mathlib.Core.Path.{_≡_}
 use mathlib.Core.Bool.{Bool, true, false, cond}
-use mathlib.Core.List.{List}
+use mathlib.Core.List.{List, []}
 use mathlib.Core.Logic.{_⊎_, _↔_}
 use lib.ListN.{length, getD}
 use lib.Ieee.{Float, nan, isNan, le}
@@ -16,10 +16,14 @@ use Rattle.moment.specs.declared.Figure.the-variants.{Missing}
 use Rattle.window.specs.Places.{validCount}
 use Rattle.window.specs.Readings.{readingOf}
 use Rattle.window.specs.Rows.{Plan, rows, rowStart, rowEnd, moves}
-use Rattle.rolling.specs.Moments.{Variance, readingMomentOf, finalOf}
-use Rattle.rolling.specs.Calls.{Trace, Ask, Lent, seriesOf, yields, Called, decoded, CalledBytes}
+use Rattle.rolling.specs.Moments.{Asked, Variance, readingMomentOf, finalOf}
+use Rattle.rolling.specs.Calls.{Trace, Ask, Lent, askPlan, lent, seriesOf, yields, Called, decoded, CalledBytes}
+use Rattle.rolling.specs.Fixed.{bounds, CalledFixed}
+use Rattle.rolling.specs.Weights.{CalledWeights}
 use Rattle.promises.specs.SourceWindow.{Rust, Bitmap}
 use Rattle.promises.specs.SourceRows.{rollingNoNulls, rollingNulls, rowOf}
+use Rattle.promises.specs.SourceFixed.{fixedNoNulls, fixedNulls}
+use Rattle.promises.specs.SourceWeights.{rollingVarWeights}
 
 -- "one double and one byte (1 present, 0 missing) a row, together the row's answer". Doubles that are equal here and no NaN have the
 -- same bits. NaN is one value here: that its bits are 7FF8000000000000 is carried by the code, for `write` of rolling's src/row.rt
@@ -36,12 +40,15 @@ answerIn l k = record { double = getD (l .figures) k nan; byte = getD (l .presen
 abbrev pub ofFigure : Figure → Answer
 ofFigure figure = record { double = doubleOf figure; byte = byteOf figure }
 
--- An accepted call, its number 0, on the trace t with a plan and a setting q, that leaves the lists l: a plan call or a host call,
--- whatever the lists held before
-pub data AcceptedCall (q : Ask) : Trace → Lent → Type 0 where
-  planCall : {t : Trace} {l₀ l : Lent} → Called q t l₀ l 0 → AcceptedCall q t l
-  hostCall : {bytes : List ℕ} {has : Bool} {map : List ℕ} {readings₀ readings : List Float} {l₀ l : Lent}
+-- An accepted call without weights, its number 0, on the trace t with a plan and a setting q, that leaves the lists l: a plan call, a
+-- host call or a call with fixed windows, whatever the lists held before. "The n rows of these bounds are the call's plan."
+pub data AcceptedCall : Ask → Trace → Lent → Type 0 where
+  planCall : {q : Ask} {t : Trace} {l₀ l : Lent} → Called q t l₀ l 0 → AcceptedCall q t l
+  hostCall : {q : Ask} {bytes : List ℕ} {has : Bool} {map : List ℕ} {readings₀ readings : List Float} {l₀ l : Lent}
       → CalledBytes q bytes has map readings₀ readings l₀ l 0 → AcceptedCall q (decoded bytes has map) l
+  fixedCall : {center : Bool} {windowSize minPeriods : ℕ} {figure : Asked} {t : Trace} {l₀ l : Lent}
+      → CalledFixed center windowSize minPeriods figure t l₀ l 0
+      → AcceptedCall (askPlan (bounds center windowSize (length (t .readings))) minPeriods figure) t l
 
 -- ---- demand 2
 -- a plan's rows as `det_offsets_fn`
@@ -61,11 +68,29 @@ sourceRow rust q t k =
     (rowOf (rollingNulls M rust (finalOf (q .figure)) (t .readings) (bitmapOf t) (q .minPeriods) bounds (rows (q .plan))) k)
     (getD (rollingNoNulls M rust (finalOf (q .figure)) (t .readings) (q .minPeriods) bounds (rows (q .plan))) k Missing)
 
+-- row k of the Rust's `rolling_var`, `rolling_skew` or `rolling_kurtosis`: "005 with a map, 004 without"
+abbrev pub sourceFixedRow : Rust → Bool → ℕ → ℕ → Asked → Trace → ℕ → Figure
+sourceFixedRow rust center windowSize minPeriods figure t k =
+    let M = readingMomentOf figure in
+    cond (t .mapped)
+    (rowOf (fixedNulls M rust (finalOf figure) (t .readings) (bitmapOf t) windowSize minPeriods center) k)
+    (getD (fixedNoNulls M rust (finalOf figure) (t .readings) windowSize minPeriods center) k Missing)
+
 -- "every state and figure equals the Rust's", for windows: of every accepted call, every row's answer
-abbrev pub DemandTwo : Type 0
-DemandTwo =
-    (rust : Rust) (q : Ask) (t : Trace) (l : Lent) → AcceptedCall q t l → (k : ℕ) → k < rows (q .plan)
-    → answerIn l k ≡ ofFigure (sourceRow rust q t k)
+pub record DemandTwo : Type 0 where
+  -- "The oracle drives the Rust window with the plan's rows"
+  pub plans : (rust : Rust) (q : Ask) (t : Trace) (l : Lent) → AcceptedCall q t l → (k : ℕ) → k < rows (q .plan)
+      → answerIn l k ≡ ofFigure (sourceRow rust q t k)
+  -- Fixed windows (006, 004, 005), of any size that is a `usize`
+  pub fixed : (rust : Rust) (center : Bool) (windowSize minPeriods : ℕ) (figure : Asked) (t : Trace) (l₀ l : Lent)
+      → windowSize < 2 ^ 64 → CalledFixed center windowSize minPeriods figure t l₀ l 0 → (k : ℕ) → k < length (t .readings)
+      → answerIn l k ≡ ofFigure (sourceFixedRow rust center windowSize minPeriods figure t k)
+  -- Weights (002, 004): "This call is lent no work slice"
+  pub weights : (rust : Rust) (center : Bool) (windowSize minPeriods : ℕ) (weights : List Float) (t : Trace)
+      (figures₀ figures : List Float) (present₀ present : List ℕ) → windowSize < 2 ^ 64
+      → CalledWeights center windowSize minPeriods weights t figures₀ figures present₀ present 0 → (k : ℕ) → k < length (t .readings)
+      → answerIn (lent figures present []) k
+      ≡ ofFigure (rowOf (rollingVarWeights rust (t .readings) windowSize minPeriods center weights) k)
 
 -- ---- demand 3
 -- whether a place of a trace is valid
@@ -124,6 +149,7 @@ pub record Promised (q : Ask) (t t′ : Trace) (l l′ : Lent) : Type 0 where
   pub first : Yielded q t l
   pub second : Yielded q t′ l′
 
--- "one statement about a whole plan, from its first row to its last", for any two accepted calls
+-- "one statement about a whole plan, from its first row to its last", for any two accepted calls, fixed windows' too, whose plan is
+-- their bounds
 abbrev pub DemandThree : Type 0
 DemandThree = (q : Ask) (t t′ : Trace) (l l′ : Lent) → AcceptedCall q t l → AcceptedCall q t′ l′ → Promised q t t′ l l′

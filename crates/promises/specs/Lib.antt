@@ -1,6 +1,8 @@
--- Demand 2: the source's drivers as functions on values; then demands 2 and 3 for windows; last the table of the P cases.
+-- Demand 2: the source's drivers as functions on values; then demands 2 and 3 for windows and weights; last the table of the P cases.
 pub mod Source
 pub mod SourceWindow
 pub mod SourceRows
+pub mod SourceFixed
+pub mod SourceWeights
 pub mod Demands
 pub mod Table

@@ -1,6 +1,6 @@
 -- Demand 2, for windows: the two `rolling_apply_agg_window`, 002 without a map and 003 with one, and 006's `create_validity`, as
--- functions on values. "The oracle drives the Rust window with the plan's rows": `detOffsets` is `det_offsets_fn` at the call's
--- window size and length, here the row's bounds, and `len` the number of rows. Assumes nothing.
+-- functions on values. `detOffsets` is `det_offsets_fn` at the call's window size and length, of a plan the row's bounds ("The oracle
+-- drives the Rust window with the plan's rows"), and `len` the number of rows. Assumes nothing.
 use Prim.Native.Nat.{ℕ, zero, suc}
 use mathlib.Core.Bool.{Bool, true, false, cond}
 use mathlib.Core.List.{List, [], _∷_}

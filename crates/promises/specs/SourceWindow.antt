@@ -9,6 +9,7 @@ use mir.Val.{boolByte}
 use lib.Dec.{ltb, leb}
 use lib.ListN.{length, getD, set}
 use lib.Seq.{slice}
+use lib.IntN.{ℤ, pos, natAbs, _-ℤ_}
 use lib.Ieee.{Float, nan}
 use lib.Ieee.Scale.{finite}
 use Rattle.float.specs.Operators.{zero64}
@@ -32,7 +33,13 @@ pub record Rust : Type 0 where
   -- `a - b` of two `usize`
   pub minus : ℕ → ℕ → ℕ
   pub minus-is : (a b : ℕ) → b ≤ a → minus a b ≡ a - b
-  -- `&l[a..b]`
+  -- `a as isize` of a `usize`
+  pub signed : ℕ → ℤ
+  pub signed-is : (a : ℕ) → a < 2 ^ 63 → signed a ≡ pos a
+  -- `a - b` of two `isize`
+  pub signedMinus : ℤ → ℤ → ℤ
+  pub signedMinus-is : (a b : ℤ) → natAbs (a -ℤ b) < 2 ^ 63 → signedMinus a b ≡ a -ℤ b
+  -- `&l[a..b]` and `l.get_unchecked(a..b)`
   pub part : List Float → ℕ → ℕ → List Float
   pub part-is : (l : List Float) (a b : ℕ) → a ≤ b → b ≤ length l → part l a b ≡ slice a b l
   -- `*l.get_unchecked(i)`
@@ -54,6 +61,10 @@ someRust =
       plus-is = λ a b h. refl;
       minus = _-_;
       minus-is = λ a b h. refl;
+      signed = pos;
+      signed-is = λ a h. refl;
+      signedMinus = _-ℤ_;
+      signedMinus-is = λ a b h. refl;
       part = λ l a b. slice a b l;
       part-is = λ l a b h k. refl;
       get = λ l i. getD l i nan;

@@ -2,11 +2,11 @@
 -- has gained when all weights are done is what 002's fold over the aligned part gives. Assumes nothing.
 use Prim.Native.Nat.{ℕ, _+_, _-_, _/_, _≤_, _<_, min}
 use mathlib.Core.Path.{_≡_, refl, sym, ap, _∙_}
-use mathlib.Core.Bool.{Bool, true, false, cond, not}
+use mathlib.Core.Bool.{Bool, true, false, cond}
 use mathlib.Core.List.{List, [], _∷_, _++_, foldl-append}
 use native.Mathlib.Numerals.{add-one}
 use native.Mathlib.Omega.{arith}
-use borrow.Author.Tests.{eqb-true, eqb-false, ltb-false}
+use borrow.Author.Tests.{eqb-true, eqb-false, ltb-false, not-false}
 use borrow.Rule.Slice.PartMut.{midOf, putMid, same-len-mid, mid-len, take-put, drop-put}
 use lib.Dec.{eqb, ltb, lit≤}
 use lib.ListN.{length, set, take, drop, getD, replicate, length-replicate, getD-replicate, length-take, length-drop, List·getD-append}
@@ -308,7 +308,7 @@ module _ (center : Bool) (size n k : ℕ) (some : 1 ≤ size) (inside : k < n) w
   left = size - rightOf center size
 
   -- the aligned part starts with the weight of the row's first place
-  aligned-start : weightsStart center size k (k - left) (min n (k + rightOf center size)) ≡ left - k
+  pub aligned-start : weightsStart center size k (k - left) (min n (k + rightOf center size)) ≡ left - k
   unfolding rightOf
   aligned-start = go center
     where
@@ -356,9 +356,13 @@ some-weights : (l : List Float) → eq (totalOf l) zero64 ≡ false → 1 ≤ le
 some-weights [] e = not-fixed (sym (sym (at-zero zero64 0 (lit≤ tt) zero-is) ∙ e))
 some-weights (w ∷ l) e = omega arith
 
-not-false : (b : Bool) → not b ≡ false → b ≡ true
-not-false true e = refl
-not-false false e = sym e
+-- what is known of a weighted call that is accepted, over n places with so many weights
+pub record Taken (size n count figures present : ℕ) : Type 0 where
+  pub few : n ≤ 16777216
+  pub some : 1 ≤ size
+  pub same : count ≡ size
+  pub figures-fit : n ≤ figures
+  pub present-fit : n ≤ present
 
 -- ---- the ends of a weighted call
 module _ (size : ℕ) (weights : List Float) (t : Trace) (figures : List Float) (present : List ℕ) where
@@ -368,8 +372,7 @@ module _ (size : ℕ) (weights : List Float) (t : Trace) (figures : List Float) 
   abbrev Number : ℕ
   Number = weightsRefusal n (t .mapped) (t .map) size (length weights) (totalOf weights) (length figures) (length present)
 
-  -- what is known of a call that is accepted
-  pub weights-taken : 0 ≡ Number → (n ≤ 16777216) × (1 ≤ length weights) × (n ≤ length figures) × (n ≤ length present) × (length weights ≡ size)
+  pub weights-taken : 0 ≡ Number → Taken size n (length weights) (length figures) (length present)
   unfolding weightsRefusal
   weights-taken z =
       let twelve = none-of _ _ (sym z) in
@@ -377,13 +380,16 @@ module _ (size : ℕ) (weights : List Float) (t : Trace) (figures : List Float) 
       let nine = none-of _ _ (ten .0) in
       let eight = none-of _ _ (nine .0) in
       let one = none-of _ _ (eight .0) in
-      let f = neither _ _ (not-refused 12 _ (lit≤ tt) (twelve .1)) in (
-        ltb-false 16777216 n (not-refused 1 _ (lit≤ tt) (one .0)),
-        some-weights weights (not-refused 9 _ (lit≤ tt) (nine .1)),
-        ltb-false (length figures) n (f .0),
-        ltb-false (length present) n (f .1),
-        eqb-true (length weights) size (not-false _ (not-refused 10 _ (lit≤ tt) (ten .1))),
-      )
+      let f = neither _ _ (not-refused 12 _ (lit≤ tt) (twelve .1)) in
+      let e = eqb-true (length weights) size (not-false _ (not-refused 10 _ (lit≤ tt) (ten .1))) in
+      let o = some-weights weights (not-refused 9 _ (lit≤ tt) (nine .1)) in
+      record {
+        few = ltb-false 16777216 n (not-refused 1 _ (lit≤ tt) (one .0));
+        some = omega arith;
+        same = e;
+        figures-fit = ltb-false (length figures) n (f .0);
+        present-fit = ltb-false (length present) n (f .1);
+      }
 
   module _ (center : Bool) (minPeriods : ℕ) where
     pub weights-refused : (number : ℕ) → number ≡ Number → (number ≡ 0 → ⊥) → CalledWeights center size minPeriods weights t figures figures present present number
@@ -398,7 +404,7 @@ module _ (size : ℕ) (weights : List Float) (t : Trace) (figures : List Float) 
         CalledWeights center size minPeriods weights t figures figures₁ present present₁ 0
     unfolding filled
     weights-called z f p =
-        let e = weights-taken z .4 in
+        let e = weights-taken z .same in
         record {
           number-is = z;
           figures-are = f ∙ ap (λ (s : ℕ). table (λ i. doubleOf (Row s i)) n ++ drop n figures) e;

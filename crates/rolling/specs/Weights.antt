@@ -51,7 +51,7 @@ abbrev pub weightsStart : Bool → ℕ → ℕ → ℕ → ℕ → ℕ
 weightsStart center windowSize i start end =
     cond center (windowSize / 2 - (i - start)) (cond (eqb start 0) (windowSize - (end - start)) 0)
 
--- the readings from start up to end, each with its weight "Divided by their sum", the first with weight `aligned`
+-- the readings from start up to end, each with its weight "Divided by their sum", the first with weight `first`
 abbrev pub aligned : List Float → List Float → ℕ → ℕ → ℕ → List (Float × Float)
 aligned values weights start end first =
     table (λ i. (readingOf values (start + i), getD weights (first + i) nan ⊘ totalOf weights)) (end - start)

@@ -8,6 +8,8 @@ ghost use lib.ListN.{length};
 use libc::STDOUT_FILENO;
 
 mod arrays;
+mod fixed;
+mod lent;
 mod plans;
 mod states;
 mod words;
@@ -16,13 +18,19 @@ fn root(rec: &[u8]) -> bool {
     words::is(rec, 2, moments::moments_root(words::double(rec, 1)))
 }
 
+// Past its list's end a record reads as no words: it counts as one that does not agree, for a call on nothing answers 0.
 fn agrees(kind: u8, rec: &[u8]) -> bool {
+    if words::word(rec, 0) == 0 {
+        return false;
+    }
     match kind {
         0 => root(rec),
         2 => states::insert(rec),
         3 => states::combine(rec),
         4 => states::finalize(rec),
         7 => plans::agrees(rec),
+        8..=9 => fixed::agrees(rec),
+        10 => fixed::bounds(rec),
         _ => arrays::agrees(kind, rec),
     }
 }
@@ -82,4 +90,7 @@ fn main() {
     replay(5, b"whole");
     replay(6, b"range");
     replay(7, b"plan");
+    replay(8, b"fixed");
+    replay(9, b"weighted");
+    replay(10, b"bounds");
 }

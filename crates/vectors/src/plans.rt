@@ -4,8 +4,8 @@
 // (eight bytes a word), 11 map, 13 starts, 15 ends, 17 work, 19 readings, 21 figures, 23 present. What
 // stands at 19 to 23 is what these lists hold after the call. What stands at 17 is what all four that
 // are lent hold before it, each from its first word on, and the work slice past its free part after it.
+use crate::lent::answered;
 use crate::words::are;
-use crate::words::are_bytes;
 use crate::words::byte;
 use crate::words::bytes;
 use crate::words::count;
@@ -73,15 +73,6 @@ fn call(
     }
 }
 
-// Whether the work slice holds past its free part what it held.
-fn kept(rec: &[u8], work: &[f64]) -> bool {
-    let free = count(rec, 8);
-    if free <= work.len() {
-        return are(rec, count(rec, 17) + free, &work[free..]);
-    }
-    false
-}
-
 fn replay(
     rec: &[u8],
     trace: &[u8],
@@ -104,19 +95,10 @@ fn replay(
         figures,
         present,
     );
-    if number as u64 != word(rec, 7) {
-        return false;
-    }
     if !are(rec, count(rec, 19), readings) {
         return false;
     }
-    if !are(rec, count(rec, 21), figures) {
-        return false;
-    }
-    if !are_bytes(rec, count(rec, 23), present) {
-        return false;
-    }
-    kept(rec, work)
+    answered(rec, number, work, figures, present)
 }
 
 fn outputs(

@@ -91,14 +91,16 @@ fn main() {
     for m in [None, Some(map)] {
         let tag = if m.is_some() { "map" } else { "no map" };
         let arr = array(&x, m);
-        for (size, centre) in [(8, false), (128, false), (4096, false), (128, true)] {
+        for (size, centre) in [(8, false), (8, true), (128, false), (128, true), (4096, false), (4096, true)] {
             for (name, f) in figs {
-                let mut work = vec![0.0; f.entry() * size.min(n)];
+                let (has_map, map) = (m.is_some(), m.unwrap_or(&[]));
+                let call = windows::Call { figure: f, weights: None, x: &x, has_map, map, size, min: 1, centre };
+                let mut work = vec![0.0; call.need()];
                 let fun = b.second.and_then(|s| s.fixed);
                 let o = std::cell::RefCell::new((&mut ov, &mut op));
                 let mut two = || {
                     let (v, p) = &mut *o.borrow_mut();
-                    black_box(fun.unwrap()(&x, m, size, centre, f, 1, v, p, &mut work));
+                    black_box(fun.unwrap()(black_box(&call), &mut work, v, p));
                 };
                 b.job(
                     &format!("fixed {size}{} {name}, {tag}", if centre { " centred" } else { "" }),
@@ -157,17 +159,19 @@ fn main() {
             }
         }
     }
-    for size in [8usize, 128] {
+    // weights are refused with a map
+    for (size, centre) in [(8usize, false), (8, true), (128, false), (128, true)] {
         let w: Vec<f64> = (0..size).map(|i| 1.0 + i as f64).collect();
+        let call = windows::Call { figure: figs[0].1, weights: Some(&w), x: &x, has_map: false, map: &[], size, min: 1, centre };
         let fun = b.second.and_then(|s| s.weighted);
         let o = std::cell::RefCell::new((&mut ov, &mut op));
-        let mut two = || { let (v, p) = &mut *o.borrow_mut(); black_box(fun.unwrap()(&x, size, false, &w, 1, v, p)); };
+        let mut two = || { let (v, p) = &mut *o.borrow_mut(); black_box(fun.unwrap()(black_box(&call), &mut [], v, p)); };
         b.job(
-            &format!("weighted {size}"),
+            &format!("weighted {size}{}", if centre { " centred" } else { "" }),
             n,
-            &mut || { black_box(rolling::no_nulls::rolling_var(&x, size, 1, false, Some(&w), None).is_ok()); },
+            &mut || { black_box(rolling::no_nulls::rolling_var(&x, size, 1, centre, Some(&w), None).is_ok()); },
             if fun.is_some() { Some(&mut two) } else { None },
-            &mut || { let (v, p) = &*o.borrow(); differ(&weighted(&x, size, 1, false, &w).unwrap(), v, p) },
+            &mut || { let (v, p) = &*o.borrow(); differ(&weighted(&x, size, 1, centre, &w).unwrap(), v, p) },
         );
     }
     for m in [None, Some(map)] {

@@ -3,12 +3,13 @@
 //! last place, figures by their bits, a NaN being 7FF8000000000000; the readings that an accepted call decodes; and that
 //! nothing else is written: no list on a refusal, and otherwise no place past the last row, past the needed work, past the
 //! readings or beside a list. Each run also makes the calls at 16,777,216 readings or rows and one more.
-//! usage: fuzz [--demo] CALLS SEED
-//! (--demo asks the model of src/model.rs in place of libmoments.a; it has no weights, and of refusals those of a plan.)
+//! usage: fuzz [--demo] CALLS SEED [plan] [fixed] [weighted]
+//! (CALLS are made of the kinds that are named, in turn, or of every kind. --demo asks the model of src/model.rs in place
+//! of libmoments.a; it has no weights.)
 use oracle::host::{Call, Case, Room};
 use oracle::refusal::LIMIT;
 use oracle::rng::Rng;
-use oracle::second::{FixedFn, Impl, PlanFn, WeightedFn};
+use oracle::second::{Impl, PlanFn, WindowsFn};
 use oracle::*;
 use std::collections::BTreeMap;
 use std::fmt::Debug;
@@ -99,9 +100,10 @@ impl Wanted {
 
 #[derive(Default)]
 struct Seen {
-    /// Calls and how many of them differ, by entry and figure.
-    calls: BTreeMap<&'static str, (u64, u64)>,
-    numbers: BTreeMap<u32, u64>,
+    /// Calls, how many of them differ and how many have each number, by entry and figure.
+    calls: BTreeMap<&'static str, (u64, u64, BTreeMap<u32, u64>)>,
+    /// Window sizes at which something begins, ends or wraps, of the calls that are accepted.
+    sizes: BTreeMap<&'static str, BTreeMap<&'static str, u64>>,
     present: u64,
     nans: u64,
     missing: u64,
@@ -114,7 +116,7 @@ impl Seen {
         let what = wanted.differs(number, before, after);
         let entry = self.calls.entry(name).or_default();
         entry.0 += 1;
-        *self.numbers.entry(wanted.number).or_default() += 1;
+        *entry.2.entry(wanted.number).or_default() += 1;
         for row in &wanted.rows {
             match row {
                 None => self.missing += 1,
@@ -194,74 +196,89 @@ fn limits(seen: &mut Seen, r: &mut Rng, f: PlanFn) {
     }
 }
 
-/// A trace, a map if there is one, a figure and a minimum; where `faults`, the map is now and then of a wrong length.
-fn any_trace(r: &mut Rng, faults: bool) -> (Vec<f64>, Option<Vec<u8>>, Figure, usize) {
-    let n = match r.below(10) {
-        0 => r.below(3),
-        1 => r.below(300),
-        _ => 1 + r.below(24),
-    };
-    let x = r.trace(n);
-    let map = if faults { record::maybe_map(r, n) } else { r.chance(1, 2).then(|| r.map(n)) };
-    (x, map, r.figure(), r.minimum())
-}
-/// A length about k; where `faults`, now and then one less.
-fn length(r: &mut Rng, k: usize, faults: bool) -> usize {
-    if faults && r.chance(1, 40) {
-        return k.saturating_sub(1);
+fn windows_name(c: &windows::Call) -> &'static str {
+    match (c.weights, c.figure) {
+        (Some(_), _) => "weighted",
+        (_, Figure::Var { .. }) => "fixed var",
+        (_, Figure::Skew { .. }) => "fixed skew",
+        (_, Figure::Kurt { .. }) => "fixed kurtosis",
     }
-    k + if r.chance(1, 3) { r.below(4) } else { 0 }
 }
-fn any_fixed(seen: &mut Seen, r: &mut Rng, f: FixedFn, faults: bool) {
-    let (x, map, figure, min) = any_trace(r, faults);
-    let (n, m, centre) = (x.len(), map.as_deref(), r.chance(1, 2));
-    let size = match r.below(10) {
-        0 => usize::MAX - r.below(2),
-        1 => 0,
-        _ => r.below(14),
-    };
-    let need = figure.entry() * size.min(n);
-    let room = Room { readings: 0, work: length(r, need, faults), figures: length(r, n, faults), present: length(r, n, faults) };
+fn windows_call(seen: &mut Seen, r: &mut Rng, f: WindowsFn, call: windows::Call, room: Room) {
     let before = Lists::new(r, room);
     let mut after = before.clone();
-    let number = f(&x, m, size, centre, figure, min, after.figures.lent(), after.present.lent(), after.work.lent());
-    let wanted = match refusal::fixed(n, m.map(<[u8]>::len), size, (room.figures, room.present), figure.entry(), room.work) {
-        0 => Wanted { number: 0, readings: vec![], rows: if n > 0 { fixed(&x, m, size, min, centre, figure) } else { vec![] }, need },
+    let number = f(&call, after.work.lent(), after.figures.lent(), after.present.lent());
+    let name = windows_name(&call);
+    let wanted = match call.refusal(room) {
+        0 => Wanted { number: 0, readings: vec![], rows: call.answers(), need: call.need() },
         number => Wanted::refused(number),
     };
-    let bits: Vec<u64> = x.iter().map(|v| v.to_bits()).collect();
-    seen.tell("fixed", (figure, min, size, centre, bits, m), &wanted, number, &before, &after);
-}
-fn any_weighted(seen: &mut Seen, r: &mut Rng, f: WeightedFn) {
-    let (x, _, _, min) = any_trace(r, false);
-    let (n, size, centre) = (x.len(), r.below(9), r.chance(1, 2));
-    let count = if r.chance(1, 12) { r.below(9) } else { size };
-    let style = r.below(4);
-    let w: Vec<f64> = (0..count)
-        .map(|_| match style {
-            0 => r.below(3) as f64,
-            1 => r.below(5) as f64 - 2.0,
-            2 => r.unit(),
-            _ => r.reading(7),
-        })
-        .collect();
-    let room = Room { readings: 0, work: 0, figures: length(r, n, true), present: length(r, n, true) };
-    let before = Lists::new(r, room);
-    let mut after = before.clone();
-    let number = f(&x, size, centre, &w, min, after.figures.lent(), after.present.lent());
-    let wanted = match refusal::weighted(n, None, size, &w, (room.figures, room.present)) {
-        0 => Wanted { number: 0, readings: vec![], rows: weighted(&x, size, min, centre, &w).unwrap(), need: 0 },
-        number => Wanted::refused(number),
-    };
+    if wanted.number == 0 {
+        let (n, sizes) = (call.x.len(), seen.sizes.entry(name).or_default());
+        let edges = [("0", 0), ("1", 1), ("n", n), ("n + 1", n + 1), ("2^63", 1 << 63), ("2^64 - 1", usize::MAX)];
+        for (edge, _) in edges.iter().filter(|(_, size)| *size == call.size) {
+            *sizes.entry(edge).or_default() += 1;
+        }
+        *sizes.entry(if call.centre { "centred" } else { "trailing" }).or_default() += 1;
+    }
     let bits = |v: &[f64]| v.iter().map(|v| v.to_bits()).collect::<Vec<u64>>();
-    seen.tell("weighted", (min, size, centre, bits(&w), bits(&x)), &wanted, number, &before, &after);
+    let (x, w) = (bits(&call.x[..call.x.len().min(400)]), call.weights.map(bits));
+    let given = (call.figure, call.min, call.size, call.centre, room, x, w, call.map().map(|m| &m[..m.len().min(50)]));
+    seen.tell(name, given, &wanted, number, &before, &after);
+}
+/// A random call on fixed windows or weights; one in 200 is long enough for many blocks of rows.
+fn any_windows(seen: &mut Seen, r: &mut Rng, f: WindowsFn, any: fn(&mut Rng, usize) -> windows::Case) {
+    let most = match r.below(200) {
+        0 => 2000,
+        1..=20 => 300,
+        _ => 24,
+    };
+    let case = any(r, most);
+    windows_call(seen, r, f, case.call(), case.room);
+}
+/// 16,777,216 readings pass, with the largest sizes too (13 where the work is short), and one more is 1, whatever else is
+/// wrong.
+fn windows_limits(seen: &mut Seen, r: &mut Rng, fixed: Option<WindowsFn>, weighted: Option<WindowsFn>) {
+    use windows::Case;
+    let x: Vec<f64> = (0..LIMIT + 1).map(|i| (i % 1000) as f64 - 400.0).collect();
+    let (ones, w) = (vec![0xFF; LIMIT / 8], [1.0, 2.0, 0.5]);
+    let none = Room { readings: 0, work: 0, figures: 0, present: 0 };
+    let mut make = |f: Option<WindowsFn>, case: Case, room: Room| {
+        if let Some(f) = f {
+            windows_call(seen, r, f, case.call(), room);
+        }
+    };
+    for (k, figure) in [Figure::Var { ddof: 1 }, Figure::Skew { bias: false }, Figure::Kurt { fisher: true, bias: true }].into_iter().enumerate() {
+        let map = [None, Some(&ones[..]), None][k];
+        let case = Case::new(figure, &x[..LIMIT], map, 4, 2, k == 2);
+        let room = case.room;
+        make(fixed, case, room);
+        let case = Case { size: usize::MAX, ..Case::new(figure, &x[..LIMIT], map, 4, 2, k == 0) };
+        make(fixed, case, Room { work: figure.entry() * 4, ..room });
+        for map in [None, Some(&ones[..])] {
+            let case = Case::new(figure, &x, map, 4, 2, false);
+            let room = case.room;
+            make(fixed, case.clone(), room);
+            make(fixed, case, none);
+        }
+    }
+    for centre in [false, true] {
+        let case = Case::weighted(&w, &x[..LIMIT], 2, centre);
+        let room = case.room;
+        make(weighted, case, room);
+        let case = Case::weighted(&w, &x, 2, centre);
+        let room = case.room;
+        make(weighted, case, room);
+        make(weighted, Case { has_map: true, map: ones.clone(), ..Case::weighted(&[1.0, -1.0], &x, 2, centre) }, none);
+    }
 }
 
 fn main() {
     let demo = std::env::args().any(|a| a == "--demo");
     let nums: Vec<u64> = std::env::args().skip(1).filter_map(|a| a.parse().ok()).collect();
+    let named: Vec<String> = std::env::args().skip(1).filter(|a| a != "--demo" && a.parse::<u64>().is_err()).collect();
     let [calls, seed] = nums[..] else {
-        eprintln!("usage: fuzz [--demo] CALLS SEED");
+        eprintln!("usage: fuzz [--demo] CALLS SEED [plan] [fixed] [weighted]");
         std::process::exit(1);
     };
     let asked = if demo { Some(second::demo()) } else { second::second() };
@@ -269,21 +286,35 @@ fn main() {
         eprintln!("build with --features plans or rolling, or give --demo");
         std::process::exit(1);
     };
+    let mut kinds = vec!["plan"];
+    kinds.extend(fixed.map(|_| "fixed"));
+    kinds.extend(weighted.map(|_| "weighted"));
+    if let Some(name) = named.iter().find(|n| !kinds.contains(&n.as_str())) {
+        eprintln!("no calls of {name} here, only of {kinds:?}");
+        std::process::exit(1);
+    }
+    kinds.retain(|kind| named.is_empty() || named.iter().any(|n| n == kind));
     let mut r = Rng(seed);
     let mut seen = Seen::default();
-    limits(&mut seen, &mut r, plan);
-    for _ in 0..calls {
-        match (r.below(4), fixed, weighted) {
-            (2, Some(f), _) => any_fixed(&mut seen, &mut r, f, !demo),
-            (3, _, Some(f)) => any_weighted(&mut seen, &mut r, f),
+    let (fixed, weighted) = (fixed.filter(|_| kinds.contains(&"fixed")), weighted.filter(|_| kinds.contains(&"weighted")));
+    if kinds.contains(&"plan") {
+        limits(&mut seen, &mut r, plan);
+    }
+    windows_limits(&mut seen, &mut r, fixed, weighted);
+    for i in 0..calls {
+        match (kinds[i as usize % kinds.len()], fixed, weighted) {
+            ("fixed", Some(f), _) => any_windows(&mut seen, &mut r, f, windows::Case::any),
+            ("weighted", _, Some(f)) => any_windows(&mut seen, &mut r, f, windows::Case::any_weighted),
             _ => any_plan(&mut seen, &mut r, plan),
         }
     }
-    println!("{:<16}{:>10}{:>10}", "entry", "calls", "differing");
-    for (name, (calls, differing)) in &seen.calls {
-        println!("{name:<16}{calls:>10}{differing:>10}");
+    println!("{:<16}{:>10}{:>10}  by number", "entry", "calls", "differing");
+    for (name, (calls, differing, numbers)) in &seen.calls {
+        println!("{name:<16}{calls:>10}{differing:>10}  {numbers:?}");
     }
-    println!("by number {:?}", seen.numbers);
+    for (name, sizes) in &seen.sizes {
+        println!("accepted windows of {name}: {sizes:?}");
+    }
     println!("rows: {} numbers, {} NaN, {} missing", seen.present, seen.nans, seen.missing);
     println!("NaN readings decoded: {}, with bits other than the trace's: {}", seen.nan_readings.0, seen.nan_readings.1);
     println!("differing {}", seen.differing);

@@ -1,7 +1,7 @@
 //! Writes the lists that the program `vectors` replays, one file for each kind (FORMAT.md, 'Word lists').
 //! usage: words SEED FOLDER
-use oracle::cases::cases;
-use oracle::host::Case;
+use oracle::cases::*;
+use oracle::host::{Case, Room};
 use oracle::record::*;
 use oracle::rng::Rng;
 use oracle::*;
@@ -74,19 +74,77 @@ impl Call<'_> {
 fn before(r: &mut Rng, s: &str) -> Vec<f64> {
     (0..width(s)).map(|_| r.reading(1)).collect()
 }
-/// A record of plan: the call, where each list stands and its length, then the lists. Every lent list holds before the
-/// call the first words of HELD; of a NaN the program cannot see the bits, so one there is the one it reads.
+/// What the lists that a call on windows is lent hold before it and after it.
+struct Lent {
+    held: Vec<u64>,
+    figures: Vec<u64>,
+    present: Vec<u64>,
+}
+impl Lent {
+    /// Every list holds before the call the first words of `held`; of a NaN the program cannot see the bits, so one there is
+    /// the one it reads.
+    fn new(r: &mut Rng, room: Room) -> Lent {
+        let held: Vec<u64> = (0..room.work.max(room.readings).max(room.figures).max(room.present))
+            .map(|_| match r.below(4) {
+                0 => canon(r.bad()),
+                1 => r.reading(2).to_bits(),
+                _ => r.reading(1).to_bits(),
+            })
+            .collect();
+        let figures = held[..room.figures].to_vec();
+        let present = held[..room.present].iter().map(|w| w % 256).collect();
+        Lent { held, figures, present }
+    }
+    fn answered(&mut self, rows: Vec<Option<f64>>) {
+        for (i, row) in rows.into_iter().enumerate() {
+            (self.figures[i], self.present[i]) = row.map_or((0, 0), |x| (canon(x), 1));
+        }
+    }
+}
+/// Two words of a record on windows: where a list stands and its length, or two numbers that the call is given.
+enum Pair {
+    List(usize, Vec<u64>),
+    Numbers(usize, usize),
+}
+fn list(words: Vec<u64>) -> Pair {
+    Pair::List(words.len(), words)
+}
+/// A record of plan, fixed or weighted: the figure and the setting, whether a map is lent, the number, the doubles of work that
+/// are free, then the pairs, then the lists.
+fn window_record(figure: [u64; 4], min: usize, has_map: bool, number: u32, free: usize, pairs: [Pair; 8]) -> Vec<u64> {
+    let mut words = figure.to_vec();
+    words.extend([min as u64, has_map as u64, number as u64, free as u64]);
+    // a record's words are counted from its length on: nine before these pairs
+    let mut at = 9 + 2 * pairs.len();
+    for pair in &pairs {
+        match pair {
+            Pair::List(length, list) => {
+                words.extend([at as u64, *length as u64]);
+                at += list.len();
+            }
+            Pair::Numbers(a, b) => words.extend([*a as u64, *b as u64]),
+        }
+    }
+    assert!(at <= 1024);
+    for pair in pairs {
+        if let Pair::List(_, list) = pair {
+            words.extend(list);
+        }
+    }
+    words
+}
+/// Figure, ddof, biased, fisher.
+fn setting(figure: Figure) -> [u64; 4] {
+    match figure {
+        Figure::Var { ddof } => [0, ddof as u64, 0, 0],
+        Figure::Skew { bias } => [1, 0, bias as u64, 0],
+        Figure::Kurt { fisher, bias } => [2, 0, bias as u64, fisher as u64],
+    }
+}
 fn plan_record(r: &mut Rng, case: &Case) -> Vec<u64> {
     let (call, room) = (case.call(), case.room);
-    let held: Vec<u64> = (0..room.work.max(room.readings).max(room.figures).max(room.present))
-        .map(|_| match r.below(4) {
-            0 => canon(r.bad()),
-            1 => r.reading(2).to_bits(),
-            _ => r.reading(1).to_bits(),
-        })
-        .collect();
-    let (mut readings, mut figures) = (held[..room.readings].to_vec(), held[..room.figures].to_vec());
-    let mut present: Vec<u64> = held[..room.present].iter().map(|w| w % 256).collect();
+    let mut lent = Lent::new(r, room);
+    let mut readings = lent.held[..room.readings].to_vec();
     let number = call.refusal(room);
     let mut free = 0;
     if number == 0 {
@@ -94,39 +152,44 @@ fn plan_record(r: &mut Rng, case: &Case) -> Vec<u64> {
         for (to, x) in readings.iter_mut().zip(call.readings()) {
             *to = canon(x);
         }
-        for (i, row) in call.answers().into_iter().enumerate() {
-            (figures[i], present[i]) = row.map_or((0, 0), |x| (canon(x), 1));
-        }
+        lent.answered(call.answers());
     }
-    let (figure, ddof, bias, fisher) = match call.figure {
-        Figure::Var { ddof } => (0, ddof, false, false),
-        Figure::Skew { bias } => (1, 0, bias, false),
-        Figure::Kurt { fisher, bias } => (2, 0, bias, fisher),
-    };
     let eight = |b: &[u8]| b.iter().rev().fold(0, |w, b| w << 8 | *b as u64);
     let wide = |v: &[u32]| v.iter().map(|x| *x as u64).collect::<Vec<u64>>();
-    let map = call.map.iter().map(|b| *b as u64).collect();
-    let lists: [(usize, Vec<u64>); 8] = [
-        (call.trace.len(), call.trace.chunks(8).map(eight).collect()),
-        (call.map.len(), map),
-        (call.starts.len(), wide(call.starts)),
-        (call.ends.len(), wide(call.ends)),
-        (room.work, held),
-        (room.readings, readings),
-        (room.figures, figures),
-        (room.present, present),
+    let pairs = [
+        Pair::List(call.trace.len(), call.trace.chunks(8).map(eight).collect()),
+        list(bytes(Some(call.map))),
+        list(wide(call.starts)),
+        list(wide(call.ends)),
+        Pair::List(room.work, lent.held),
+        list(readings),
+        list(lent.figures),
+        list(lent.present),
     ];
-    let mut words = vec![figure, ddof as u64, bias as u64, fisher as u64, call.min as u64];
-    words.extend([call.has_map as u64, number as u64, free as u64]);
-    // a record's words are counted from its length on: nine before these pairs
-    let mut at = 9 + 2 * lists.len();
-    for (length, list) in &lists {
-        words.extend([at as u64, *length as u64]);
-        at += list.len();
+    window_record(setting(call.figure), call.min, call.has_map, number, free, pairs)
+}
+/// A record of fixed or weighted.
+fn fixed_record(r: &mut Rng, case: &windows::Case) -> Vec<u64> {
+    let (call, room) = (case.call(), case.room);
+    let mut lent = Lent::new(r, room);
+    let number = call.refusal(room);
+    let mut free = 0;
+    if number == 0 {
+        free = call.need();
+        lent.answered(call.answers());
     }
-    assert!(at <= 1024);
-    words.extend(lists.iter().flat_map(|(_, list)| list));
-    words
+    let pairs = [
+        list(bits(call.x)),
+        list(bytes(Some(call.map))),
+        list(bits(call.weights.unwrap_or(&[]))),
+        Pair::Numbers(call.size, call.centre as usize),
+        Pair::List(room.work, lent.held),
+        Pair::Numbers(0, 0),
+        list(lent.figures),
+        list(lent.present),
+    ];
+    let figure = if call.weights.is_some() { [3, 0, 0, 0] } else { setting(call.figure) };
+    window_record(figure, call.min, call.has_map, number, free, pairs)
 }
 
 /// The roots of a square a modulo 2^54 (a is 1 modulo 8), those from 2^53 up.
@@ -330,18 +393,36 @@ fn records(r: &mut Rng, kind: &str) -> Vec<Vec<u64>> {
                 out.push(plan_record(r, &case));
             }
         }
+        "fixed" => {
+            for case in fixed_cases(r) {
+                out.push(fixed_record(r, &case));
+            }
+        }
+        "weighted" => {
+            for case in weighted_cases(r) {
+                out.push(fixed_record(r, &case));
+            }
+        }
+        "bounds" => {
+            for (size, centre, n, i) in bounds(r) {
+                // past the last row the Rust is not asked: ours is empty there, at the end
+                let (start, end) = if i < n { offsets(i, size, n, centre) } else { (n, n) };
+                out.push([size, centre as usize, n, i, start, end].map(|w| w as u64).to_vec());
+            }
+        }
         _ => unreachable!(),
     }
     out
 }
 
+const KINDS: [&str; 11] = ["root", "new", "insert", "combine", "finalize", "whole", "range", "plan", "fixed", "weighted", "bounds"];
 fn main() {
     let mut args = std::env::args().skip(1);
     let (Some(seed), Some(folder)) = (args.next().and_then(|s| s.parse::<u64>().ok()), args.next()) else {
         eprintln!("usage: words SEED FOLDER");
         std::process::exit(1);
     };
-    for (i, kind) in ["root", "new", "insert", "combine", "finalize", "whole", "range", "plan"].into_iter().enumerate() {
+    for (i, kind) in KINDS.into_iter().enumerate() {
         let mut r = Rng(seed.wrapping_mul(7).wrapping_add(i as u64));
         let list = records(&mut r, kind);
         let mut text = format!("{:016X}\n", list.len());

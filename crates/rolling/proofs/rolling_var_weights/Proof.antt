@@ -1,5 +1,6 @@
 -- A refusal as it is judged, else the rows by the weights' sum. Assumes nothing.
 use mathlib.Core.Path.{sym, _∙_}
+use native.Mathlib.Omega.{arith}
 use borrow.Author.Needs.{needs}
 use Rattle.rolling.specs.Calls.{traceOf}
 use Rattle.rolling.proofs.Weighted.{weights-refused, weights-taken, weights-called}
@@ -21,7 +22,9 @@ rows-requires c κs =
     let s = j .before .before .before .before .before .before .before in
     let a = s .args in
     let t = weights-taken (a .window-size) (a .weights .now) (traceOf (a .values .now) (a .has-map) (a .map .now)) (a .figures .now) (a .present .now) (sym (c .before .before .if1 .left) ∙ (rw (j .before .sum .ensures) at (j .judge .ensures))) in
-    (t .0, t .1, j .before .sum .ensures, t .2, t .3)
+    let same = t .same in
+    let some = t .some in
+    (t .few, omega arith, j .before .sum .ensures, t .figures-fit, t .present-fit)
 
 same-length : tie.Need-same-length
 same-length c = search needs

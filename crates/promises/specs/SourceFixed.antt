@@ -1,0 +1,51 @@
+-- Demand 2, for fixed windows: 006's `det_offsets` and `det_offsets_center` with the Rust's own arithmetic, and `rolling_var`,
+-- `rolling_skew` and `rolling_kurtosis`, 004 without a map and 005 with one. Assumes nothing.
+use Prim.Native.Nat.{ℕ, _+_, _-_, _/_, _%_, min}
+use mathlib.Core.Bool.{Bool, cond}
+use mathlib.Core.List.{List}
+use lib.Dec.{eqb, ltb}
+use lib.ListN.{length}
+use lib.Ieee.{Float}
+use Rattle.moment.specs.declared.Figure.{Figure}
+use Rattle.window.specs.Readings.{ReadingMoment}
+use Rattle.promises.specs.SourceWindow.{Rust, Bitmap}
+use Rattle.promises.specs.SourceRows.{rollingNoNulls, Array, rollingNulls}
+
+-- ---- of the Rust's library
+-- `a.saturating_sub(b)`
+abbrev pub saturatingSub : ℕ → ℕ → ℕ
+saturatingSub a b = a - b
+
+-- `a.div_ceil(b)`
+abbrev pub divCeil : ℕ → ℕ → ℕ
+divCeil a b = cond (ltb 0 (a % b)) (a / b + 1) (a / b)
+
+-- ---- 006
+-- `det_offsets`
+abbrev pub detOffsets : Rust → ℕ → ℕ → ℕ → ℕ × ℕ
+detOffsets rust i windowSize len =
+    cond (eqb windowSize 0) (i, i) (saturatingSub i (rust .minus windowSize 1), rust .plus i 1)
+
+-- `det_offsets_center`
+abbrev pub detOffsetsCenter : Rust → ℕ → ℕ → ℕ → ℕ × ℕ
+detOffsetsCenter rust i windowSize len =
+    let rightWindow = divCeil windowSize 2 in
+    cond (eqb windowSize 0) (i, i)
+    (saturatingSub i (rust .minus windowSize rightWindow), min len (rust .plus i rightWindow))
+
+-- ---- 004 and 005
+-- `offset_fn`, by `center`, at the call's window size and length
+unfoldable pub offsetFn : Rust → Bool → ℕ → ℕ → ℕ → ℕ × ℕ
+offsetFn rust center windowSize len i =
+    cond center (detOffsetsCenter rust i windowSize len) (detOffsets rust i windowSize len)
+
+-- 004: `rolling_var` without weights, `rolling_skew` and `rolling_kurtosis` differ in nothing but the moment M, whose `finalize` has
+-- its part of `params`
+abbrev pub fixedNoNulls : (M : ReadingMoment) → Rust → (M .State → Figure) → List Float → ℕ → ℕ → Bool → List Figure
+fixedNoNulls M rust finalize values windowSize minPeriods center =
+    rollingNoNulls M rust finalize values minPeriods (offsetFn rust center windowSize (length values)) (length values)
+
+-- 005, the same three with the array's map
+abbrev pub fixedNulls : (M : ReadingMoment) → Rust → (M .State → Figure) → List Float → Bitmap → ℕ → ℕ → Bool → Array
+fixedNulls M rust finalize values map windowSize minPeriods center =
+    rollingNulls M rust finalize values map minPeriods (offsetFn rust center windowSize (length values)) (length values)
