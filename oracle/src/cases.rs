@@ -266,7 +266,7 @@ fn weighted_by_hand(r: &mut Rng) -> Vec<windows::Case> {
         v.push(Case::weighted(&[1.0, 2.0], &[], 1, centre));
         v.push(Case::weighted(&[1.0, 2.0], &x[..1], 1, centre));
     }
-    // rows past a block of 64 and not a multiple of it
+    // rows past a block of 32 and not a multiple of it
     let long: Vec<f64> = (0..131).map(|_| r.reading(1)).collect();
     let w: Vec<f64> = (0..70).map(|j| ((j * 7) % 11) as f64 - 2.0).collect();
     v.push(Case::weighted(&[1.0, 2.0, 4.0], &long, 3, false));

@@ -1,5 +1,5 @@
 -- Document 01, States, stand-ins: "`alg_sum_f64` and `alg_add_f64`: plain additions, left to right from +0.0". The sums that
--- each state's `new` takes. Assumes nothing.
+-- each state's `new` takes, and that of weights. Assumes nothing.
 use mathlib.Core.List.{List, foldl}
 use lib.Ieee.{Float}
 use Rattle.float.specs.Operators.{_⊕_, _⊖_, _⊗_, zero64}

@@ -1,4 +1,4 @@
-// The sums that a state's `new` takes: plain additions, left to right from +0.0.
+// Sums, those that a state's `new` takes and the plain one: additions left to right from +0.0.
 ghost use mathlib.Core.Path.{_≡_};
 ghost use Prim.Native.Nat.{_+_, _^_, _<_};
 ghost use lib.ListN.{length};

@@ -77,9 +77,9 @@ module _ (rust : Rust) (minPeriods : ℕ) (f g : ℕ → ℕ × ℕ) (n : ℕ) (
           out-no-same k (suc i) (updateNoNulls rust xs w (g i .0) (g i .1)) (omega arith),
         )
 
-    pub no-nulls-same : rollingNoNulls M rust final xs minPeriods f n ≡ rollingNoNulls M rust final xs minPeriods g n
+    rows-no-nulls : rollingNoNulls M rust final xs minPeriods f n ≡ rollingNoNulls M rust final xs minPeriods g n
     unfolding rollingNoNulls
-    no-nulls-same = rw (same 0 some, out-no-same n 0 _ (omega arith))
+    rows-no-nulls = rw (same 0 some, out-no-same n 0 _ (omega arith))
 
     module _ (map : Bitmap) where
       out-yes-same : (k i : ℕ) (w : MomentWindow M) (l : List Bool) → i + k ≤ n
@@ -90,9 +90,9 @@ module _ (rust : Rust) (minPeriods : ℕ) (f g : ℕ → ℕ × ℕ) (n : ℕ) (
           let u = updateNulls rust map xs w (g i .0) (g i .1) in
           rw (same i (omega arith), out-yes-same k (suc i) u (matched rust i (getMoment final u) (isValid rust u minPeriods) l .1) (omega arith))
 
-      pub nulls-same : rollingNulls M rust final xs map minPeriods f n ≡ rollingNulls M rust final xs map minPeriods g n
+      rows-nulls : rollingNulls M rust final xs map minPeriods f n ≡ rollingNulls M rust final xs map minPeriods g n
       unfolding rollingNulls
-      nulls-same = rw (same 0 some, validity-same, out-yes-same n 0 _ _ (omega arith))
+      rows-nulls = rw (same 0 some, validity-same, out-yes-same n 0 _ _ (omega arith))
 
 -- ---- a row
 pub fixed-row : (rust : Rust) (center : Bool) (size minPeriods : ℕ) (figure : Asked) (t : Trace) (k : ℕ) → size < 2 ^ 64 → length (t .readings) ≤ 16777216
@@ -104,6 +104,6 @@ fixed-row rust center size minPeriods figure t k fits few h =
     let same : (i : ℕ) → i < n → f i ≡ g i = λ i o. sym (plan-offsets rust center size n fits few i o) in
     rw (
       bounds-rows center size n,
-      no-nulls-same rust minPeriods f g n same (readingMomentOf figure) (finalOf figure) (t .readings) (omega arith),
-      nulls-same rust minPeriods f g n same (readingMomentOf figure) (finalOf figure) (t .readings) (omega arith) (bitmapOf t),
+      rows-no-nulls rust minPeriods f g n same (readingMomentOf figure) (finalOf figure) (t .readings) (omega arith),
+      rows-nulls rust minPeriods f g n same (readingMomentOf figure) (finalOf figure) (t .readings) (omega arith) (bitmapOf t),
     )

@@ -20,7 +20,8 @@ use Rattle.window.specs.Readings.{readingOf}
 use Rattle.window.specs.Rows.{table}
 use Rattle.window.proofs.Places.{Or, here, there, order}
 use Rattle.window.proofs.Tables.{table-place}
-use Rattle.rolling.specs.Fixed.{boundsAt, rightOf}
+use Rattle.rolling.specs.Fixed.{boundsAt}
+use Rattle.rolling.specs.Reaching.{rightOf}
 use Rattle.rolling.specs.Weights.{totalOf, Sums, noSums, plus, varianceOf, computeVarWeights, weightsStart, aligned, weightedAt}
 use Rattle.rolling.proofs.Fixed.{bounds-at, right-le, right-some}
 use Rattle.rolling.proofs.Weighted.{Taken, aligned-start}

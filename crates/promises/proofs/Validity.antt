@@ -11,7 +11,7 @@ use lib.Dec.{ltb, eqb}
 use lib.ListN.{length, getD, set, replicate, length-set, length-replicate, getD-replicate}
 use lib.Seq.{getD-set-same, getD-set-other}
 use borrow.Author.Tests.{lt-ltb, eqb-true, eqb-false}
-use Rattle.window.proofs.Places.{Or, here, there, order}
+use Rattle.window.proofs.Places.{apart, Or, here, there, order}
 use Rattle.promises.specs.SourceWindow.{Rust}
 use Rattle.promises.specs.SourceRows.{tooShort, headSet, tailSet, createValidity}
 
@@ -71,7 +71,7 @@ module _ (rust : Rust) (minPeriods : ℕ) (detOffsets : ℕ → ℕ × ℕ) wher
       either k l _ (omega arith) f (λ h. tail-marks k (rust .unset l k) (omega arith) (short-unset l k (omega arith) h f))
 
   all-marks : (n : ℕ) → From 0 (replicate n true)
-  all-marks n j o h e = absurd (let z : _≡_ {A = ℕ} 0 1 = cc (getD-replicate n j true false (rw length-replicate at h), e) in omega arith)
+  all-marks n j o h e = apart (sym e ∙ getD-replicate n j true false (rw length-replicate at h))
 
   pub created-marks : (n : ℕ) → From 0 (created n) × (length (created n) ≡ n)
   unfolding createValidity

@@ -1,5 +1,5 @@
--- Demands 2 and 3 for windows, each as one statement over every accepted call and over its whole plan, from the first row to the
--- last. Demand 2 speaks of plan calls, of fixed windows and of weights, demand 3 of every call without weights. Assumes nothing.
+-- Demands 2 and 3 for windows, each as one statement over every accepted call and all its rows, from the first to the last. Demand 2
+-- speaks of plan calls, of fixed windows and of weights, demand 3 of every call without weights. Assumes nothing.
 use Prim.Native.Nat.{ℕ, _^_, _≤_, _<_}
 use mathlib.Core.Path.{_≡_}
 use mathlib.Core.Bool.{Bool, true, false, cond}
@@ -26,8 +26,9 @@ use Rattle.promises.specs.SourceFixed.{fixedNoNulls, fixedNulls}
 use Rattle.promises.specs.SourceWeights.{rollingVarWeights}
 
 -- "one double and one byte (1 present, 0 missing) a row, together the row's answer". Doubles that are equal here and no NaN have the
--- same bits. NaN is one value here: that its bits are 7FF8000000000000 is carried by the code, for `write` of rolling's src/row.rt
--- stores the constant 0.0 / 0.0, which the compiler folds to them, and is seen by the oracle's `fuzz`, which compares bits.
+-- same bits. NaN is one value here: that its bits are 7FF8000000000000 is carried by the code, for `write` of rolling's src/row.rt,
+-- and for skewness `float::canonical`, store the constant 0.0 / 0.0, which the compiler folds to them, and is seen by the oracle's
+-- `fuzz`, which compares bits.
 pub record Answer : Type 0 where
   pub double : Float
   pub byte : ℕ

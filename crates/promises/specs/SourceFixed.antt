@@ -40,7 +40,8 @@ offsetFn rust center windowSize len i =
     cond center (detOffsetsCenter rust i windowSize len) (detOffsets rust i windowSize len)
 
 -- 004: `rolling_var` without weights, `rolling_skew` and `rolling_kurtosis` differ in nothing but the moment M, whose `finalize` has
--- its part of `params`
+-- its part of `params`. "Without weights the Rust panics on an empty trace with a trailing window of 1 or more; here that has no
+-- rows."
 abbrev pub fixedNoNulls : (M : ReadingMoment) → Rust → (M .State → Figure) → List Float → ℕ → ℕ → Bool → List Figure
 fixedNoNulls M rust finalize values windowSize minPeriods center =
     rollingNoNulls M rust finalize values minPeriods (offsetFn rust center windowSize (length values)) (length values)

@@ -299,7 +299,8 @@ module _ {M : ReadingMoment} where
       let w₃ = forIn (w₂ .end) newEnd (pushAt rust validity values) w₂ in
       setEnd (setStart w₃ newStart) newEnd
 
-  -- `new`; its `assert!` holds of the one row that it is called with: row 0 of an accepted plan, or (0, 0) for an empty plan
+  -- `new`; its `assert!` holds of the one row that it is called with: row 0 of an accepted plan, or (0, 0) for an empty plan. Fixed
+  -- windows of an empty trace may call it with (0, 1), where the Rust panics; no row is asked of it then.
   abbrev pub newNulls : Rust → Bitmap → List Float → ℕ → ℕ → MomentWindow M
   newNulls rust validity values start end = updateNulls rust validity values newImpl start end
 

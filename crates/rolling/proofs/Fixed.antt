@@ -1,30 +1,27 @@
 -- The bounds of fixed windows are rows that reach so many places to each side, and these are a plan in order, whose widest window is
 -- the smaller of size and series; so a call with fixed windows is the plan call of its bounds. Assumes nothing.
-use Prim.Native.Nat.{ℕ, zero, suc, _+_, _-_, _*_, _/_, _≤_, _<_, min}
+use Prim.Native.Nat.{ℕ, _+_, _-_, _*_, _/_, _≤_, _<_, min}
 use mathlib.Core.Path.{_≡_, refl, sym, ap, _∙_, subst}
-use mathlib.Core.Bool.{Bool, true, false, cond, not, _||_}
+use mathlib.Core.Bool.{Bool, true, false, cond, _||_}
 use mathlib.Core.List.{List}
 use native.Mathlib.Nat.{le-refl, le-trans, mul-le-mul-left, mul-le-mul-right}
 use native.Mathlib.Omega.{arith}
-use borrow.Author.Tests.{eq-eqb, ne-eqb, le-ltb, ltb-false, eqb-true, eqb-false}
+use borrow.Author.Tests.{eq-eqb, ltb-false, eqb-true, eqb-false}
 use lib.Dec.{eqb, ltb, lit≤}
 use lib.ListN.{length, getD}
 use Rattle.trace.specs.Refusals.{refusal, _orElse_, tooMany, arrayRefusal}
 use Rattle.trace.proofs.Accepted.{none-of, not-refused}
-use Rattle.window.specs.Rows.{Plan, rows, rowStart, rowEnd, table}
+use Rattle.window.specs.Rows.{Plan, rows, rowStart, rowEnd}
 use Rattle.window.specs.Refusals.{wrongLists, rowsRefusal, widest, planRefusal}
 use Rattle.window.specs.Stacks.{Planned, Accepted}
-use Rattle.window.proofs.Places.{Or, here, there, order}
+use Rattle.window.proofs.Places.{apart, Or, here, there, order}
 use Rattle.window.proofs.Tables.{table-length, table-place, table-same}
 use Rattle.window.proofs.Plans.{first-stands, none-then, wide-all, rows-in-order, widest-under, taken}
 use Rattle.rolling.specs.Moments.{Asked}
-use Rattle.rolling.specs.Calls.{Trace, Lent, planOf, askPlan, each, Written}
-use Rattle.rolling.specs.Fixed.{boundsAt, bounds, fixedRefusal, CalledFixed, rightOf, reaching, rowsOf}
+use Rattle.rolling.specs.Calls.{Trace, Lent, askPlan, each, Written}
+use Rattle.rolling.specs.Fixed.{boundsAt, bounds, fixedRefusal, CalledFixed}
+use Rattle.rolling.specs.Reaching.{rightOf, reaching, rowsOf}
 use Rattle.rolling.proofs.Calls.{refused}
-
--- a call that says `false` is not one of fixed windows
-pub not-fixed : {A : Type 0} → false ≡ true → A
-not-fixed e = let z : _≡_ {A = ℕ} 0 1 = cc in absurd (omega arith)
 
 -- ---- a row of either kind, by what `row_start` and `row_end` answer
 module _ (left right n : ℕ) (starts ends : List ℕ) where
@@ -45,13 +42,13 @@ module _ (left right n : ℕ) (starts ends : List ℕ) where
 
     -- a plan's lists have the row, and a fixed window's place is one of the series
     pub start-listed : (fixed : Bool) → k < rows (rowsOf fixed left right n starts ends) → fixed ≡ false → k < length starts
-    start-listed true h e = not-fixed (sym e)
+    start-listed true h e = apart (sym e)
     start-listed false h e = h
 
     pub end-listed : (fixed : Bool) (w : ℕ) → Planned n w (rowsOf fixed left right n starts ends) → k < rows (rowsOf fixed left right n starts ends)
         → (fixed ≡ false → k < length ends) × (fixed ≡ true → k ≤ n)
-    end-listed true w p h = let i : k < n = rw (table-length (λ i. i - left) n) at h in (λ e. not-fixed (sym e), λ e. omega arith)
-    end-listed false w p h = let i = p .same in (λ e. omega arith, λ e. not-fixed e)
+    end-listed true w p h = let i : k < n = rw (table-length (λ i. i - left) n) at h in (λ e. apart (sym e), λ e. omega arith)
+    end-listed false w p h = let i = p .same in (λ e. omega arith, λ e. apart e)
 
 -- ---- rows that reach `left` places before their own and `right` from it on
 module _ (left right n : ℕ) where
@@ -61,7 +58,7 @@ module _ (left right n : ℕ) where
   abbrev E : ℕ → ℕ
   E i = min n (i + right)
 
-  pub reaching-planned : (w : ℕ) → min (left + right) n ≤ w → Planned n w (reaching left right n)
+  reaching-planned : (w : ℕ) → min (left + right) n ≤ w → Planned n w (reaching left right n)
   reaching-planned w h =
       let l = table-length S n in
       record {
@@ -88,7 +85,7 @@ module _ (left right n : ℕ) where
       go (here l) = let z : (n - 1) - left ≡ 0 = omega arith in some-wide (n - 1) (omega arith) (rw z (omega arith))
       go (there l) = let z : left - left ≡ 0 = omega arith in some-wide left l (rw z (omega arith))
 
-  pub reaching-widest : ((1 ≤ left + right) → 1 ≤ right) → widest (reaching left right n) n ≡ min (left + right) n
+  reaching-widest : ((1 ≤ left + right) → 1 ≤ right) → widest (reaching left right n) n ≡ min (left + right) n
   reaching-widest f = go (eqb (left + right) 0) refl (eqb n 0) refl
     where
       under : widest (reaching left right n) n ≤ min (left + right) n
@@ -152,7 +149,7 @@ module _ (center : Bool) (size n : ℕ) where
         table-same (λ i. boundsAt center size n i .1) (λ i. min n (i + right)) n (λ i h. bounds-at i h .1),
       )
 
-  pub bounds-planned : Planned n (min size n) (bounds center size n)
+  bounds-planned : Planned n (min size n) (bounds center size n)
   bounds-planned = let r = right-le in rw bounds-reach (reaching-planned left right n (min size n) (omega arith))
 
   pub bounds-rows : rows (bounds center size n) ≡ n

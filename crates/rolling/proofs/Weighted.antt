@@ -22,14 +22,16 @@ use Rattle.moment.proofs.Weights.{at-zero}
 use Rattle.window.specs.Rows.{table}
 use Rattle.window.specs.Refusals.{filled}
 use Rattle.window.specs.Readings.{readingOf}
-use Rattle.window.proofs.Places.{Or, here, there, order}
+use Rattle.window.proofs.Places.{apart, Or, here, there, order}
 use Rattle.window.proofs.Tables.{table-length, table-place, table-behind, table-more, table-same}
 use Rattle.window.proofs.Plans.{neither}
 use Rattle.rolling.specs.Calls.{Trace}
-use Rattle.rolling.specs.Fixed.{boundsAt, rightOf}
-use Rattle.rolling.specs.Weights.{Sums, noSums, plus, totalOf, varianceOf, computeVarWeights, weightsStart, aligned, weightedAt, weightsRefusal, CalledWeights, sumsOf, reached, Block, SumsUpTo, answerBy, answerAt, weightedBy}
+use Rattle.rolling.specs.Fixed.{boundsAt}
+use Rattle.rolling.specs.Reaching.{rightOf}
+use Rattle.rolling.specs.Weights.{Sums, noSums, plus, totalOf, varianceOf, computeVarWeights, weightsStart, aligned, weightedAt, weightsRefusal, CalledWeights}
+use Rattle.rolling.specs.WeightedSums.{sumsOf, reached, Block, SumsUpTo, answerOfVariance, answerOfSums, weightedBy}
 use Rattle.rolling.proofs.Calls.{unfilled}
-use Rattle.rolling.proofs.Fixed.{not-fixed, bounds-at}
+use Rattle.rolling.proofs.Fixed.{bounds-at}
 
 -- ---- one place more of a list of sums
 pub gains : (f : ℕ → Float) (t : Float) (l₀ l : List Float) (k : ℕ) → f k ≡ getD l₀ k nan ⊕ t → k < length l₀ → l ≡ table f k ++ drop k l₀ →
@@ -120,7 +122,7 @@ module _ (values weights : List Float) (total : Float) (left : ℕ) where
     -- the sums of a block's rows after the next weight
     module _ (first rows : ℕ) {wssq wsum wtot : List Float} (held : SumsUpTo values weights total left first rows j wssq wsum wtot) where
       -- where no row has a place for it
-      pub sums-idle : ((r : ℕ) → r < rows → Or (first + r + j < left) (length values + left ≤ first + r + j)) →
+      sums-idle : ((r : ℕ) → r < rows → Or (first + r + j < left) (length values + left ≤ first + r + j)) →
           SumsUpTo values weights total left first rows (j + 1) wssq wsum wtot
       sums-idle none =
           record {
@@ -166,7 +168,7 @@ module _ (values weights : List Float) (total : Float) (left : ℕ) where
                 place r o u,
               )
 
-        pub sums-gained : {wssq' wsum' wtot' ssq sum tot : List Float} →
+        sums-gained : {wssq' wsum' wtot' ssq sum tot : List Float} →
             wssq' ≡ putMid a (b - a) wssq ssq → ssq ≡ table (λ r. getD (midOf a (b - a) wssq) r nan ⊕ ((getD Part r nan ⊗ getD Part r nan) ⊗ w)) (length Part) →
             wsum' ≡ putMid a (b - a) wsum sum → sum ≡ table (λ r. getD (midOf a (b - a) wsum) r nan ⊕ (getD Part r nan ⊗ w)) (length Part) →
             wtot' ≡ putMid a (b - a) wtot tot → tot ≡ table (λ r. getD (midOf a (b - a) wtot) r nan ⊕ w) (length Part) →
@@ -249,12 +251,12 @@ module _ (values weights : List Float) (total : Float) (left j first until from 
       let w : B - A ≡ (to + j - left) - (from + j - left) = omega arith in
       mid-len A B l (omega arith) ∙ w ∙ sym (mid-len (from + j - left) (to + j - left) values (omega arith))
 
-  pub weighed : from < to → {wssq' wsum' wtot' ssq sum tot : List Float} →
+  pub weighed-some : from < to → {wssq' wsum' wtot' ssq sum tot : List Float} →
       wssq' ≡ putMid A (B - A) wssq ssq → ssq ≡ table (λ r. getD (midOf A (B - A) wssq) r nan ⊕ ((getD Values r nan ⊗ getD Values r nan) ⊗ W)) (length Values) →
       wsum' ≡ putMid A (B - A) wsum sum → sum ≡ table (λ r. getD (midOf A (B - A) wsum) r nan ⊕ (getD Values r nan ⊗ W)) (length Values) →
       wtot' ≡ putMid A (B - A) wtot tot → tot ≡ table (λ r. getD (midOf A (B - A) wtot) r nan ⊕ W) (length Values) →
       SumsUpTo values weights total left first (until - first) (j + 1) wssq' wsum' wtot'
-  weighed h =
+  weighed-some h =
       let t = high .1 (omega arith) in
       let f = block .few in
       let x = low .0 in
@@ -290,15 +292,15 @@ module _ (values weights : List Float) (total : Float) (left first until : ℕ) 
 
   module _ (right minPeriods : ℕ) (whole : left + right ≡ length weights) {wssq wsum wtot : List Float}
       (held : SumsUpTo values weights total left first (until - first) (length weights) wssq wsum wtot) where
-    row-done : (r : ℕ) → r < until - first → answerAt (length values) left right minPeriods first wssq wsum wtot r ≡ weightedBy values weights total left right minPeriods (first + r)
+    row-done : (r : ℕ) → r < until - first → answerOfSums (length values) left right minPeriods first wssq wsum wtot r ≡ weightedBy values weights total left right minPeriods (first + r)
     unfolding weightedBy
     row-done r h =
         let z : first + r + length weights - left ≡ first + r + right = omega arith in
-        ap (λ (s : Sums). answerBy (length values) left right minPeriods (first + r) (varianceOf s))
+        ap (λ (s : Sums). answerOfVariance (length values) left right minPeriods (first + r) (varianceOf s))
         (held .sums-are r h ∙ ap (λ (i : ℕ). sumsOf values weights total left (first + r) (min (length values) i - (first + r - left))) z)
 
     -- the answers of a block, by any part of an answer
-    pub block-done : {A : Type 0} (part : Figure → A) {l : List A} {m : ℕ} → l ≡ table (λ r. part (answerAt (length values) left right minPeriods first wssq wsum wtot r)) m → m ≡ until - first →
+    pub block-done : {A : Type 0} (part : Figure → A) {l : List A} {m : ℕ} → l ≡ table (λ r. part (answerOfSums (length values) left right minPeriods first wssq wsum wtot r)) m → m ≡ until - first →
         l ≡ table (λ r. part (weightedBy values weights total left right minPeriods (first + r))) (until - first)
     block-done part e m = e ∙ ap (table _) m ∙ table-same _ _ (until - first) (λ r h. ap part (row-done r h))
 
@@ -326,9 +328,9 @@ module _ (center : Bool) (size n k : ℕ) (some : 1 ≤ size) (inside : k < n) w
           at true e = let z = eqb-true (k - (size - 1)) 0 e in omega arith
           at false e = let z = eqb-false (k - (size - 1)) 0 e in omega arith
 
-pub weighted-at : (center : Bool) (size minPeriods k : ℕ) (weights values : List Float) (right : ℕ) (total : Float) → 1 ≤ size → k < length values → right ≡ rightOf center size → total ≡ totalOf weights →
+weighted-at : (center : Bool) (size minPeriods k : ℕ) (weights values : List Float) (right : ℕ) (total : Float) → 1 ≤ size → k < length values → right ≡ rightOf center size → total ≡ totalOf weights →
     weightedBy values weights total (size - right) right minPeriods k ≡ weightedAt center size minPeriods weights values k
-unfolding weightedBy weightedAt answerBy sumsOf computeVarWeights
+unfolding weightedBy weightedAt answerOfVariance sumsOf computeVarWeights
 weighted-at center size minPeriods k weights values right total some inside e t =
     let n = length values in
     let R = rightOf center size in
@@ -353,7 +355,7 @@ rows-done center size minPeriods weights values right total some e t {A} part l�
 
 -- no weights have the sum zero
 some-weights : (l : List Float) → eq (totalOf l) zero64 ≡ false → 1 ≤ length l
-some-weights [] e = not-fixed (sym (sym (at-zero zero64 0 (lit≤ tt) zero-is) ∙ e))
+some-weights [] e = apart (sym (sym (at-zero zero64 0 (lit≤ tt) zero-is) ∙ e))
 some-weights (w ∷ l) e = omega arith
 
 -- what is known of a weighted call that is accepted, over n places with so many weights

@@ -1,5 +1,5 @@
 -- Document 01, "A plan call, from bytes to figures": what a call without weights is given, what it answers and what it leaves in
--- the lists that it is lent. The contract of each call of this crate is one of the records below. Assumes nothing.
+-- the lists that it is lent. The contract of each plan call of this crate is one of the records below. Assumes nothing.
 use Prim.Native.Nat.{ℕ, _/_, _%_}
 use mathlib.Core.Path.{_≡_}
 use mathlib.Core.Bool.{Bool, false, not}

@@ -25,7 +25,8 @@ detOffsetsCenter i windowSize len =
 abbrev pub boundsAt : Bool → ℕ → ℕ → ℕ → ℕ × ℕ
 boundsAt center windowSize n i = cond center (detOffsetsCenter i windowSize n) (detOffsets i windowSize)
 
--- the bounds of one row, for a caller who asks for them alone; past the last row the window is empty, at the end
+-- Not in document 01: the bounds of one row, for a caller who asks for them alone. Past the last row, where the source goes on
+-- counting, the window is empty, at the end.
 abbrev pub offsetsAt : Bool → ℕ → ℕ → ℕ → ℕ × ℕ
 offsetsAt center windowSize n i = cond (ltb i n) (boundsAt center windowSize n i) (n, n)
 
@@ -47,16 +48,3 @@ pub record CalledFixed (center : Bool) (windowSize minPeriods : ℕ) (figure : A
   pub number-is : number
       ≡ fixedRefusal (each figure) (length (t .readings)) (t .mapped) (t .map) windowSize (length (l₀ .figures)) (length (l₀ .present)) (length (l₀ .work))
   pub plan-call : Called (askPlan (bounds center windowSize (length (t .readings))) minPeriods figure) t l₀ l₁ number
-
--- ---- what the private contracts of the row loops say, which serve both kinds of calls; no promise rests on it
--- how many places from its own on a fixed window reaches
-unfoldable pub rightOf : Bool → ℕ → ℕ
-rightOf center windowSize = cond center ((windowSize + 1) / 2) (min windowSize 1)
-
--- the n rows that start `left` places before their own and end `right` places from it on
-abbrev pub reaching : ℕ → ℕ → ℕ → Plan
-reaching left right n = planOf (table (λ i. i - left) n) (table (λ i. min n (i + right)) n)
-
--- the rows of a call over n places, of fixed windows or as they are listed
-abbrev pub rowsOf : Bool → ℕ → ℕ → ℕ → List ℕ → List ℕ → Plan
-rowsOf fixed left right n starts ends = cond fixed (reaching left right n) (planOf starts ends)

@@ -1,5 +1,5 @@
 -- Document 01, "Weights (002, 004)": a weighted variance over fixed windows. Assumes nothing.
-use Prim.Native.Nat.{ℕ, _+_, _-_, _/_, _≤_, _<_, min}
+use Prim.Native.Nat.{ℕ, _+_, _-_, _/_}
 use mathlib.Core.Path.{_≡_}
 use mathlib.Core.Bool.{Bool, cond, not, _||_}
 use mathlib.Core.List.{List, foldl}
@@ -28,6 +28,7 @@ pub record Sums : Type 0 where
   pub wsum : Float
   pub wtot : Float
 
+-- where the fold starts
 abbrev pub noSums : Sums
 noSums = record { wssq = zero64; wsum = zero64; wtot = zero64 }
 
@@ -82,48 +83,3 @@ pub record CalledWeights (center : Bool) (windowSize minPeriods : ℕ) (weights 
       ≡ weightsRefusal (length (t .readings)) (t .mapped) (t .map) windowSize (length weights) (totalOf weights) (length figures₀) (length present₀)
   pub figures-are : figures₁ ≡ filled number (λ i. doubleOf (weightedAt center windowSize minPeriods weights (t .readings) i)) (length (t .readings)) figures₀
   pub present-are : present₁ ≡ filled number (λ i. byteOf (weightedAt center windowSize minPeriods weights (t .readings) i)) (length (t .readings)) present₀
-
--- ---- what the private contracts of the code say; no promise rests on it. Row k's window starts at place k - left and has a weight j
--- for place k + j - left
--- the sums of the first c places of row k
-unfoldable pub sumsOf : List Float → List Float → Float → ℕ → ℕ → ℕ → Sums
-unfolding table
-sumsOf values weights total left k c =
-    foldl plus noSums (table (λ i. (readingOf values ((k - left) + i), getD weights ((left - k) + i) nan ⊘ total)) c)
-
--- how many of row k's n places at most have one of the first j weights
-abbrev pub reached : ℕ → ℕ → ℕ → ℕ → ℕ
-reached n left k j = min n ((k + j) - left) - (k - left)
-
--- the rows from `first` up to `until` of a series of n places, at most 32, whose windows start `left` places before their own
-pub record Block (n weights left first until : ℕ) : Type 0 where
-  pub some : first < until
-  pub few : until ≤ first + 32
-  pub inside : until ≤ n
-  pub series : n ≤ 16777216
-  pub before : left < weights
-
--- the sums of so many rows from `first` on, in three lists, after the first j weights
-pub record SumsUpTo (values weights : List Float) (total : Float) (left first rows j : ℕ) (wssq wsum wtot : List Float) : Type 0 where
-  pub wssq-long : length wssq ≡ 32
-  pub wsum-long : length wsum ≡ 32
-  pub wtot-long : length wtot ≡ 32
-  pub sums-are : (r : ℕ) → r < rows →
-      _≡_ {A = Sums} (record { wssq = getD wssq r nan; wsum = getD wsum r nan; wtot = getD wtot r nan })
-      (sumsOf values weights total left (first + r) (reached (length values) left (first + r) j))
-
--- row k's answer, of its variance
-unfoldable pub answerBy : ℕ → ℕ → ℕ → ℕ → ℕ → Float → Figure
-answerBy n left right minPeriods k variance = cond (ltb (min n (k + right) - (k - left)) minPeriods) Missing (Present variance)
-
--- the answer of row first + r, of the sums in place r of three lists
-abbrev pub answerAt : ℕ → ℕ → ℕ → ℕ → ℕ → List Float → List Float → List Float → ℕ → Figure
-answerAt n left right minPeriods first wssq wsum wtot r =
-    answerBy n left right minPeriods (first + r) (varianceOf (record { wssq = getD wssq r nan; wsum = getD wsum r nan; wtot = getD wtot r nan }))
-
--- row k's answer, of all its places
-unfoldable pub weightedBy : List Float → List Float → Float → ℕ → ℕ → ℕ → ℕ → Figure
-unfolding answerBy varianceOf sumsOf
-weightedBy values weights total left right minPeriods k =
-    answerBy (length values) left right minPeriods k
-    (varianceOf (sumsOf values weights total left k (min (length values) (k + right) - (k - left))))

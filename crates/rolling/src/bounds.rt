@@ -1,13 +1,16 @@
 // The rows of a call: of a plan as its lists have them, of fixed windows as 006's `det_offsets` and `det_offsets_center` have them, and
 // the checks of a call with fixed windows.
 ghost use mathlib.Core.Path.{_≡_};
-ghost use mathlib.Core.Bool.{true, false, cond};
+ghost use mathlib.Core.Bool.{Bool, true, false, cond};
 ghost use Prim.Native.Nat.{min, _+_, _-_, _≤_, _<_};
 ghost use lib.ListN.{length, getD};
 ghost use Rattle.window.specs.Stacks.{Accepted};
-ghost use Rattle.rolling.specs.Fixed.{bounds, fixedRefusal, rightOf};
+ghost use Rattle.rolling.specs.Fixed.{bounds, fixedRefusal};
+ghost use Rattle.rolling.specs.Reaching.{rightOf};
 use crate::plan;
 use crate::plan::Checked;
+
+const BLOCK: usize = 32;
 
 fn smaller(a: usize, b: usize) -> usize
     ensures { λ r. ⌜ r ≡ min a b ⌝ }
@@ -25,7 +28,7 @@ pub(crate) fn right_window(center: bool, window_size: usize) -> usize
     smaller(window_size, 1)
 }
 
-// How many rows there are.
+// The rows of fixed windows, one a place, or as many as are listed.
 pub(crate) fn rows(fixed: bool, n: usize, listed: usize) -> usize
     ensures { λ r. ⌜ r ≡ cond fixed n listed ⌝ }
 {
@@ -69,13 +72,23 @@ pub(crate) fn row_end(fixed: bool, right: usize, n: usize, ends: &[u32], row: us
     plan::place(ends[row])
 }
 
-// Whether a call with fixed windows is accepted. A place of the widest window needs `each` doubles of the work slice, which has `work`.
+// Where the block that begins with row `first` ends, of rows that are worked 32 at a time.
+pub(crate) fn block_end(first: usize, rows: usize) -> usize
+    requires { ⌜ first < rows ⌝ }
+    ensures { λ r. ⌜ (first < r) × (r ≤ rows) × (r ≤ first + 32) ⌝ }
+{
+    if rows - first <= BLOCK {
+        return rows;
+    }
+    first + BLOCK
+}
+
+// Whether a call with fixed windows is accepted, trailing or centred alike. A place of the widest window needs `each` doubles of the work slice, which has `work`.
 pub(crate) fn judge(
     each: usize,
     n: usize,
     has_map: bool,
     map: &[u8],
-    center: bool,
     window_size: usize,
     figures: usize,
     present: usize,
@@ -83,7 +96,7 @@ pub(crate) fn judge(
 ) -> Checked
     requires { ⌜ each ≤ 6 ⌝ }
     ensures { λ r. ⌜ (r .number ≡ fixedRefusal each n «has_map» (now (map .entry)) «window_size» figures present work)
-        × (r .number ≡ 0 → Accepted each n (bounds center «window_size» n) false figures present work (r .widest)) ⌝ }
+        × (r .number ≡ 0 → (center : Bool) → Accepted each n (bounds center «window_size» n) false figures present work (r .widest)) ⌝ }
 {
     let first = trace::first(
         trace::array_refusal(n, has_map, map),

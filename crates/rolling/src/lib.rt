@@ -1,8 +1,8 @@
 // Figures over moving windows: document 01's 001 to 006, driven by a plan or by fixed windows. A public function takes any lists;
 // what is below it is kept inside the crate.
+ghost use mathlib.Core.Path.{_≡_};
 ghost use Rattle.rolling.specs.Moments.{Variance, Skewness, Kurtosis};
 ghost use Rattle.rolling.specs.Calls.{ask, lent, traceOf, Called, CalledBytes};
-ghost use mathlib.Core.Path.{_≡_};
 ghost use Rattle.rolling.specs.Fixed.{CalledFixed, offsetsAt};
 ghost use Rattle.rolling.specs.Weights.{CalledWeights};
 use crate::kurtosis::KurtosisMoment;
@@ -362,7 +362,6 @@ pub fn rolling_var(
         values.len(),
         has_map,
         map,
-        center,
         window_size,
         figures.len(),
         present.len(),
@@ -372,6 +371,7 @@ pub fn rolling_var(
         return checked.number;
     }
     let right = bounds::right_window(center, window_size);
+    // no row of fixed windows reads a list
     let none = [0u32; 1];
     let moment = VarianceMoment { ddof };
     moment.rows(
@@ -413,7 +413,6 @@ pub fn rolling_skew(
         values.len(),
         has_map,
         map,
-        center,
         window_size,
         figures.len(),
         present.len(),
@@ -423,6 +422,7 @@ pub fn rolling_skew(
         return checked.number;
     }
     let right = bounds::right_window(center, window_size);
+    // no row of fixed windows reads a list
     let none = [0u32; 1];
     let moment = SkewMoment { bias };
     moment.rows(
@@ -465,7 +465,6 @@ pub fn rolling_kurtosis(
         values.len(),
         has_map,
         map,
-        center,
         window_size,
         figures.len(),
         present.len(),
@@ -475,6 +474,7 @@ pub fn rolling_kurtosis(
         return checked.number;
     }
     let right = bounds::right_window(center, window_size);
+    // no row of fixed windows reads a list
     let none = [0u32; 1];
     let moment = KurtosisMoment { fisher, bias };
     moment.rows(

@@ -1,4 +1,4 @@
-// One row of a plan: whether it moves the window, whether it has enough readings, and how its answer is written.
+// One row: whether it moves the window, whether it has enough readings, and how its answer is written.
 ghost use mathlib.Core.Path.{_≡_};
 ghost use mathlib.Core.Bool.{cond};
 ghost use Prim.Native.Nat.{_-_, _≤_, _<_};

@@ -18,7 +18,7 @@ ghost use Rattle.window.specs.Stacks.{inMemory, frontStack, account, Counted, L
 ghost use Rattle.rolling.specs.Moments.{Skewness, skewLayout, skewness};
 ghost use Rattle.rolling.specs.Slots.{Corrections, Weighed, m2Of, m3Of, leastOf, estimate, doubleAt, pendingOf, Waits, BlockFilled};
 ghost use Rattle.rolling.specs.Calls.{askPlan, lent, traceOf, Written};
-ghost use Rattle.rolling.specs.Fixed.{rowsOf};
+ghost use Rattle.rolling.specs.Reaching.{rowsOf};
 use crate::bounds;
 use crate::leaving;
 use crate::leaving::Left;
@@ -57,10 +57,8 @@ impl SkewMoment {
 
     pub const PLACE: usize = SkewMoment::STATE + SkewMoment::ENTRY;
 
-    // Counts whose correction is kept, and rows that are finalised together.
+    // Counts whose correction is kept.
     const KEPT: usize = 256;
-
-    const BLOCK: usize = 32;
 
     fn empty() -> SkewState
         ensures { λ r. ⌜ r ≡ skewEmpty ⌝ }
@@ -475,17 +473,6 @@ impl SkewMoment {
         self.estimates(m2s, m3s, factors, roots, out);
     }
 
-    // Where the block that begins with row `first` ends. Rows are finalised together, so that their roots run side by side.
-    fn block_end(first: usize, rows: usize) -> usize
-        requires { ⌜ first < rows ⌝ }
-        ensures { λ r. ⌜ (first < r) × (r ≤ rows) × (r ≤ first + 32) ⌝ }
-    {
-        if rows - first <= SkewMoment::BLOCK {
-            return rows;
-        }
-        first + SkewMoment::BLOCK
-    }
-
     // The rows of a block, from `first` up to `until`: the window after them, with their bytes and slots written.
     fn block(
         self,
@@ -599,7 +586,7 @@ impl SkewMoment {
         let rows = bounds::rows(fixed, values.len(), starts.len());
         let mut first: usize = 0;
         while first < rows {
-            let until = SkewMoment::block_end(first, rows);
+            let until = bounds::block_end(first, rows);
             w = self.block(
                 values,
                 has_map,

@@ -14,7 +14,7 @@ ghost use Rattle.window.specs.Rows.{stepped};
 ghost use Rattle.window.specs.Stacks.{inMemory, frontStack, account, Counted, Leaves, Held, Pushed, topOf, answerBy, Movable, Moves, Accepted};
 ghost use Rattle.rolling.specs.Moments.{Variance, varLayout, variance};
 ghost use Rattle.rolling.specs.Calls.{askPlan, lent, traceOf, Written};
-ghost use Rattle.rolling.specs.Fixed.{rowsOf};
+ghost use Rattle.rolling.specs.Reaching.{rowsOf};
 use crate::bounds;
 use crate::leaving;
 use crate::leaving::Left;

@@ -5,17 +5,14 @@ ghost use mathlib.Core.List.{_++_};
 ghost use Prim.Native.Nat.{ℕ, _+_, _-_, _^_, _≤_, _<_};
 ghost use lib.ListN.{length, drop, getD};
 ghost use lib.Ieee.{nan};
-ghost use Rattle.float.specs.Operators.{_⊕_, _⊗_, _⊘_};
+ghost use Rattle.float.specs.Operators.{_⊕_, _⊗_};
 ghost use Rattle.moment.specs.Figure.{doubleOf, byteOf};
 ghost use Rattle.window.specs.Rows.{table};
-ghost use Rattle.rolling.specs.Fixed.{rightOf};
-ghost use Rattle.rolling.specs.Weights.{totalOf, weightsRefusal, varianceOf, weightedAt, Block, SumsUpTo, answerBy, answerAt, weightedBy};
+ghost use Rattle.rolling.specs.Weights.{totalOf, weightsRefusal, varianceOf, weightedAt};
+ghost use Rattle.rolling.specs.WeightedSums.{Block, SumsUpTo, answerOfVariance, answerOfSums, weightedBy};
 use crate::bounds;
 use crate::row;
 use moment::Figure;
-
-// Rows of a block.
-const BLOCK: usize = 32;
 
 // The number that refuses a call with so many weights of that sum, or 0.
 pub(crate) fn judge(
@@ -173,7 +170,7 @@ fn answer(
     variance: f64,
 ) -> Figure
     requires { ⌜ row ≤ n ⌝ }
-    ensures { λ r. ⌜ r ≡ answerBy n left right «min_periods» row variance ⌝ }
+    ensures { λ r. ⌜ r ≡ answerOfVariance n left right «min_periods» row variance ⌝ }
 {
     if bounds::end_of(right, n, row) - bounds::start_of(left, row) < min_periods {
         return Figure::Missing;
@@ -195,8 +192,8 @@ fn finish(
     present: &mut [u8],
 )
     requires { ⌜ (length (now present) ≡ length (now figures)) × (first + length (now figures) ≤ n) × (length (now figures) ≤ length (now wssq)) × (length (now figures) ≤ length (now wsum)) × (length (now figures) ≤ length (now wtot)) ⌝ }
-    ensures { λ _. ⌜ (now (figures .exit) ≡ table (λ r. doubleOf (answerAt n left right «min_periods» first (now (wssq .entry)) (now (wsum .entry)) (now (wtot .entry)) r)) (length (now (figures .entry))))
-        × (now (present .exit) ≡ table (λ r. byteOf (answerAt n left right «min_periods» first (now (wssq .entry)) (now (wsum .entry)) (now (wtot .entry)) r)) (length (now (figures .entry)))) ⌝ }
+    ensures { λ _. ⌜ (now (figures .exit) ≡ table (λ r. doubleOf (answerOfSums n left right «min_periods» first (now (wssq .entry)) (now (wsum .entry)) (now (wtot .entry)) r)) (length (now (figures .entry))))
+        × (now (present .exit) ≡ table (λ r. byteOf (answerOfSums n left right «min_periods» first (now (wssq .entry)) (now (wsum .entry)) (now (wtot .entry)) r)) (length (now (figures .entry)))) ⌝ }
 {
     let mut r = 0;
     while r < figures.len() {
@@ -259,17 +256,6 @@ fn block(
     );
 }
 
-// Where the block that begins with row `first` ends.
-fn block_end(first: usize, rows: usize) -> usize
-    requires { ⌜ first < rows ⌝ }
-    ensures { λ r. ⌜ (first < r) × (r ≤ rows) × (r ≤ first + 32) ⌝ }
-{
-    if rows - first <= BLOCK {
-        return rows;
-    }
-    first + BLOCK
-}
-
 // Every row of an accepted call.
 pub(crate) fn rows(
     values: &[f64],
@@ -288,7 +274,7 @@ pub(crate) fn rows(
     let left = weights.len() - right;
     let mut first: usize = 0;
     while first < values.len() {
-        let until = block_end(first, values.len());
+        let until = bounds::block_end(first, values.len());
         block(
             values,
             left,

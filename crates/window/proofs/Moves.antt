@@ -16,7 +16,7 @@ use Rattle.window.specs.Places.{Series, entries, validCount, nonfiniteCo
 use Rattle.window.specs.Window.{Account, Moment, restarted, left, front, back, rising}
 use Rattle.window.specs.Stacks.{inMemory, frontStack, account, Counted, Leaves, Held, Pushed}
 use Rattle.window.specs.declared.Window.{Window}
-use Rattle.window.proofs.Places.{Or, here, there, order, entries-self, entries-split, split-end, split-law, two-counts, stay-front, stay-back, flip-front, count-le, count-up, none-part}
+use Rattle.window.proofs.Places.{apart, Or, here, there, order, entries-self, entries-split, split-end, split-law, two-counts, stay-front, stay-back, flip-front, count-le, count-up, none-part}
 use Rattle.window.proofs.Stacks.{memory-length, memory-append, front-length, front-drop}
 
 -- ---- places leave: the numbers
@@ -221,7 +221,7 @@ module _ (M : Moment) where
       out-flipped agg' a = (go (leb (w .end) s) refl, out-rest)
         where
           go : (q : Bool) → leb (w .end) s ≡ q → Held M t base w' agg' work'
-          go true q = absurd (let e : _≡_ {A = Bool} false true = sym (gone .flips-is ∙ rw q) ∙ z in let y : _≡_ {A = ℕ} 0 1 = cc in omega arith)
+          go true q = apart (sym (gone .flips-is ∙ rw q) ∙ z)
           go false q =
               let c = held .numbers in
               let o = ltb-true (w .front) (validCount t (w .start) s) (sym (no-flip q) ∙ z) in

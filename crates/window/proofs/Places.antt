@@ -22,6 +22,10 @@ cond-same : (b : Bool) (x : ℕ) → cond b x x ≡ x
 cond-same true x = refl
 cond-same false x = refl
 
+-- false is not true
+pub apart : {A : Type 0} → false ≡ true → A
+apart e = let z : _≡_ {A = ℕ} 0 1 = cc in absurd (omega arith)
+
 pub data Or (A B : Type 0) : Type 0 where
   here : A → Or A B
   there : B → Or A B

@@ -15,10 +15,10 @@ use Rattle.trace.proofs.Accepted.{none-of, not-refused}
 use Rattle.window.specs.Rows.{Plan, rows, rowStart, rowEnd}
 use Rattle.window.specs.Refusals.{wrongLists, rowRefusal, before, rowsRefusal, widest, planRefusal}
 use Rattle.window.specs.Stacks.{Planned, Accepted}
-use Rattle.window.proofs.Places.{Or, here, there, order}
+use Rattle.window.proofs.Places.{apart, Or, here, there, order}
 
 pub neither : (a b : Bool) → (a || b) ≡ false → (a ≡ false) × (b ≡ false)
-neither true b e = absurd (let z : _≡_ {A = ℕ} 0 1 = cc in omega arith)
+neither true b e = apart (sym e)
 neither false b e = (refl, e)
 
 -- a number that refuses stands, whatever is tested after it

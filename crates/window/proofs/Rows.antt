@@ -19,7 +19,7 @@ use Rattle.window.specs.Window.{Account, Moment, front, moved, falling, 
 use Rattle.window.specs.Rows.{Plan, rows, rowStart, rowEnd, moves, stepped, accountAt, counted, answerOf, answerAt, table}
 use Rattle.window.specs.Stacks.{inMemory, frontStack, account, Held, topOf, answerBy, Ready, Planned, Standing}
 use Rattle.window.specs.declared.Window.{Window}
-use Rattle.window.proofs.Places.{two-counts, entries-self}
+use Rattle.window.proofs.Places.{apart, two-counts, entries-self}
 use Rattle.window.proofs.Stacks.{memory-append, front-length}
 use Rattle.window.proofs.Moves.{held-counts}
 use Rattle.window.proofs.Tables.{table-more}
@@ -147,8 +147,8 @@ module _ (M : Moment) (t : Series (M .Entry)) (minPeriods n widest : ℕ) (p : P
             }
 
         no-map : (b u : Bool) → (b || u) ≡ false → b ≡ true → ⊥
-        no-map true u f q = let z : _≡_ {A = ℕ} 0 1 = cc in omega arith
-        no-map false u f q = let z : _≡_ {A = ℕ} 0 1 = cc in omega arith
+        no-map true u f q = apart (sym f)
+        no-map false u f q = apart q
 
         go : (u : Bool) → moves (t .mapped) minPeriods k (rowStart p k) (rowEnd p k) ≡ u → Stepped w' k
         go true u = here-now (as-listed w' f ∙ rw u)

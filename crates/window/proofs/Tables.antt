@@ -53,7 +53,7 @@ table-same f g zero h = refl
 table-same f g (suc n) h = rw (table-same f g n (λ i k. h i (omega arith)), h n (omega arith))
 
 -- a table and, behind it, the values that follow
-pub table-join : {A : Type 0} (f g : ℕ → A) (n m : ℕ) → ((i : ℕ) → i < m → g i ≡ f (n + i)) → table f n ++ table g m ≡ table f (n + m)
+table-join : {A : Type 0} (f g : ℕ → A) (n m : ℕ) → ((i : ℕ) → i < m → g i ≡ f (n + i)) → table f n ++ table g m ≡ table f (n + m)
 unfolding table
 table-join f g n zero h = rw (append-nil, add-zero)
 table-join f g n (suc m) h =

@@ -24,7 +24,7 @@ slice-aggregate-rows-2 : tie.Need-slice-aggregate-rows-2
 slice-aggregate-rows-2 c = search needs
 
 rows-requires : tie.Need-rows-requires
-rows-requires c κs = reach-accepted _ _ _ _ (c .before .before .before .before .before .right-window .ensures .0) (c .before .before .before .before .before .before .before .before .judge .ensures .1 (c .before .before .before .before .before .before .if1 .left))
+rows-requires c κs = reach-accepted _ _ _ _ (c .before .before .before .before .before .right-window .ensures .0) (c .before .before .before .before .before .before .before .before .judge .ensures .1 (c .before .before .before .before .before .before .if1 .left) _)
 
 same-length : tie.Need-same-length
 same-length c = search needs

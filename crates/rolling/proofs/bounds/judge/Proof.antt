@@ -1,6 +1,6 @@
 -- The number is put together as it is defined, and the bounds of a call that is accepted are a plan in order. Assumes nothing.
 use mathlib.Core.Path.{_≡_, sym, ap, _∙_}
-use mathlib.Core.Bool.{_||_}
+use mathlib.Core.Bool.{true, _||_}
 use native.Mathlib.Omega.{arith}
 use lib.Dec.{ltb}
 use Rattle.trace.specs.Refusals.{refusal, _orElse_, arrayRefusal}
@@ -32,7 +32,7 @@ returns : tie.Need-returns
 returns c =
     let a = c .before in
     let g = a .before .before .before .before .before .args in
-    (stops (g .center) (g .window-size) (g .n) (g .each) (g .has-map) (g .map .now) (g .figures) (g .present) (g .work) _ (first-is a) (c .if1 .taken), λ z. absurd (c .if1 .taken z))
+    (stops true (g .window-size) (g .n) (g .each) (g .has-map) (g .map .now) (g .figures) (g .present) (g .work) _ (first-is a) (c .if1 .taken), λ z b. absurd (c .if1 .taken z))
 
 smaller-requires : tie.Need-smaller-requires
 smaller-requires c κs = search needs
@@ -42,7 +42,7 @@ mul-refuse c =
     let a = c .before .before in
     let s = a .before .before .before .before .before in
     let g = s .args in
-    let h = room-told (g .center) (g .window-size) (g .n) (g .each) (g .has-map) (g .map .now) (g .figures) (g .present) (g .work) _ (first-is a) (s .pre) (c .before .if1 .left) in
+    let h = room-told true (g .window-size) (g .n) (g .each) (g .has-map) (g .map .now) (g .figures) (g .present) (g .work) _ (first-is a) (s .pre) (c .before .if1 .left) in
     rw (c .smaller .ensures) (omega arith)
 
 refuse-requires-2 : tie.Need-refuse-requires-2
@@ -52,9 +52,9 @@ returns-2 : tie.Need-returns-2
 returns-2 c =
     let a = c .before .before .before in
     let g = a .before .before .before .before .before .args in
-    let e = goes-on (g .center) (g .window-size) (g .n) (g .each) (g .has-map) (g .map .now) (g .figures) (g .present) (g .work) _ (first-is a) _ (c .before .before .if1 .left)
+    let e = goes-on true (g .window-size) (g .n) (g .each) (g .has-map) (g .map .now) (g .figures) (g .present) (g .work) _ (first-is a) _ (c .before .before .if1 .left)
     (rw (c .before .smaller .ensures) at (c .refuse2 .ensures)) in
-    (e, λ z. rw (c .before .smaller .ensures) (fixed-accepted (g .center) (g .window-size) (g .n) (g .each) (g .has-map) (g .map .now) (g .figures) (g .present) (g .work) (sym e ∙ z)))
+    (e, λ z b. rw (c .before .smaller .ensures) (fixed-accepted b (g .window-size) (g .n) (g .each) (g .has-map) (g .map .now) (g .figures) (g .present) (g .work) (sym e ∙ z)))
 
 pub judge-spec : {M : Type 1} → statement M
 judge-spec =

@@ -2,7 +2,7 @@
 use Prim.Native.Nat.{_+_, _/_, _%_}
 use mathlib.Core.Path.{_≡_}
 use native.Mathlib.Omega.{arith}
-use Rattle.rolling.specs.Fixed.{rightOf}
+use Rattle.rolling.specs.Reaching.{rightOf}
 use borrow.Author.Needs.{needs}
 use Rattle.rolling.proofs.bounds.right_window.Statement.{statement}
 use Rattle.rolling.proofs.bounds.right_window.Tie as tie

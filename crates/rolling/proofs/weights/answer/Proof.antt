@@ -1,6 +1,6 @@
 -- By the window's length. Assumes nothing.
 use borrow.Author.Tests.{lt-ltb, le-ltb}
-use Rattle.rolling.specs.Weights.{answerBy}
+use Rattle.rolling.specs.WeightedSums.{answerOfVariance}
 use borrow.Author.Needs.{needs}
 use Rattle.rolling.proofs.weights.answer.Statement.{statement}
 use Rattle.rolling.proofs.weights.answer.Tie as tie
@@ -15,11 +15,11 @@ sub-if1 : tie.Need-sub-if1
 sub-if1 c = search needs
 
 returns : tie.Need-returns
-unfolding answerBy
+unfolding answerOfVariance
 returns c = rw (← c .before .before .end-of .ensures, ← c .before .start-of .ensures, lt-ltb _ _ (c .if1 .taken))
 
 returns-2 : tie.Need-returns-2
-unfolding answerBy
+unfolding answerOfVariance
 returns-2 c = rw (← c .before .before .end-of .ensures, ← c .before .start-of .ensures, le-ltb _ _ (c .if1 .left))
 
 pub answer-spec : {M : Type 1} → statement M

@@ -8,15 +8,15 @@ use lib.ListN.{length, drop, length-set}
 use Rattle.moment.specs.Figure.{doubleOf, byteOf}
 use Rattle.window.specs.Rows.{table}
 use Rattle.window.proofs.Tables.{table-more, table-over}
-use Rattle.rolling.specs.Weights.{answerBy, answerAt}
+use Rattle.rolling.specs.WeightedSums.{answerOfVariance, answerOfSums}
 use Rattle.rolling.proofs.weights.finish.Statement.{statement}
 use Rattle.rolling.proofs.weights.finish.Tie as tie
 
 abbrev Inv-loop : tie.InvT-loop
 Inv-loop n left right min-periods first wssq wsum wtot figures₀ present₀ r₀ figures present r =
     (r ≤ length figures₀) × (length figures ≡ length figures₀) × (length present ≡ length present₀)
-    × (figures ≡ table (λ i. doubleOf (answerAt n left right min-periods first wssq wsum wtot i)) r ++ drop r figures₀)
-    × (present ≡ table (λ i. byteOf (answerAt n left right min-periods first wssq wsum wtot i)) r ++ drop r present₀)
+    × (figures ≡ table (λ i. doubleOf (answerOfSums n left right min-periods first wssq wsum wtot i)) r ++ drop r figures₀)
+    × (present ≡ table (λ i. byteOf (answerOfSums n left right min-periods first wssq wsum wtot i)) r ++ drop r present₀)
 
 abbrev μ-loop : tie.MeasureT-loop
 μ-loop n left right min-periods first wssq wsum wtot figures₀ present₀ r₀ figures present r = length figures₀ - r
@@ -70,7 +70,7 @@ loop-again c =
     let p = s .pre .0 in
     let w = c .before .before .before .before .write .ensures in
     let y = c .before .before .before .before .before .before .before in
-    let e = y .answer .ensures ∙ ap (answerBy _ _ _ _ _) (y .before .variance .ensures) in (
+    let e = y .answer .ensures ∙ ap (answerOfVariance _ _ _ _ _) (y .before .variance .ensures) in (
       omega arith,
       ap length (w .0) ∙ simp length-set (v .1),
       ap length (w .1) ∙ simp length-set (v .2),

@@ -9,7 +9,7 @@ use lib.ListN.{length, drop}
 use Rattle.moment.specs.Figure.{doubleOf, byteOf}
 use Rattle.window.specs.Rows.{table}
 use Rattle.window.proofs.Tables.{table-part}
-use Rattle.rolling.specs.Weights.{weightedBy}
+use Rattle.rolling.specs.WeightedSums.{weightedBy}
 use Rattle.rolling.proofs.Fixed.{right-some}
 use Rattle.rolling.proofs.Weighted.{rows-done}
 use Rattle.rolling.proofs.weights.rows.Statement.{statement}

@@ -4,7 +4,7 @@ use mathlib.Core.Path.{_≡_}
 use native.Mathlib.Omega.{arith}
 use borrow.Author.Needs.{needs}
 use lib.ListN.{length}
-use Rattle.rolling.specs.Weights.{SumsUpTo}
+use Rattle.rolling.specs.WeightedSums.{SumsUpTo}
 use Rattle.rolling.proofs.weights.sums.Statement.{statement}
 use Rattle.rolling.proofs.weights.sums.Tie as tie
 

@@ -1,7 +1,7 @@
 -- The rows that have a place for the weight gain its term. Assumes nothing.
 use mathlib.Core.Path.{refl}
 use native.Mathlib.Omega.{arith}
-use Rattle.rolling.proofs.Weighted.{weighed-none, weighed-long, weighed}
+use Rattle.rolling.proofs.Weighted.{weighed-none, weighed-long, weighed-some}
 use borrow.Author.Needs.{needs}
 use Rattle.rolling.proofs.weights.weigh.Statement.{statement}
 use Rattle.rolling.proofs.weights.weigh.Tie as tie
@@ -117,7 +117,7 @@ returns-2 c =
     let l = i .before in
     let f = l .before in
     let s = f .before .before .before .before .before .before .before in
-    weighed _ _ _ _ _ _ _ _ _ (s .pre .0) (s .pre .2) (f .first-row .ensures) (l .last-row .ensures) (i .if1 .left)
+    weighed-some _ _ _ _ _ _ _ _ _ (s .pre .0) (s .pre .2) (f .first-row .ensures) (l .last-row .ensures) (i .if1 .left)
     refl (a .add .ensures .0) refl (a .add .ensures .1) refl (a .add .ensures .2)
 
 pub weigh-spec : {M : Type 1} → statement M

@@ -8,7 +8,7 @@ use Rattle.window.specs.Readings.{series, ofReadings}
 use Rattle.window.specs.Rows.{Plan, rows, rowStart, rowEnd}
 use Rattle.window.proofs.Rows.{row-ready, row-fits, row-inside, row-answer, stand-next}
 use Rattle.rolling.specs.Moments.{skewness}
-use Rattle.rolling.specs.Fixed.{rowsOf}
+use Rattle.rolling.specs.Reaching.{rowsOf}
 use Rattle.rolling.specs.Slots.{BlockFilled}
 use Rattle.rolling.proofs.Fixed.{start-is, end-is, start-listed, end-listed}
 use Rattle.rolling.proofs.Slots.{weighed}

@@ -1,16 +1,17 @@
 -- By whether the count's correction is kept. Assumes nothing.
-use Prim.Native.Nat.{ℕ, _%_, _<_}
-use mathlib.Core.Path.{_≡_, sym, ap, _∙_}
+use Prim.Native.Nat.{_%_, _<_}
+use mathlib.Core.Path.{sym, ap, _∙_}
 use native.Mathlib.Omega.{arith}
 use Rattle.float.specs.Operators.{count}
 use Rattle.moment.specs.Skew.{skewCorrection}
+use Rattle.window.proofs.Places.{apart}
 use Rattle.rolling.proofs.Slots.{taken-place}
 use borrow.Author.Needs.{needs}
 use Rattle.rolling.proofs.skew.SkewMoment.correction.Statement.{statement}
 use Rattle.rolling.proofs.skew.SkewMoment.correction.Tie as tie
 
 returns : tie.Need-returns
-returns c = (λ z. let e : _ = sym (c .if1 .taken) ∙ z in absurd (let y : _≡_ {A = ℕ} 0 1 = cc in omega arith), c .before .before .before .pre)
+returns c = (λ z. apart (sym z ∙ c .if1 .taken), c .before .before .before .pre)
 
 mul-if2 : tie.Need-mul-if2
 mul-if2 c = search needs

@@ -1,13 +1,13 @@
 -- One slot more. Assumes nothing.
 use Prim.Native.Nat.{_-_, _≤_}
 use mathlib.Core.Path.{_≡_, refl, _∙_}
-use mathlib.Core.List.{_++_, append-nil}
+use mathlib.Core.List.{_++_}
 use native.Mathlib.Omega.{arith}
 use borrow.Author.Needs.{needs}
-use lib.ListN.{length, drop, getD, length-set, drop-of-length-le}
+use lib.ListN.{length, drop, getD, length-set}
 use lib.Ieee.{nan}
 use Rattle.window.specs.Rows.{table}
-use Rattle.window.proofs.Tables.{table-more}
+use Rattle.window.proofs.Tables.{table-more, table-over}
 use Rattle.rolling.specs.Slots.{estimate}
 use Rattle.rolling.proofs.skew.SkewMoment.estimates.Statement.{statement}
 use Rattle.rolling.proofs.skew.SkewMoment.estimates.Tie as tie
@@ -84,10 +84,8 @@ returns c =
     let h = c .loop-test .left in
     let i = v .0 in
     let l = v .1 in
-    let o = c .before .before .before .before .before .before .before .args .out .now in
-    let e : c .before .loop .i ≡ length o = omega arith in
-    let z : length o ≤ length o = omega arith in
-    v .2 ∙ rw (e, drop-of-length-le o z, append-nil)
+    let e : c .before .loop .i ≡ length (c .before .before .before .before .before .before .before .args .out .now) = omega arith in
+    rw (← e) (v .2 ∙ table-over _ _ (c .before .loop .i) (omega arith))
 
 pub estimates-spec : {M : Type 1} → statement M
 estimates-spec =

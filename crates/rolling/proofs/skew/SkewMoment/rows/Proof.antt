@@ -12,7 +12,7 @@ use Rattle.window.specs.Readings.{series, ofReadings}
 use Rattle.window.specs.Rows.{Plan, rows}
 use Rattle.window.proofs.Rows.{Row, row-start, row-done}
 use Rattle.rolling.specs.Moments.{skewness}
-use Rattle.rolling.specs.Fixed.{rowsOf}
+use Rattle.rolling.specs.Reaching.{rowsOf}
 use Rattle.rolling.specs.Slots.{Corrections}
 use Rattle.rolling.proofs.Fixed.{rows-are}
 use Rattle.rolling.proofs.Slots.{first-places}

@@ -10,7 +10,7 @@ use Rattle.window.specs.Readings.{series, ofReadings}
 use Rattle.window.specs.Rows.{Plan, rows, rowStart, rowEnd}
 use Rattle.window.proofs.Rows.{Row, row-start, row-ready, row-fits, row-next, row-done}
 use Rattle.rolling.specs.Moments.{variance}
-use Rattle.rolling.specs.Fixed.{rowsOf}
+use Rattle.rolling.specs.Reaching.{rowsOf}
 use Rattle.rolling.proofs.Fixed.{rows-are, start-is, end-is, start-listed, end-listed}
 use Rattle.rolling.proofs.variance.VarianceMoment.rows.Statement.{statement}
 use Rattle.rolling.proofs.variance.VarianceMoment.rows.Tie as tie
