@@ -6,7 +6,7 @@ use mathlib.Core.Bool.{Bool, true, false, cond}
 use mathlib.Core.List.{List, [], _∷_, foldl, foldr}
 use native.Mathlib.Nat.{add-zero}
 use native.Mathlib.Omega.{arith}
-use borrow.Author.Tests.{ne-eqb}
+use borrow.Author.Tests.{eqb-false, ne-eqb}
 use lib.Dec.{T, eqb, leb, eqb→eq}
 use lib.ListN.{length}
 use lib.Ieee.{Float, eq, le}
@@ -17,7 +17,7 @@ use Rattle.moment.specs.declared.cov_state.CovState.{CovState}
 use Rattle.moment.specs.declared.pearson_state.PearsonState.{PearsonState}
 use Rattle.moment.specs.declared.skew_state.SkewState.{SkewState}
 use Rattle.moment.specs.declared.kurtosis_state.KurtosisState.{KurtosisState}
-use Rattle.moment.specs.Var.{varEmpty, varClear, varInsert, varMerge, varCombine}
+use Rattle.moment.specs.Var.{varEmpty, varClear, varInserted, varInsert, varMerged, varMerge, varCombine}
 use Rattle.moment.specs.Cov.{covInsert, covMerge, covCombine}
 use Rattle.moment.specs.Pearson.{pearsonInsert, pearsonMerge, pearsonCombine}
 use Rattle.moment.specs.Skew.{skewEmpty, skewClear, skewInserted, skewInsert, skewMerged, skewMerge, skewCombine}
@@ -33,19 +33,23 @@ pub at-most-ddof : (w : Float) (n ddof : ℕ) → n ≤ 2 ^ 53 → ddof < 256 �
 at-most-ddof w n ddof h k e = ap (λ (w : Float). le w (count ddof)) e ∙ count-le n ddof h (omega arith)
 
 -- ---- the law
+-- one reading more
+raised : (w : Float) (n : ℕ) → n < 2 ^ 53 → w ≡ count n → w ⊕ one64 ≡ count (n + 1)
+raised w n h e = ap (λ (w : Float). w ⊕ one64) e ∙ count-one n (omega arith)
+
 module _ {S A : Type 0} (weight : S → Float) (insert : S → A → S) (raises : (s : S) (x : A) → weight (insert s x) ≡ weight s ⊕ one64) where
   -- n entries put into a state of weight a give one of weight a + n
   pub inserts-count : (xs : List A) (s : S) (a : ℕ) → weight s ≡ count a → a + length xs ≤ 2 ^ 53 → weight (foldl insert s xs) ≡ count (a + length xs)
   inserts-count [] s a e h = e ∙ ap count (sym (add-zero a))
   inserts-count (x ∷ xs) s a e h =
-      inserts-count xs (insert s x) (a + 1) (raises s x ∙ ap (λ (w : Float). w ⊕ one64) e ∙ count-one a (omega arith)) (omega arith)
+      inserts-count xs (insert s x) (a + 1) (raises s x ∙ raised _ a (omega arith) e) (omega arith)
       ∙ ap count (let k : a + 1 + length xs ≡ a + suc (length xs) = omega arith in k)
 
   -- the same in falling order
   pub falls-count : (xs : List A) (s : S) → weight s ≡ count 0 → length xs ≤ 2 ^ 53 → weight (foldr (λ x t. insert t x) s xs) ≡ count (length xs)
   falls-count [] s e h = e
   falls-count (x ∷ xs) s e h =
-      raises _ x ∙ ap (λ (w : Float). w ⊕ one64) (falls-count xs s e (omega arith)) ∙ count-one (length xs) (omega arith)
+      raises _ x ∙ raised _ (length xs) (omega arith) (falls-count xs s e (omega arith))
       ∙ ap count (let k : length xs + 1 ≡ suc (length xs) = omega arith in k)
 
   -- a window: one part inserted in rising order, combined with another inserted in falling order
@@ -88,6 +92,10 @@ cleared : {S : Type 0} (weight : S → Float) (t : Bool) (s z : S) → weight z 
 cleared weight true s z e = e
 cleared weight false s z e = refl
 
+-- a state of one or more readings: its weight is not zero, so nothing is cleared
+uncleared : {S : Type 0} (weight : S → Float) (s z : S) (n : ℕ) → 0 < n → n ≤ 2 ^ 53 → weight s ≡ count n → s ≡ cond (eq (weight s) zero64) z s
+uncleared weight s z n k h e = rw (at-zero (weight s) n h e, ne-eqb n 0 (λ y. omega arith))
+
 -- ---- variance
 abbrev varWeight : VarState → Float
 varWeight s = s .weight
@@ -96,16 +104,34 @@ var-cleared : (s : VarState) → varClear s .weight ≡ s .weight
 unfolding varClear
 var-cleared s = cleared varWeight (eq (s .weight) zero64) s _ refl
 
+pub var-raises : (s : VarState) (x : Float) → varInsert s x .weight ≡ s .weight ⊕ one64
+var-raises s x = var-cleared _
+
+pub var-inserted : (s : VarState) (x : Float) (n : ℕ) → n < 2 ^ 53 → s .weight ≡ count n → varInserted s x ≡ varInsert s x
+unfolding varClear
+var-inserted s x n h e = uncleared varWeight (varInserted s x) _ (n + 1) (omega arith) (omega arith) (raised (s .weight) n h e)
+
 pub var-inserts-count : (xs : List Float) (s : VarState) (a : ℕ) → s .weight ≡ count a → a + length xs ≤ 2 ^ 53 → foldl varInsert s xs .weight ≡ count (a + length xs)
-var-inserts-count = inserts-count varWeight varInsert (λ s x. var-cleared _)
+var-inserts-count = inserts-count varWeight varInsert var-raises
 
 pub var-combine-count : (s o : VarState) (a b : ℕ) → a ≤ 2 ^ 53 → b ≤ 2 ^ 53 → s .weight ≡ count a → o .weight ≡ count b → varCombine s o .weight ≡ count (a + b)
 unfolding varCombine
 var-combine-count s o a b h k p q = merged-count varWeight s o (varMerge s o) a b h k p q (var-cleared _)
 
+-- which state `combine` answers, told by the count of the other; two states of readings have nothing to clear
+pub var-by-counts : (s o : VarState) (a b : ℕ) → a + b ≤ 2 ^ 53 → s .weight ≡ count a → o .weight ≡ count b → varCombine s o ≡ cond (eqb b 0) s (varMerged s o)
+unfolding varCombine varClear
+var-by-counts s o a b h p q = rw (at-zero (o .weight) b (omega arith) q) (go (eqb b 0) refl)
+  where
+    go : (t : Bool) → eqb b 0 ≡ t → cond t s (varMerge s o) ≡ cond t s (varMerged s o)
+    go true e = refl
+    go false e =
+        let n = eqb-false b 0 e in
+        sym (uncleared varWeight (varMerged s o) _ (a + b) (omega arith) h (merged varWeight s o (varMerged s o) a b (omega arith) (omega arith) p q refl))
+
 pub var-parts-count : (xs ys : List Float) → length xs + length ys ≤ 2 ^ 53 →
     varCombine (foldl varInsert varEmpty xs) (foldr (λ x s. varInsert s x) varEmpty ys) .weight ≡ count (length xs + length ys)
-var-parts-count = parts-count varWeight varInsert (λ s x. var-cleared _) varCombine var-combine-count varEmpty zero-is
+var-parts-count = parts-count varWeight varInsert var-raises varCombine var-combine-count varEmpty zero-is
 
 -- ---- skewness
 abbrev skewWeight : SkewState → Float
@@ -115,18 +141,18 @@ skew-cleared : (s : SkewState) → skewClear s .weight ≡ s .weight
 unfolding skewClear
 skew-cleared s = cleared skewWeight (eq (s .weight) zero64) s _ refl
 
--- one reading more: its weight is not zero, so nothing is cleared
+pub skew-raises : (s : SkewState) (x : Float) → skewInsert s x .weight ≡ s .weight ⊕ one64
+skew-raises s x = skew-cleared _
+
 pub skew-inserted : (s : SkewState) (x : Float) (n : ℕ) → n < 2 ^ 53 → s .weight ≡ count n → skewInserted s x ≡ skewInsert s x
 unfolding skewClear
-skew-inserted s x n h e =
-    let z = at-zero (s .weight ⊕ one64) (n + 1) (omega arith) (ap (λ (w : Float). w ⊕ one64) e ∙ count-one n (omega arith)) in
-    rw (z, ne-eqb (n + 1) 0 (λ y. omega arith))
+skew-inserted s x n h e = uncleared skewWeight (skewInserted s x) _ (n + 1) (omega arith) (omega arith) (raised (s .weight) n h e)
 
 pub skew-inserts-count : (xs : List Float) (s : SkewState) (a : ℕ) → s .weight ≡ count a → a + length xs ≤ 2 ^ 53 → foldl skewInsert s xs .weight ≡ count (a + length xs)
-skew-inserts-count = inserts-count skewWeight skewInsert (λ s x. skew-cleared _)
+skew-inserts-count = inserts-count skewWeight skewInsert skew-raises
 
 pub skew-falls-count : (xs : List Float) → length xs ≤ 2 ^ 53 → foldr (λ x s. skewInsert s x) skewEmpty xs .weight ≡ count (length xs)
-skew-falls-count xs h = falls-count skewWeight skewInsert (λ s x. skew-cleared _) xs skewEmpty zero-is h
+skew-falls-count xs h = falls-count skewWeight skewInsert skew-raises xs skewEmpty zero-is h
 
 pub skew-combine-count : (s o : SkewState) (a b : ℕ) → a ≤ 2 ^ 53 → b ≤ 2 ^ 53 → s .weight ≡ count a → o .weight ≡ count b → skewCombine s o .weight ≡ count (a + b)
 unfolding skewCombine
@@ -138,12 +164,9 @@ pub skew-by-counts : (s o : SkewState) (a b : ℕ) → a ≤ 2 ^ 53 → b ≤ 2 
 unfolding skewCombine
 skew-by-counts s o a b h k p q = rw (at-zero (o .weight) b k q, at-zero (s .weight) a h p)
 
--- two states of readings: their weight together is not zero, so nothing is cleared
 pub skew-merged : (s o : SkewState) (a b : ℕ) → a ≤ 2 ^ 53 → b ≤ 2 ^ 53 → a + b ≤ 2 ^ 53 → 0 < a + b → s .weight ≡ count a → o .weight ≡ count b → skewMerged s o ≡ skewMerge s o
 unfolding skewClear
-skew-merged s o a b h k l m p q =
-    let z = at-zero (s .weight ⊕ o .weight) (a + b) l (ap (λ (w : Float). w ⊕ o .weight) p ∙ ap (λ (w : Float). count a ⊕ w) q ∙ count-add a b h k) in
-    rw (z, ne-eqb (a + b) 0 (λ y. omega arith))
+skew-merged s o a b h k l m p q = uncleared skewWeight (skewMerged s o) _ (a + b) m l (merged skewWeight s o (skewMerged s o) a b h k p q refl)
 
 -- ---- kurtosis
 abbrev kurtosisWeight : KurtosisState → Float

@@ -30,22 +30,30 @@ varNew xs =
 unfoldable pub varClear : VarState → VarState
 varClear s = cond (eq (s .weight) zero64) (record { weight = s .weight; mean = zero64; dp = zero64 }) s
 
--- `VarState::insert_one`
-abbrev pub varInsert : VarState → Float → VarState
-varInsert s x =
+-- `VarState::insert_one`, before its clear_zero_weight_nan
+abbrev pub varInserted : VarState → Float → VarState
+varInserted s x =
     let w = s .weight ⊕ one64 in
     let delta = x ⊖ s .mean in
     let mean = s .mean ⊕ delta ⊘ w in
-    varClear record { weight = w; mean = mean; dp = s .dp ⊕ (x ⊖ mean) ⊗ delta }
+    record { weight = w; mean = mean; dp = s .dp ⊕ (x ⊖ mean) ⊗ delta }
 
--- `VarState::combine`, where the other weight is not zero
-abbrev pub varMerge : VarState → VarState → VarState
-varMerge s o =
+-- `VarState::insert_one`
+abbrev pub varInsert : VarState → Float → VarState
+varInsert s x = varClear (varInserted s x)
+
+-- `VarState::combine` after its test of the other weight and before its clear_zero_weight_nan
+abbrev pub varMerged : VarState → VarState → VarState
+varMerged s o =
     let w = s .weight ⊕ o .weight in
     let frac = o .weight ⊘ w in
     let delta = o .mean ⊖ s .mean in
     let mean = s .mean ⊕ delta ⊗ frac in
-    varClear record { weight = w; mean = mean; dp = s .dp ⊕ (o .dp ⊕ o .weight ⊗ (o .mean ⊖ mean) ⊗ delta) }
+    record { weight = w; mean = mean; dp = s .dp ⊕ (o .dp ⊕ o .weight ⊗ (o .mean ⊖ mean) ⊗ delta) }
+
+-- `VarState::combine`, where the other weight is not zero
+abbrev pub varMerge : VarState → VarState → VarState
+varMerge s o = varClear (varMerged s o)
 
 -- `VarState::combine`: an empty state is merged into like any other (P3)
 unfoldable pub varCombine : VarState → VarState → VarState

@@ -1,7 +1,7 @@
 // Variance: the source's `VarState`.
 ghost use mathlib.Core.Path.{_≡_};
 ghost use Rattle.float.specs.Operators.{zero64};
-ghost use Rattle.moment.specs.Var.{varEmpty, varNew, varInsert, varMerge, varCombine, notNegative, varFinalize};
+ghost use Rattle.moment.specs.Var.{varEmpty, varNew, varInserted, varInsert, varMerged, varCombine, notNegative, varFinalize};
 use crate::Figure;
 use crate::sums;
 
@@ -54,13 +54,11 @@ impl VarState {
         }
     }
 
-    pub fn insert_one(self, x: f64) -> Self
-        ensures { λ r. ⌜ r ≡ varInsert self x ⌝ }
+    // `insert_one` before its `clear_zero_weight_nan`, which changes nothing where the weight counts readings.
+    pub fn inserted(self, x: f64) -> Self
+        ensures { λ r. ⌜ r ≡ varInserted self x ⌝ }
     {
         let new_weight = self.weight + 1.0;
-        if new_weight == 0.0 {
-            return VarState::zero_weight(new_weight);
-        }
         let delta_mean = x - self.mean;
         let new_mean = self.mean + delta_mean / new_weight;
         VarState {
@@ -70,14 +68,21 @@ impl VarState {
         }
     }
 
-    // `combine` after its tests of weights.
-    fn merged(self, other: VarState) -> Self
-        ensures { λ r. ⌜ r ≡ varMerge self other ⌝ }
+    pub fn insert_one(self, x: f64) -> Self
+        ensures { λ r. ⌜ r ≡ varInsert self x ⌝ }
     {
-        let new_weight = self.weight + other.weight;
+        let new_weight = self.weight + 1.0;
         if new_weight == 0.0 {
             return VarState::zero_weight(new_weight);
         }
+        self.inserted(x)
+    }
+
+    // `combine` with another weight that is not zero, before its `clear_zero_weight_nan`.
+    pub fn merged(self, other: VarState) -> Self
+        ensures { λ r. ⌜ r ≡ varMerged self other ⌝ }
+    {
+        let new_weight = self.weight + other.weight;
         let other_weight_frac = other.weight / new_weight;
         let delta_mean = other.mean - self.mean;
         let new_mean = self.mean + delta_mean * other_weight_frac;
@@ -93,6 +98,10 @@ impl VarState {
     {
         if other.weight == 0.0 {
             return self;
+        }
+        let new_weight = self.weight + other.weight;
+        if new_weight == 0.0 {
+            return VarState::zero_weight(new_weight);
         }
         self.merged(other)
     }

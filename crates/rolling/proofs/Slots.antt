@@ -1,4 +1,4 @@
--- A window's weights count its readings, so a correction that is kept by the count is the weight's; a slot comes to the double
+-- The weight of a window's state is its count, so a correction that is kept by the count is the weight's; a slot comes to the double
 -- of its row's answer. Assumes nothing.
 use Prim.Native.Nat.{ℕ, _+_, _-_, _^_, _≤_, _<_}
 use mathlib.Core.Path.{_≡_, refl, sym, ap, _∙_}
@@ -17,8 +17,8 @@ use Rattle.moment.specs.Figure.{doubleOf, byteOf}
 use Rattle.moment.specs.declared.skew_state.SkewState.{SkewState}
 use Rattle.moment.specs.declared.Figure.{Figure}
 use Rattle.moment.specs.declared.Figure.the-variants.{Missing as Figure·Missing, Present}
-use Rattle.moment.specs.Skew.{skewEmpty, skewInserted, skewInsert, skewCombine, isZero, skewBiased, skewCorrection, skewFinalize}
-use Rattle.moment.proofs.Weights.{skew-inserted, skew-inserts-count, skew-falls-count, skew-combine-count}
+use Rattle.moment.specs.Skew.{skewCombine, isZero, skewBiased, skewCorrection, skewFinalize}
+use Rattle.moment.proofs.Weights.{skew-combine-count}
 use Rattle.moment.proofs.Figures.{skew-biased-missing, skew-unbiased-missing}
 use Rattle.window.specs.Places.{Series, entries}
 use Rattle.window.specs.Window.{front, back, orNan}
@@ -33,53 +33,16 @@ use Rattle.window.proofs.Tables.{table-same}
 use Rattle.rolling.specs.Moments.{skewness}
 use Rattle.rolling.specs.declared.skew.SkewPending.{SkewPending}
 use Rattle.rolling.specs.declared.skew.SkewPending.the-variants.{Missing, State}
-use Rattle.rolling.specs.Slots.{Corrections, Weighed, m2Of, m3Of, leastOf, estimate, doubleAt, pendingOf, Waits}
+use Rattle.rolling.specs.Weighed.{skewWeight, Weighed}
+use Rattle.rolling.specs.Slots.{Corrections, m2Of, m3Of, leastOf, estimate, doubleAt, pendingOf, Waits}
 
--- the weight of a window's back state, of both its states, and of the two combined
-pub rising-weight : (t : Series Float) (base : ℕ) (w : Window) (agg : SkewState) (work : List Float) → Held (ofReadings skewness) t base w agg work → w .back ≤ 2 ^ 53 →
-    agg .weight ≡ count (w .back)
-rising-weight t base w agg work held h =
-    let b = held .numbers .back-is in
-    let k : 0 + length (back t (account w)) ≡ w .back = omega arith in
-    ap (λ (s : SkewState). s .weight) (held .agg-is) ∙ skew-inserts-count (back t (account w)) skewEmpty 0 zero-is (omega arith) ∙ ap count k
-
-pub weighed : (t : Series Float) (base : ℕ) (w : Window) (agg : SkewState) (work : List Float) → Held (ofReadings skewness) t base w agg work →
-    w .front + w .back ≤ 2 ^ 53 → Weighed w agg work
-weighed t base w agg work held h =
-    let f = held .numbers .front-is in
-    record {
-      few = h;
-      back-is = rising-weight t base w agg work held (omega arith);
-      front-is = ap (λ (s : SkewState). s .weight) (top-is (ofReadings skewness) (λ z. Figure·Missing) t base w agg work held)
-          ∙ skew-falls-count (front t (account w)) (omega arith) ∙ ap count (sym f);
-    }
-
-pub total-weight : (w : Window) (agg : SkewState) (work : List Float) → Weighed w agg work →
+-- the weight of a window's two states combined
+pub total-weight : (w : Window) (agg : SkewState) (work : List Float) → Weighed skewness skewWeight w agg work →
     skewCombine agg (topOf (ofReadings skewness) work (w .front)) .weight ≡ count (w .front + w .back)
 total-weight w agg work q =
     let h = q .few in
     let k : w .back + w .front ≡ w .front + w .back = omega arith in
     skew-combine-count agg _ (w .back) (w .front) (omega arith) (omega arith) (q .back-is) (q .front-is) ∙ ap count k
-
--- a turn of a flip inserts and clears nothing
-pub flip-inserted : (l₀ : List Float) (base n : ℕ) → base + n ≤ length l₀ → n ≤ 2 ^ 53 → {l : List Float} {agg : SkewState} {at j : ℕ} → Flipping skewness l₀ base n l agg at j → 0 < j →
-    (x : Float) → skewInserted agg x ≡ skewInsert agg x
-flip-inserted l₀ base n fits h {l} {agg} {at} {j} f g x =
-    let B = take n (drop base l₀) in
-    let k : length (drop j B) ≡ n - j = rw (length-drop, length-take, length-drop) (omega arith) in
-    let low = f .low in
-    skew-inserted agg x (length (drop j B)) (omega arith) (ap (λ (s : SkewState). s .weight) (f .agg-is) ∙ skew-falls-count (drop j B) (omega arith))
-
--- nor does a turn of a push
-pub push-inserted : (has : Bool) (map : List ℕ) (values l₀ : List Float) (n nonfinite₀ : ℕ) (s₀ : SkewState) (a e : ℕ) {l : List Float} {many nonfinite : ℕ} {s : SkewState} {i : ℕ} →
-    Pushing skewness has map values l₀ n nonfinite₀ s₀ a e l many nonfinite s i → i < e → e ≤ 2 ^ 53 → n ≤ a → s₀ .weight ≡ count n →
-    (x : Float) → skewInserted s x ≡ skewInsert s x
-push-inserted has map values l₀ n nonfinite₀ s₀ a e {s = s} {i = i} f more h g w x =
-    let t = series has map values in
-    let l = entries (t .valid) (t .entry) a i in
-    let k = count-le (t .valid) (t .entry) a i in
-    let low = f .low in
-    skew-inserted s x (n + length l) (omega arith) (ap (λ (y : SkewState). y .weight) (f .now .agg-is) ∙ skew-inserts-count l s₀ n w (omega arith))
 
 -- ---- what a slot comes to
 div-nan : (y : Float) → nan ⊘ y ≡ nan
@@ -163,7 +126,7 @@ module _ (bias mapped : Bool) (minPeriods s e : ℕ) (w : Window) (agg : SkewSta
   S = skewCombine agg (topOf (ofReadings skewness) work (w .front))
 
   -- a row without a state is missing
-  pub none-pending : Weighed w agg work → pendingOf bias mapped minPeriods s e w S ≡ Missing →
+  pub none-pending : Weighed skewness skewWeight w agg work → pendingOf bias mapped minPeriods s e w S ≡ Missing →
       answerBy (ofReadings skewness) (λ z. skewFinalize z bias) mapped minPeriods s e w agg work ≡ Figure·Missing
   unfolding pendingOf
   none-pending q h = go (leb minPeriods (cond mapped N (e - s))) refl (leb (leastOf bias) N) refl h

@@ -5,4 +5,5 @@ pub mod Fixed
 pub mod Weights
 pub mod Reaching
 pub mod WeightedSums
+pub mod Weighed
 pub mod Slots

@@ -1,7 +1,7 @@
 -- What the rows of a plan of skewness keep between them, as the private contracts of `SkewMoment` state it: corrections by the count of
 -- readings, and for each row that waits for its root a slot in three lists. No promise rests on this file: it stands here because
 -- a contract can cite specs/ alone. Assumes nothing.
-use Prim.Native.Nat.{ℕ, _+_, _-_, _*_, _^_, _≤_, _<_}
+use Prim.Native.Nat.{ℕ, _+_, _-_, _*_, _≤_, _<_}
 use mathlib.Core.Path.{_≡_}
 use mathlib.Core.Bool.{Bool, cond}
 use mathlib.Core.List.{List, _++_}
@@ -17,7 +17,7 @@ use Rattle.moment.specs.declared.skew_state.SkewState.{SkewState}
 use Rattle.window.specs.Places.{Series}
 use Rattle.window.specs.Readings.{ofReadings}
 use Rattle.window.specs.Rows.{Plan, rows, answerAt, table}
-use Rattle.window.specs.Stacks.{topOf, Standing}
+use Rattle.window.specs.Stacks.{Standing}
 use Rattle.window.specs.declared.Window.{Window}
 use Rattle.rolling.specs.Moments.{skewness}
 use Rattle.rolling.specs.declared.skew.SkewPending.{SkewPending}
@@ -28,12 +28,6 @@ pub record Corrections (counts : List ℕ) (corrections : List Float) : Type 0 w
   pub counts-long : length counts ≡ 256
   pub corrections-long : length corrections ≡ 256
   pub correction-is : (i : ℕ) → i < 256 → getD corrections i nan ≡ skewCorrection (count (getD counts i 0))
-
--- the weights of a window's two states count its readings
-pub record Weighed (w : Window) (agg : SkewState) (work : List Float) : Type 0 where
-  pub few : w .front + w .back ≤ 2 ^ 53
-  pub back-is : agg .weight ≡ count (w .back)
-  pub front-is : topOf (ofReadings skewness) work (w .front) .weight ≡ count (w .front)
 
 -- the m2 of `finalize`
 abbrev pub m2Of : SkewState → Float

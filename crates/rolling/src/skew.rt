@@ -16,7 +16,8 @@ ghost use Rattle.window.specs.Readings.{series, ofReadings};
 ghost use Rattle.window.specs.Rows.{rows, stepped, table};
 ghost use Rattle.window.specs.Stacks.{inMemory, frontStack, account, Counted, Leaves, Held, Pushed, topOf, answerBy, Movable, Moves, Planned, Accepted};
 ghost use Rattle.rolling.specs.Moments.{Skewness, skewLayout, skewness};
-ghost use Rattle.rolling.specs.Slots.{Corrections, Weighed, m2Of, m3Of, leastOf, estimate, doubleAt, pendingOf, Waits, BlockFilled};
+ghost use Rattle.rolling.specs.Weighed.{skewWeight, Weighed};
+ghost use Rattle.rolling.specs.Slots.{Corrections, m2Of, m3Of, leastOf, estimate, doubleAt, pendingOf, Waits, BlockFilled};
 ghost use Rattle.rolling.specs.Calls.{askPlan, lent, traceOf, Written};
 ghost use Rattle.rolling.specs.Reaching.{rowsOf};
 use crate::bounds;
@@ -337,7 +338,7 @@ impl SkewMoment {
 
     // The back state combined with the front state. The counts tell which weights are zero.
     fn total(work: &[f64], w: SkewWindow) -> SkewState
-        requires { ⌜ (4 * w .window .front ≤ length (now work)) × Weighed (w .window) (w .«agg_back») (now work) ⌝ }
+        requires { ⌜ (4 * w .window .front ≤ length (now work)) × Weighed skewness skewWeight (w .window) (w .«agg_back») (now work) ⌝ }
         ensures { λ r. ⌜ r ≡ skewCombine (w .«agg_back») (topOf (ofReadings skewness) (now (work .entry)) (w .window .front)) ⌝ }
     {
         let agg_back = w.agg_back;
@@ -397,7 +398,7 @@ impl SkewMoment {
         start: usize,
         end: usize,
     ) -> SkewPending
-        requires { ⌜ (4 * w .window .front ≤ length (now work)) × Weighed (w .window) (w .«agg_back») (now work) × (start ≤ end) ⌝ }
+        requires { ⌜ (4 * w .window .front ≤ length (now work)) × Weighed skewness skewWeight (w .window) (w .«agg_back») (now work) × (start ≤ end) ⌝ }
         ensures { λ r. ⌜ r ≡ pendingOf (self .bias) «has_map» «min_periods» start end (w .window) (skewCombine (w .«agg_back») (topOf (ofReadings skewness) (now (work .entry)) (w .window .front))) ⌝ }
     {
         let valid = w.window.front + w.window.back;
@@ -425,7 +426,7 @@ impl SkewMoment {
         factors: &mut [f64],
         k: usize,
     ) -> u8
-        requires { ⌜ (4 * w .window .front ≤ length (now work)) × Weighed (w .window) (w .«agg_back») (now work) × (start ≤ end) × (k < length (now m2s)) × (k < length (now m3s)) × (k < length (now factors)) × Corrections (now counts) (now corrections) ⌝ }
+        requires { ⌜ (4 * w .window .front ≤ length (now work)) × Weighed skewness skewWeight (w .window) (w .«agg_back») (now work) × (start ≤ end) × (k < length (now m2s)) × (k < length (now m3s)) × (k < length (now factors)) × Corrections (now counts) (now corrections) ⌝ }
         ensures { λ r. ⌜ Waits (self .bias) (answerBy (ofReadings skewness) (λ z. skewFinalize z (self .bias)) «has_map» «min_periods» start end (w .window) (w .«agg_back») (now (work .entry))) k r
             (now (m2s .entry)) (now (m3s .entry)) (now (factors .entry)) (now (m2s .exit)) (now (m3s .exit)) (now (factors .exit))
             × Corrections (now (counts .exit)) (now (corrections .exit)) ⌝ }

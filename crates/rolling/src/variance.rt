@@ -3,8 +3,9 @@
 ghost use mathlib.Core.Path.{_≡_};
 ghost use mathlib.Core.Bool.{false};
 ghost use mathlib.Core.List.{_++_};
-ghost use Prim.Native.Nat.{_+_, _*_, _≤_, _<_};
+ghost use Prim.Native.Nat.{_+_, _*_, _^_, _≤_, _<_};
 ghost use lib.ListN.{length, take, drop};
+ghost use Rattle.float.specs.Operators.{count};
 ghost use Rattle.moment.specs.Var.{varEmpty, varCombine, varFinalize};
 ghost use Rattle.trace.specs.Trace.{validAt};
 ghost use Rattle.window.specs.Places.{validCount};
@@ -13,6 +14,7 @@ ghost use Rattle.window.specs.Readings.{series, ofReadings};
 ghost use Rattle.window.specs.Rows.{stepped};
 ghost use Rattle.window.specs.Stacks.{inMemory, frontStack, account, Counted, Leaves, Held, Pushed, topOf, answerBy, Movable, Moves, Accepted};
 ghost use Rattle.rolling.specs.Moments.{Variance, varLayout, variance};
+ghost use Rattle.rolling.specs.Weighed.{varWeight, Weighed};
 ghost use Rattle.rolling.specs.Calls.{askPlan, lent, traceOf, Written};
 ghost use Rattle.rolling.specs.Reaching.{rowsOf};
 use crate::bounds;
@@ -54,9 +56,10 @@ impl VarianceMoment {
         VarState::default()
     }
 
-    // The n readings of the back stack become the front stack, the last of them at its bottom.
+    // The n readings of the back stack become the front stack, the last of them at its bottom. The weight counts them, so that `insert_one`
+    // has nothing to clear.
     fn flip(work: &mut [f64], base: usize, n: usize)
-        requires { ⌜ (3 * n ≤ base) × (base + n ≤ length (now work)) ⌝ }
+        requires { ⌜ (3 * n ≤ base) × (base + n ≤ length (now work)) × (n ≤ 2 ^ 53) ⌝ }
         ensures { λ _. ⌜ now (work .exit) ≡ inMemory varLayout (frontStack (ofReadings variance) (take n (drop base (now (work .entry))))) ++ drop (3 * n) (now (work .entry)) ⌝ }
     {
         let mut agg = VarianceMoment::empty();
@@ -64,7 +67,7 @@ impl VarianceMoment {
         let mut j = n;
         while 0 < j {
             j -= 1;
-            agg = agg.insert_one(work[base + j]);
+            agg = agg.inserted(work[base + j]);
             work[at] = agg.weight;
             work[at + 1] = agg.mean;
             work[at + 2] = agg.dp;
@@ -84,7 +87,7 @@ impl VarianceMoment {
         nonfinite: usize,
         agg_back: VarState,
     ) -> VarPushed
-        requires { ⌜ (a ≤ b) × (b ≤ length (now values)) × (1 * (n + validCount (series «has_map» (now map) (now values)) a b) ≤ length (now back)) × (nonfinite ≤ a) ⌝ }
+        requires { ⌜ (a ≤ b) × (b ≤ length (now values)) × (1 * (n + validCount (series «has_map» (now map) (now values)) a b) ≤ length (now back)) × (nonfinite ≤ a) × (b ≤ 2 ^ 53) × (n ≤ a) × («agg_back» .weight ≡ count n) ⌝ }
         ensures { λ q. ⌜ Pushed (ofReadings variance) (series «has_map» (now (map .entry)) (now (values .entry))) (now (back .entry)) n nonfinite «agg_back» a b
             (now (back .exit)) (q .back) (q .nonfinite) (q .«agg_back») ⌝ }
     {
@@ -97,10 +100,10 @@ impl VarianceMoment {
                 let x = values[i];
                 if float::is_finite(x) {
                     back[at] = x;
-                    state = state.insert_one(x);
+                    state = state.inserted(x);
                 } else {
                     back[at] = 0.0;
-                    state = state.insert_one(0.0);
+                    state = state.inserted(0.0);
                     count += 1;
                 }
                 at += 1;
@@ -187,7 +190,7 @@ impl VarianceMoment {
         start: usize,
     ) -> VarWindow
         requires { ⌜ Held (ofReadings variance) (series «has_map» (now map) (now values)) base (w .window) (w .«agg_back») (now work) × (w .window .start ≤ start)
-            × (start ≤ length (now values)) × (w .window .end ≤ length (now values)) × (3 * w .window .back ≤ base) × (base + w .window .back ≤ length (now work)) ⌝ }
+            × (start ≤ length (now values)) × (w .window .end ≤ length (now values)) × (3 * w .window .back ≤ base) × (base + w .window .back ≤ length (now work)) × (length (now values) ≤ 2 ^ 53) ⌝ }
         ensures { λ q. ⌜ Moves (ofReadings variance) (series «has_map» (now (map .entry)) (now (values .entry))) base base (left (validAt «has_map» (now (map .entry))) (restarted (account (w .window)) start) start) (now (work .entry)) (q .window) (q .«agg_back») (now (work .exit)) ⌝ }
     {
         let window = w.window;
@@ -226,7 +229,7 @@ impl VarianceMoment {
         end: usize,
     ) -> VarWindow
         requires { ⌜ Held (ofReadings variance) (series «has_map» (now map) (now values)) base (w .window) (w .«agg_back») (now work) × (w .window .end ≤ end)
-            × (end ≤ length (now values)) × (end ≤ w .window .start + widest) × (3 * widest ≤ base) × (base + 1 * widest ≤ length (now work)) ⌝ }
+            × (end ≤ length (now values)) × (end ≤ w .window .start + widest) × (3 * widest ≤ base) × (base + 1 * widest ≤ length (now work)) × (length (now values) ≤ 2 ^ 53) ⌝ }
         ensures { λ q. ⌜ Moves (ofReadings variance) (series «has_map» (now (map .entry)) (now (values .entry))) base (base + 1 * widest) (entered (account (w .window)) end) (now (work .entry)) (q .window) (q .«agg_back») (now (work .exit)) ⌝ }
     {
         let window = w.window;
@@ -267,7 +270,8 @@ impl VarianceMoment {
         start: usize,
         end: usize,
     ) -> VarWindow
-        requires { ⌜ Movable (ofReadings variance) (series «has_map» (now map) (now values)) 4 start end (length (now values)) widest (w .window) (w .«agg_back») (now work) ⌝ }
+        requires { ⌜ Movable (ofReadings variance) (series «has_map» (now map) (now values)) 4 start end (length (now values)) widest (w .window) (w .«agg_back») (now work)
+            × (length (now values) ≤ 2 ^ 53) ⌝ }
         ensures { λ q. ⌜ Moves (ofReadings variance) (series «has_map» (now (map .entry)) (now (values .entry))) (3 * widest) (4 * widest) (moved (validAt «has_map» (now (map .entry))) (account (w .window)) start end)
             (now (work .entry)) (q .window) (q .«agg_back») (now (work .exit)) ⌝ }
     {
@@ -289,7 +293,8 @@ impl VarianceMoment {
         start: usize,
         end: usize,
     ) -> VarWindow
-        requires { ⌜ Movable (ofReadings variance) (series «has_map» (now map) (now values)) 4 start end (length (now values)) widest (w .window) (w .«agg_back») (now work) ⌝ }
+        requires { ⌜ Movable (ofReadings variance) (series «has_map» (now map) (now values)) 4 start end (length (now values)) widest (w .window) (w .«agg_back») (now work)
+            × (length (now values) ≤ 2 ^ 53) ⌝ }
         ensures { λ q. ⌜ Moves (ofReadings variance) (series «has_map» (now (map .entry)) (now (values .entry))) (3 * widest) (4 * widest) (stepped (validAt «has_map» (now (map .entry))) «has_map» «min_periods» row start end (account (w .window)))
             (now (work .entry)) (q .window) (q .«agg_back») (now (work .exit)) ⌝ }
     {
@@ -299,13 +304,25 @@ impl VarianceMoment {
         w
     }
 
-    // 001's `get_moment`.
-    fn get_moment(self, work: &[f64], w: VarWindow) -> Figure
-        requires { ⌜ 3 * w .window .front ≤ length (now work) ⌝ }
-        ensures { λ r. ⌜ r ≡ orNan (w .window .nonfinite) (varFinalize (varCombine (w .«agg_back») (topOf (ofReadings variance) (now (work .entry)) (w .window .front))) (self .ddof)) ⌝ }
+    // The back state combined with the front state. The count tells whether the front state's weight is zero.
+    fn total(work: &[f64], w: VarWindow) -> VarState
+        requires { ⌜ (3 * w .window .front ≤ length (now work)) × Weighed variance varWeight (w .window) (w .«agg_back») (now work) ⌝ }
+        ensures { λ r. ⌜ r ≡ varCombine (w .«agg_back») (topOf (ofReadings variance) (now (work .entry)) (w .window .front)) ⌝ }
     {
         let agg_back = w.agg_back;
-        let state = agg_back.combine(VarianceMoment::last(work, w.window.front));
+        if w.window.front == 0 {
+            return agg_back;
+        }
+        let top = VarianceMoment::last(work, w.window.front);
+        agg_back.merged(top)
+    }
+
+    // 001's `get_moment`.
+    fn get_moment(self, work: &[f64], w: VarWindow) -> Figure
+        requires { ⌜ (3 * w .window .front ≤ length (now work)) × Weighed variance varWeight (w .window) (w .«agg_back») (now work) ⌝ }
+        ensures { λ r. ⌜ r ≡ orNan (w .window .nonfinite) (varFinalize (varCombine (w .«agg_back») (topOf (ofReadings variance) (now (work .entry)) (w .window .front))) (self .ddof)) ⌝ }
+    {
+        let state = VarianceMoment::total(work, w);
         window::or_nan(state.finalize(self.ddof), w.window.nonfinite)
     }
 
@@ -319,7 +336,7 @@ impl VarianceMoment {
         start: usize,
         end: usize,
     ) -> Figure
-        requires { ⌜ (3 * w .window .front ≤ length (now work)) × (w .window .front + w .window .back ≤ w .window .end) × (start ≤ end) ⌝ }
+        requires { ⌜ (3 * w .window .front ≤ length (now work)) × Weighed variance varWeight (w .window) (w .«agg_back») (now work) × (start ≤ end) ⌝ }
         ensures { λ r. ⌜ r ≡ answerBy (ofReadings variance) (λ z. varFinalize z (self .ddof)) «has_map» «min_periods» start end (w .window) (w .«agg_back») (now (work .entry)) ⌝ }
     {
         let valid = w.window.front + w.window.back;

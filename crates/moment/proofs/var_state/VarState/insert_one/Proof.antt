@@ -11,9 +11,12 @@ returns : tie.Need-returns
 unfolding varClear
 returns c = rw (c .before .if1 .taken) (c .zero-weight .ensures)
 
+inserted-requires : tie.Need-inserted-requires
+inserted-requires c κs = search needs
+
 returns-2 : tie.Need-returns-2
 unfolding varClear
-returns-2 c = rw (c .before .before .before .if1 .left)
+returns-2 c = rw (c .before .if1 .left) (c .inserted .ensures)
 
 pub insert-one-spec : {M : Type 1} → statement M
-insert-one-spec = tie.close (tie.spec zero-weight-requires returns returns-2)
+insert-one-spec = tie.close (tie.spec zero-weight-requires returns inserted-requires returns-2)

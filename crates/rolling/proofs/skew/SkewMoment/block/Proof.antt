@@ -11,7 +11,7 @@ use Rattle.rolling.specs.Moments.{skewness}
 use Rattle.rolling.specs.Reaching.{rowsOf}
 use Rattle.rolling.specs.Slots.{BlockFilled}
 use Rattle.rolling.proofs.Fixed.{start-is, end-is, start-listed, end-listed}
-use Rattle.rolling.proofs.Slots.{weighed}
+use Rattle.rolling.proofs.Weighed.{skew-weighs, weighed}
 use Rattle.rolling.proofs.Blocks.{filled-next}
 use Rattle.rolling.proofs.skew.SkewMoment.block.Statement.{statement}
 use Rattle.rolling.proofs.skew.SkewMoment.block.Tie as tie
@@ -91,7 +91,7 @@ prepare-requires c κs =
     let x = v .m2s-long in
     let u = v .m3s-long in
     let t = v .factors-long in
-    (f .0, weighed _ _ (q .result .window) _ _ (q .ensures .held) (omega arith), f .2, omega arith, omega arith, omega arith, v .kept)
+    (f .0, weighed skewness skew-weighs _ _ (q .result .window) _ _ (q .ensures .held) (omega arith), f .2, omega arith, omega arith, omega arith, v .kept)
 
 slice-write-present : tie.Need-slice-write-present Inv-loop μ-loop
 slice-write-present c = let i = c .before .before .before .before .before .before .before .before .before .before .before .before .before .before .before .before .before .before .before .before .before .before .before in let h = in-rows i in let e = i .before .loop .inv .0 .present-same in let f = start i .pre .0 .3 in omega arith

@@ -6,7 +6,7 @@ use borrow.Author.Needs.{needs}
 use Rattle.window.specs.Readings.{ofReadings}
 use Rattle.window.proofs.Moves.{in-fits, in-pushed, held-counts}
 use Rattle.rolling.specs.Moments.{skewness}
-use Rattle.rolling.proofs.Slots.{rising-weight}
+use Rattle.rolling.proofs.Weighed.{skew-weighs, rising-weight}
 use Rattle.rolling.proofs.skew.SkewMoment.extend.Statement.{statement}
 use Rattle.rolling.proofs.skew.SkewMoment.extend.Tie as tie
 
@@ -32,7 +32,7 @@ push-requires c κs =
     let g = p .2 in
     let o = p .6 in
     let b : w .back ≤ w .end = omega arith in
-    (i, g, f .0, f .1, omega arith, b, rising-weight _ _ w _ _ (p .0) (omega arith))
+    (i, g, f .0, f .1, omega arith, b, rising-weight skewness skew-weighs _ _ w _ _ (p .0) (omega arith))
 
 same-length : tie.Need-same-length
 same-length c = search needs

@@ -6,7 +6,7 @@ use borrow.Author.Needs.{needs}
 use lib.ListN.{length-set}
 use Rattle.window.proofs.Readings.{Flipping, flipping-start, flipping-turn, flipping-done}
 use Rattle.rolling.proofs.Rolling.{puts4}
-use Rattle.rolling.proofs.Slots.{flip-inserted}
+use Rattle.rolling.proofs.Weighed.{skew-weighs, flip-inserted}
 use Rattle.rolling.specs.Moments.{skewness}
 use Rattle.rolling.proofs.skew.SkewMoment.flip.Statement.{statement}
 use Rattle.rolling.proofs.skew.SkewMoment.flip.Tie as tie
@@ -83,7 +83,7 @@ loop-again c =
     let s = a .before .before .before in
     let h = c .before .before .loop-test .taken in
     rw puts4
-    (flipping-turn skewness _ _ _ (s .pre .0) (s .pre .1) (a .loop .inv) h (c .inserted .ensures ∙ flip-inserted _ _ _ (s .pre .1) (s .pre .2) (a .loop .inv) h _))
+    (flipping-turn skewness _ _ _ (s .pre .0) (s .pre .1) (a .loop .inv) h (c .inserted .ensures ∙ flip-inserted skewness skew-weighs _ _ _ (s .pre .1) (s .pre .2) (a .loop .inv) h _))
 
 same-length : tie.Need-same-length Inv-loop μ-loop
 same-length c = search needs

@@ -7,7 +7,7 @@ use borrow.Author.Needs.{needs}
 use lib.ListN.{length}
 use Rattle.window.proofs.Readings.{Pushing, pushing-start, pushing-room, pushing-nonfinite, pushing-finite, pushing-zero, pushing-missing, pushing-done}
 use Rattle.rolling.specs.Moments.{skewness}
-use Rattle.rolling.proofs.Slots.{push-inserted}
+use Rattle.rolling.proofs.Weighed.{skew-weighs, push-inserted}
 use Rattle.rolling.proofs.skew.SkewMoment.push.Statement.{statement}
 use Rattle.rolling.proofs.skew.SkewMoment.push.Tie as tie
 
@@ -80,7 +80,7 @@ loop-again c =
     let l = c .before .before .before in
     let s = l .before .before .before .before in
     let more = c .before .before .loop-test .taken in
-    let plain = push-inserted _ _ _ _ _ _ _ _ _ (l .loop .inv) more (s .pre .4) (s .pre .5) (s .pre .6) in
+    let plain = push-inserted skewness skew-weighs _ _ _ _ _ _ _ _ _ (l .loop .inv) more (s .pre .4) (s .pre .5) (s .pre .6) in
     ⊎-elim
     (λ w.
     let v = sym (c .before .valid .ensures) ∙ w .0 .taken in

@@ -1,9 +1,12 @@
 -- What is pushed on the part that begins after the front stack is the back stack grown. Assumes nothing.
+use Prim.Native.Nat.{_≤_}
 use mathlib.Core.Path.{refl}
+use native.Mathlib.Omega.{arith}
 use borrow.Author.Needs.{needs}
 use Rattle.window.specs.Readings.{ofReadings}
-use Rattle.window.proofs.Moves.{in-fits, in-pushed}
+use Rattle.window.proofs.Moves.{in-fits, in-pushed, held-counts}
 use Rattle.rolling.specs.Moments.{variance}
+use Rattle.rolling.proofs.Weighed.{var-weighs, rising-weight}
 use Rattle.rolling.proofs.variance.VarianceMoment.extend.Statement.{statement}
 use Rattle.rolling.proofs.variance.VarianceMoment.extend.Tie as tie
 
@@ -23,7 +26,13 @@ push-requires : tie.Need-push-requires
 push-requires c κs =
     let p = c .before .before .before .before .before .before .pre in
     let f = in-fits (ofReadings variance) _ _ _ _ _ _ (p .0) (p .1) _ (p .3) (p .4) (p .5) in
-    (p .1, p .2, f .0, f .1)
+    let w = c .before .before .before .before .before .before .args .w .window in
+    let k = held-counts (ofReadings variance) _ _ _ _ _ (p .0) in
+    let i = p .1 in
+    let g = p .2 in
+    let o = p .6 in
+    let b : w .back ≤ w .end = omega arith in
+    (i, g, f .0, f .1, omega arith, b, rising-weight variance var-weighs _ _ w _ _ (p .0) (omega arith))
 
 same-length : tie.Need-same-length
 same-length c = search needs

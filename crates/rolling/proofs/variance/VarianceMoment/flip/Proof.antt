@@ -1,10 +1,12 @@
--- By the turns of a flip. Assumes nothing.
+-- By the turns of a flip; the weight counts what is inserted. Assumes nothing.
 use Prim.Native.Nat.{_-_}
+use mathlib.Core.Path.{_∙_}
 use native.Mathlib.Omega.{arith}
 use borrow.Author.Needs.{needs}
 use lib.ListN.{length-set}
 use Rattle.window.proofs.Readings.{Flipping, flipping-start, flipping-turn, flipping-done}
 use Rattle.rolling.proofs.Rolling.{puts3}
+use Rattle.rolling.proofs.Weighed.{var-weighs, flip-inserted}
 use Rattle.rolling.specs.Moments.{variance}
 use Rattle.rolling.proofs.variance.VarianceMoment.flip.Statement.{statement}
 use Rattle.rolling.proofs.variance.VarianceMoment.flip.Tie as tie
@@ -24,17 +26,17 @@ loop-holds c = flipping-start variance _ _ _ (c .before .before .pre .0) (c .bef
 sub-j : tie.Need-sub-j Inv-loop μ-loop
 sub-j c = search needs
 
-add-insert-one : tie.Need-add-insert-one Inv-loop μ-loop
-add-insert-one c = search needs
+add-inserted : tie.Need-add-inserted Inv-loop μ-loop
+add-inserted c = search needs
 
-mul-insert-one : tie.Need-mul-insert-one Inv-loop μ-loop
-mul-insert-one c = search needs
+mul-inserted : tie.Need-mul-inserted Inv-loop μ-loop
+mul-inserted c = search needs
 
-slice-read-insert-one : tie.Need-slice-read-insert-one Inv-loop μ-loop
-slice-read-insert-one c = search needs
+slice-read-inserted : tie.Need-slice-read-inserted Inv-loop μ-loop
+slice-read-inserted c = search needs
 
-insert-one-requires : tie.Need-insert-one-requires Inv-loop μ-loop
-insert-one-requires c κs = search needs
+inserted-requires : tie.Need-inserted-requires Inv-loop μ-loop
+inserted-requires c κs = search needs
 
 mul-work : tie.Need-mul-work Inv-loop μ-loop
 mul-work c = search needs
@@ -70,7 +72,9 @@ loop-again : tie.Need-loop-again Inv-loop μ-loop
 loop-again c =
     let a = c .before .before .before in
     let s = a .before .before .before in
-    rw puts3 (flipping-turn variance _ _ _ (s .pre .0) (s .pre .1) (a .loop .inv) (c .before .before .loop-test .taken) (c .insert-one .ensures))
+    let h = c .before .before .loop-test .taken in
+    rw puts3
+    (flipping-turn variance _ _ _ (s .pre .0) (s .pre .1) (a .loop .inv) h (c .inserted .ensures ∙ flip-inserted variance var-weighs _ _ _ (s .pre .1) (s .pre .2) (a .loop .inv) h _))
 
 same-length : tie.Need-same-length Inv-loop μ-loop
 same-length c = search needs
@@ -89,10 +93,10 @@ flip-spec =
     empty-requires
     loop-holds
     sub-j
-    add-insert-one
-    mul-insert-one
-    slice-read-insert-one
-    insert-one-requires
+    add-inserted
+    mul-inserted
+    slice-read-inserted
+    inserted-requires
     mul-work
     slice-write-work
     add-work

@@ -1,8 +1,9 @@
 -- By the three ends: a flip, an emptied back stack, or a back stack that stays. Assumes nothing.
 use mathlib.Core.Path.{refl}
+use native.Mathlib.Omega.{arith}
 use borrow.Author.Needs.{needs}
 use Rattle.window.specs.Readings.{ofReadings}
-use Rattle.window.proofs.Moves.{out-emptied, out-kept}
+use Rattle.window.proofs.Moves.{out-emptied, out-kept, held-counts}
 use Rattle.window.proofs.Readings.{flipped-out}
 use Rattle.rolling.specs.Moments.{variance}
 use Rattle.rolling.proofs.variance.VarianceMoment.pop.Statement.{statement}
@@ -12,7 +13,13 @@ leave-requires : tie.Need-leave-requires
 leave-requires c κs = search needs
 
 flip-requires : tie.Need-flip-requires
-flip-requires c κs = search needs
+flip-requires c κs =
+    let s = c .before .before .before .before .before .before .before .before .before in
+    let p = s .pre in
+    let k = held-counts (ofReadings variance) _ _ _ _ _ (p .0) in
+    let e = p .3 in
+    let o = p .6 in
+    (p .4, p .5, omega arith)
 
 empty-requires : tie.Need-empty-requires
 empty-requires c κs = search needs

@@ -7,6 +7,7 @@ use borrow.Author.Needs.{needs}
 use lib.ListN.{length}
 use Rattle.window.proofs.Readings.{Pushing, pushing-start, pushing-room, pushing-nonfinite, pushing-finite, pushing-zero, pushing-missing, pushing-done}
 use Rattle.rolling.specs.Moments.{variance}
+use Rattle.rolling.proofs.Weighed.{var-weighs, push-inserted}
 use Rattle.rolling.proofs.variance.VarianceMoment.push.Statement.{statement}
 use Rattle.rolling.proofs.variance.VarianceMoment.push.Tie as tie
 
@@ -45,8 +46,8 @@ mul-back c = let h = room (c .before) in omega arith
 slice-write-back : tie.Need-slice-write-back Inv-loop μ-loop
 slice-write-back c = room (c .before)
 
-insert-one-requires : tie.Need-insert-one-requires Inv-loop μ-loop
-insert-one-requires c κs = search needs
+inserted-requires : tie.Need-inserted-requires Inv-loop μ-loop
+inserted-requires c κs = search needs
 
 mul-back-2 : tie.Need-mul-back-2 Inv-loop μ-loop
 mul-back-2 c = let h = room (c .before) in omega arith
@@ -54,8 +55,8 @@ mul-back-2 c = let h = room (c .before) in omega arith
 slice-write-back-2 : tie.Need-slice-write-back-2 Inv-loop μ-loop
 slice-write-back-2 c = room (c .before)
 
-insert-one-requires-2 : tie.Need-insert-one-requires-2 Inv-loop μ-loop
-insert-one-requires-2 c κs = search needs
+inserted-requires-2 : tie.Need-inserted-requires-2 Inv-loop μ-loop
+inserted-requires-2 c κs = search needs
 
 add-count : tie.Need-add-count Inv-loop μ-loop
 add-count c =
@@ -79,13 +80,14 @@ loop-again c =
     let l = c .before .before .before in
     let s = l .before .before .before .before in
     let more = c .before .before .loop-test .taken in
+    let plain = push-inserted variance var-weighs _ _ _ _ _ _ _ _ _ (l .loop .inv) more (s .pre .4) (s .pre .5) (s .pre .6) in
     ⊎-elim
     (λ w.
     let v = sym (c .before .valid .ensures) ∙ w .0 .taken in
     rw (w .4, w .5, w .6, w .7)
     (⊎-elim
-    (λ u. rw (u .2, u .3, u .4) (pushing-finite variance _ _ _ _ _ _ _ _ _ (l .loop .inv) more (s .pre .2) v (sym (w .2 .ensures) ∙ u .0 .taken) _ (u .1 .ensures)))
-    (λ u. rw (u .2, u .3, u .4) (pushing-zero variance _ _ _ _ _ _ _ _ _ (l .loop .inv) more (s .pre .2) v (sym (w .2 .ensures) ∙ u .0 .left) _ (u .1 .ensures)))
+    (λ u. rw (u .2, u .3, u .4) (pushing-finite variance _ _ _ _ _ _ _ _ _ (l .loop .inv) more (s .pre .2) v (sym (w .2 .ensures) ∙ u .0 .taken) _ (u .1 .ensures ∙ plain _)))
+    (λ u. rw (u .2, u .3, u .4) (pushing-zero variance _ _ _ _ _ _ _ _ _ (l .loop .inv) more (s .pre .2) v (sym (w .2 .ensures) ∙ u .0 .left) _ (u .1 .ensures ∙ plain _)))
     (w .3 .came)))
     (λ w. rw (w .1, w .2, w .3, w .4) (pushing-missing variance _ _ _ _ _ _ _ _ _ (l .loop .inv) more (s .pre .2) (sym (c .before .valid .ensures) ∙ w .0 .left)))
     (c .if1 .came)
@@ -109,10 +111,10 @@ push-spec =
     is-finite-requires
     mul-back
     slice-write-back
-    insert-one-requires
+    inserted-requires
     mul-back-2
     slice-write-back-2
-    insert-one-requires-2
+    inserted-requires-2
     add-count
     add-at
     add-i

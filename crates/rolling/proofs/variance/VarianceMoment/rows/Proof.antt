@@ -8,10 +8,11 @@ use Rattle.moment.specs.Var.{varFinalize}
 use Rattle.window.specs.Refusals.{filled, kept}
 use Rattle.window.specs.Readings.{series, ofReadings}
 use Rattle.window.specs.Rows.{Plan, rows, rowStart, rowEnd}
-use Rattle.window.proofs.Rows.{Row, row-start, row-ready, row-fits, row-next, row-done}
+use Rattle.window.proofs.Rows.{Row, row-start, row-ready, row-fits, row-inside, row-next, row-done}
 use Rattle.rolling.specs.Moments.{variance}
 use Rattle.rolling.specs.Reaching.{rowsOf}
 use Rattle.rolling.proofs.Fixed.{rows-are, start-is, end-is, start-listed, end-listed}
+use Rattle.rolling.proofs.Weighed.{var-weighs, weighed}
 use Rattle.rolling.proofs.variance.VarianceMoment.rows.Statement.{statement}
 use Rattle.rolling.proofs.variance.VarianceMoment.rows.Tie as tie
 
@@ -65,11 +66,14 @@ step-requires c κs =
     let row = i .before .loop .inv in
     let l = row .work-same in
     let y = s .pre .work-fits in
-    record {
-      held = row .standing .held;
-      ready = row-ready (ofReadings variance) _ _ _ _ _ (s .pre .plan) (row .standing) (more i) _ _ (starts-at r) (ends-at r);
-      room = omega arith;
-    }
+    let z = s .pre .few in (
+      record {
+        held = row .standing .held;
+        ready = row-ready (ofReadings variance) _ _ _ _ _ (s .pre .plan) (row .standing) (more i) _ _ (starts-at r) (ends-at r);
+        room = omega arith;
+      },
+      omega arith,
+    )
 
 answer-requires : tie.Need-answer-requires Inv-loop μ-loop
 answer-requires c κs =
@@ -81,8 +85,13 @@ answer-requires c κs =
     let l = row .work-same in
     let n = q .kept .0 in
     let y = s .pre .work-fits in
-    row-fits (ofReadings variance) _ _ _ _ _ (s .pre .plan) (row .standing) (more i) _ _ (starts-at r) (ends-at r)
-    (q .result .window) _ _ (q .ensures .to) (q .ensures .held) (omega arith)
+    let a = starts-at r in
+    let b = ends-at r in
+    let f = row-fits (ofReadings variance) _ _ _ _ _ (s .pre .plan) (row .standing) (more i) _ _ a b (q .result .window) _ _ (q .ensures .to) (q .ensures .held) (omega arith) in
+    let o = row-inside (ofReadings variance) _ _ _ _ _ (s .pre .plan) (row .standing) (more i) _ _ a b (q .result .window) (q .ensures .to) in
+    let k = f .1 in
+    let z = s .pre .few in
+    (f .0, weighed variance var-weighs _ _ (q .result .window) _ _ (q .ensures .held) (omega arith), f .2)
 
 write-requires : tie.Need-write-requires Inv-loop μ-loop
 write-requires c κs =

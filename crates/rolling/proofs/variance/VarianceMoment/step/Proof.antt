@@ -22,7 +22,7 @@ returns c =
 returns-2 : tie.Need-returns-2
 returns-2 c =
     record {
-      held = c .before .before .before .before .before .pre .held;
+      held = c .before .before .before .before .before .pre .0 .held;
       to = rw (sym (c .before .moves .ensures) ∙ c .if1 .left);
       rest = refl;
     }

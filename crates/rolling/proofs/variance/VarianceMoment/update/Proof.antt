@@ -16,10 +16,10 @@ mul-base c = search needs
 pop-requires : tie.Need-pop-requires
 pop-requires c κs =
     let p = c .before .before .before .before .pre in
-    let k = held-counts (ofReadings variance) _ _ _ _ _ (p .held) in
-    let r = p .ready in
-    let q = p .room in
-    (p .held, omega arith, omega arith, omega arith, omega arith, omega arith)
+    let k = held-counts (ofReadings variance) _ _ _ _ _ (p .0 .held) in
+    let r = p .0 .ready in
+    let q = p .0 .room in
+    (p .0 .held, omega arith, omega arith, omega arith, omega arith, omega arith, p .1)
 
 extend-requires : tie.Need-extend-requires
 extend-requires c κs =
@@ -27,9 +27,9 @@ extend-requires c κs =
     let o = c .before .before .before .pop in
     let l = left-ends _ (s .args .w .window) (o .result .window) _ (o .ensures .to) in
     let k = o .kept .0 in
-    let r = s .pre .ready in
-    let q = s .pre .room in
-    (o .ensures .held, omega arith, omega arith, omega arith, omega arith, omega arith)
+    let r = s .pre .0 .ready in
+    let q = s .pre .0 .room in
+    (o .ensures .held, omega arith, omega arith, omega arith, omega arith, omega arith, s .pre .1)
 
 same-length : tie.Need-same-length
 same-length c = search needs
