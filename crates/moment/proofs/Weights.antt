@@ -151,9 +151,6 @@ skew-inserted s x n h e = uncleared skewWeight (skewInserted s x) _ (n + 1) (ome
 pub skew-inserts-count : (xs : List Float) (s : SkewState) (a : ℕ) → s .weight ≡ count a → a + length xs ≤ 2 ^ 53 → foldl skewInsert s xs .weight ≡ count (a + length xs)
 skew-inserts-count = inserts-count skewWeight skewInsert skew-raises
 
-pub skew-falls-count : (xs : List Float) → length xs ≤ 2 ^ 53 → foldr (λ x s. skewInsert s x) skewEmpty xs .weight ≡ count (length xs)
-skew-falls-count xs h = falls-count skewWeight skewInsert skew-raises xs skewEmpty zero-is h
-
 pub skew-combine-count : (s o : SkewState) (a b : ℕ) → a ≤ 2 ^ 53 → b ≤ 2 ^ 53 → s .weight ≡ count a → o .weight ≡ count b → skewCombine s o .weight ≡ count (a + b)
 unfolding skewCombine
 skew-combine-count s o a b h k p q = combined-count skewWeight s o (skewMerge s o) a b h k p q (skew-cleared _)

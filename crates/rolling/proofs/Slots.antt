@@ -7,7 +7,7 @@ use mathlib.Core.List.{List, _++_, map}
 use native.Mathlib.Omega.{arith}
 use borrow.Author.Tests.{eqb-true, eqb-false, ne-eqb, leb-true, leb-false, le-leb, lt-leb, eq-eqb}
 use lib.Dec.{eqb, leb}
-use lib.ListN.{length, take, drop, set, getD, length-take, length-drop, length-set, length-map, List·getD-append, List·getD-map, replicate, length-replicate, getD-replicate}
+use lib.ListN.{length, take, drop, set, getD, length-take, length-set, length-map, List·getD-append, List·getD-map, replicate, length-replicate, getD-replicate}
 use lib.Seq.{getD-set-same, getD-set-other, getD-take}
 use lib.Ieee.{Float, nan, inf, fin, mul, div, ofBits}
 use Rattle.float.specs.Operators.{_⊗_, _⊘_, zero64, one64, count}
@@ -20,15 +20,11 @@ use Rattle.moment.specs.declared.Figure.the-variants.{Missing as Figure·Missin
 use Rattle.moment.specs.Skew.{skewCombine, isZero, skewBiased, skewCorrection, skewFinalize}
 use Rattle.moment.proofs.Weights.{skew-combine-count}
 use Rattle.moment.proofs.Figures.{skew-biased-missing, skew-unbiased-missing}
-use Rattle.window.specs.Places.{Series, entries}
-use Rattle.window.specs.Window.{front, back, orNan}
-use Rattle.window.specs.Readings.{series, ofReadings}
+use Rattle.window.specs.Window.{orNan}
+use Rattle.window.specs.Readings.{ofReadings}
 use Rattle.window.specs.Rows.{table}
-use Rattle.window.specs.Stacks.{account, Held, topOf, answerBy}
+use Rattle.window.specs.Stacks.{topOf, answerBy}
 use Rattle.window.specs.declared.Window.{Window}
-use Rattle.window.proofs.Places.{count-le}
-use Rattle.window.proofs.Readings.{Flipping, Pushing}
-use Rattle.window.proofs.Rows.{top-is}
 use Rattle.window.proofs.Tables.{table-same}
 use Rattle.rolling.specs.Moments.{skewness}
 use Rattle.rolling.specs.declared.skew.SkewPending.{SkewPending}
