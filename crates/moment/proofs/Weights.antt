@@ -20,7 +20,7 @@ use Rattle.moment.specs.declared.kurtosis_state.KurtosisState.{KurtosisS
 use Rattle.moment.specs.Var.{varEmpty, varClear, varInserted, varInsert, varMerged, varMerge, varCombine}
 use Rattle.moment.specs.Cov.{covInsert, covMerge, covCombine}
 use Rattle.moment.specs.Pearson.{pearsonInsert, pearsonMerge, pearsonCombine}
-use Rattle.moment.specs.Skew.{skewEmpty, skewClear, skewInserted, skewInsert, skewMerged, skewMerge, skewCombine}
+use Rattle.moment.specs.Skew.{skewClear, skewInserted, skewInsert, skewMerged, skewMerge, skewCombine}
 use Rattle.moment.specs.Kurtosis.{kurtosisClear, kurtosisInsert, kurtosisMerge, kurtosisCombine}
 
 -- ---- a weight that is the float of a count, compared

@@ -1,5 +1,4 @@
 -- By the turns of a flip; the weight counts what is inserted. Assumes nothing.
-use Prim.Native.Nat.{_-_}
 use mathlib.Core.Path.{_∙_}
 use native.Mathlib.Omega.{arith}
 use borrow.Author.Needs.{needs}
