@@ -6,15 +6,18 @@ use mathlib.Core.Bool.{Bool, true, false, cond}
 use mathlib.Core.List.{List, [], append-nil}
 use native.Mathlib.Nat.{zero-add}
 use native.Mathlib.Omega.{arith}
+use lib.Dec.{lit≤}
 use lib.ListN.{length, getD, drop}
-use lib.Ieee.{Float, nan, eq, ofBits}
+use lib.Ieee.{Float, nan, eq}
 use Rattle.float.specs.Operators.{zero64}
+use Rattle.float.proofs.Counts.{zero-is}
 use Rattle.moment.specs.Figure.{doubleOf, byteOf}
 use Rattle.moment.specs.Var.{varCombine}
 use Rattle.moment.specs.Skew.{skewCombine}
 use Rattle.moment.specs.Kurtosis.{kurtosisCombine}
 use Rattle.moment.specs.declared.Figure.{Figure}
 use Rattle.moment.specs.declared.Figure.the-variants.{Missing}
+use Rattle.moment.proofs.Weights.{at-zero}
 use Rattle.window.specs.Readings.{series}
 use Rattle.window.specs.Rows.{rows, answerAt, table}
 use Rattle.window.specs.Refusals.{filled}
@@ -25,7 +28,7 @@ use Rattle.rolling.specs.Calls.{Trace, Ask, Lent, askPlan, lent, yields}
 use Rattle.rolling.specs.Fixed.{bounds, CalledFixed}
 use Rattle.rolling.specs.Weights.{weightedAt, CalledWeights}
 use Rattle.rolling.proofs.Fixed.{bounds-rows}
-use Rattle.rolling.proofs.Weighted.{weights-taken}
+use Rattle.rolling.proofs.WeightedSums.{weights-taken}
 use Rattle.promises.specs.SourceWindow.{Rust}
 use Rattle.promises.specs.SourceRows.{rollingNoNulls, rollingNulls, rowOf}
 use Rattle.promises.specs.SourceWeights.{rollingVarWeights}
@@ -36,8 +39,7 @@ use Rattle.promises.proofs.SourceWeights.{weighted-row}
 use Rattle.promises.proofs.Accepted.{known}
 
 zero-zero : eq zero64 zero64 ≡ true
-unfolding eq ofBits
-zero-zero = refl
+zero-zero = at-zero zero64 0 (lit≤ tt) zero-is
 
 -- an empty state is never merged, so that a front that is empty need not be tested for
 neutral : (asked : Asked) → Neutral (readingMomentOf asked)
@@ -51,7 +53,7 @@ bits-fit : (n bytes : ℕ) → bytes ≡ (n + 7) / 8 → n ≤ 8 * bytes
 bits-fit n bytes e = omega arith
 
 -- the source's rows, over any plan that is in order
-pub rows-same : (rust : Rust) (q : Ask) (t : Trace) (widest : ℕ) → Planned (length (t .readings)) widest (q .plan) → length (t .readings) ≤ 16777216
+rows-same : (rust : Rust) (q : Ask) (t : Trace) (widest : ℕ) → Planned (length (t .readings)) widest (q .plan) → length (t .readings) ≤ 16777216
     → (t .mapped ≡ true → length (t .map) ≡ (length (t .readings) + 7) / 8) → (k : ℕ) → k < rows (q .plan) → sourceRow rust q t k ≡ yields q t k
 rows-same rust q t widest plan few fits k h = go (t .mapped) fits
   where

@@ -8,10 +8,10 @@ use mathlib.Core.List.{List, [], _∷_, foldl, map, zip, zipWith}
 use native.Mathlib.Nat.{add-zero, zero-add, lt-of-le-of-lt}
 use native.Mathlib.Omega.{arith}
 use lib.Dec.{ltb}
-use lib.ListN.{length, getD, length-map}
+use lib.ListN.{length, getD, length-map, List·getD-map}
 use lib.Seq.{slice, slice-empty, slice-cons}
 use lib.IntN.{pos, negsuc, natAbs, subℕ, _-ℤ_}
-use lib.Ieee.{Float, nan}
+use lib.Ieee.{Float, nan, div}
 use borrow.Author.Tests.{ltb-true, lt-ltb, le-ltb}
 use Rattle.float.specs.Operators.{_⊘_}
 use Rattle.moment.specs.declared.Figure.{Figure}
@@ -24,7 +24,7 @@ use Rattle.rolling.specs.Fixed.{boundsAt}
 use Rattle.rolling.specs.Reaching.{rightOf}
 use Rattle.rolling.specs.Weights.{totalOf, Sums, noSums, plus, varianceOf, computeVarWeights, weightsStart, aligned, weightedAt}
 use Rattle.rolling.proofs.Fixed.{bounds-at, right-le, right-some}
-use Rattle.rolling.proofs.Weighted.{Taken, aligned-start}
+use Rattle.rolling.proofs.WeightedSums.{Taken, aligned-start}
 use Rattle.promises.specs.SourceWindow.{Rust}
 use Rattle.promises.specs.SourceRows.{tooShort, rowOf}
 use Rattle.promises.specs.SourceFixed.{offsetFn}
@@ -64,10 +64,10 @@ zip-parts f l m (suc k) a b c g h e =
         let z : c + suc i ≡ suc c + i = omega arith in
         rw (x, y, z) (λ h. h)
 
-map-at : (f : Float → Float) (l : List Float) (i : ℕ) → i < length l → getD (map f l) i nan ≡ f (getD l i nan)
-map-at f [] i h = absurd (omega arith)
-map-at f (x ∷ l) zero h = refl
-map-at f (x ∷ l) (suc i) h = map-at f l i (omega arith)
+-- a divided weight; past the end stands NaN, which divided is NaN
+divided-at : (total : Float) (l : List Float) (i : ℕ) → getD (map (λ w. w ⊘ total) l) i nan ≡ getD l i nan ⊘ total
+unfolding div
+divided-at total l i = List·getD-map (λ w. w ⊘ total) l i nan
 
 -- ---- `isize`
 difference : (a b : ℕ) → pos a -ℤ pos b ≡ subℕ a b
@@ -105,7 +105,7 @@ falls left right n k m h g =
     let y : k ≡ left + (k - left) = omega arith in
     omega arith
 
--- ---- a call
+-- ---- a row
 pair : (p : ℕ × ℕ) (a b : ℕ) → p .0 ≡ a → p .1 ≡ b → p ≡ (a, b)
 pair p a b e f = rw (← e, ← f)
 
@@ -178,7 +178,7 @@ module _ (rust : Rust) (center : Bool) (size minPeriods : ℕ) (weights values :
       let f : ℕ → Float × Float = λ i. (readingOf values (S k + i), getD weights ((left - k) + i) nan ⊘ totalOf weights) in
       ap (λ (j : ℕ). zip (slice (S k) j values) (slice (left - k) ((left - k) + (E k - S k)) wts)) e
       ∙ zip-parts f values wts (E k - S k) (S k) (left - k) 0 (omega arith) (omega arith)
-      (λ i o. rw (zero-add, map-at (λ w. w ⊘ totalOf weights) weights ((left - k) + i) (omega arith)))
+      (λ i o. rw (zero-add, divided-at (totalOf weights) weights ((left - k) + i)))
       ∙ span-table f (E k - S k)
 
   row-is : (k : ℕ) → k < n → source.weightedRow rust values size minPeriods F wts center k ≡ computeVarWeights (aligned values weights (S k) (E k) (left - k))

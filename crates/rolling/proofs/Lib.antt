@@ -4,4 +4,4 @@ pub mod Fixed
 pub mod Blocks
 pub mod Weighed
 pub mod Slots
-pub mod Weighted
+pub mod WeightedSums

@@ -21,7 +21,7 @@ unfolding table
 sumsOf values weights total left k c =
     foldl plus noSums (table (λ i. (readingOf values ((k - left) + i), getD weights ((left - k) + i) nan ⊘ total)) c)
 
--- how many of row k's n places at most have one of the first j weights
+-- how many places of row k's window over n places have one of the first j weights
 abbrev pub reached : ℕ → ℕ → ℕ → ℕ → ℕ
 reached n left k j = min n ((k + j) - left) - (k - left)
 

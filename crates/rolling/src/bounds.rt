@@ -1,5 +1,5 @@
-// The rows of a call: of a plan as its lists have them, of fixed windows as 006's `det_offsets` and `det_offsets_center` have them, and
-// the checks of a call with fixed windows.
+// The rows of a call: of a plan as its lists have them, of fixed windows as 006's `det_offsets` and `det_offsets_center` have them; blocks
+// of rows; and the checks of a call with fixed windows.
 ghost use mathlib.Core.Path.{_≡_};
 ghost use mathlib.Core.Bool.{Bool, true, false, cond};
 ghost use Prim.Native.Nat.{min, _+_, _-_, _≤_, _<_};
@@ -83,7 +83,8 @@ pub(crate) fn block_end(first: usize, rows: usize) -> usize
     first + BLOCK
 }
 
-// Whether a call with fixed windows is accepted, trailing or centred alike. A place of the widest window needs `each` doubles of the work slice, which has `work`.
+// Whether a call with fixed windows is accepted, trailing or centred alike. A place of the widest window needs `each` doubles of the
+// work slice, which has `work`.
 pub(crate) fn judge(
     each: usize,
     n: usize,

@@ -3,7 +3,7 @@ use mathlib.Core.Path.{sym, _∙_}
 use native.Mathlib.Omega.{arith}
 use borrow.Author.Needs.{needs}
 use Rattle.rolling.specs.Calls.{traceOf}
-use Rattle.rolling.proofs.Weighted.{weights-refused, weights-taken, weights-called}
+use Rattle.rolling.proofs.WeightedSums.{weights-refused, weights-taken, weights-called}
 use Rattle.rolling.proofs.rolling_var_weights.Statement.{statement}
 use Rattle.rolling.proofs.rolling_var_weights.Tie as tie
 

@@ -9,7 +9,7 @@ use lib.Ieee.{nan}
 use Rattle.float.specs.Operators.{_⊕_, _⊗_}
 use Rattle.window.specs.Rows.{table}
 use Rattle.window.proofs.Tables.{table-over}
-use Rattle.rolling.proofs.Weighted.{gains}
+use Rattle.rolling.proofs.WeightedSums.{gains}
 use Rattle.rolling.proofs.weights.add.Statement.{statement}
 use Rattle.rolling.proofs.weights.add.Tie as tie
 

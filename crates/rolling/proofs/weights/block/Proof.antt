@@ -1,6 +1,6 @@
 -- Sums that start at zero, and answers of those that all weights have made. Assumes nothing.
 use Rattle.moment.specs.Figure.{doubleOf, byteOf}
-use Rattle.rolling.proofs.Weighted.{sums-start, block-done}
+use Rattle.rolling.proofs.WeightedSums.{sums-start, block-done}
 use borrow.Author.Needs.{needs}
 use Rattle.rolling.proofs.weights.block.Statement.{statement}
 use Rattle.rolling.proofs.weights.block.Tie as tie

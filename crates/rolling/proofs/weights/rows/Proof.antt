@@ -11,7 +11,7 @@ use Rattle.window.specs.Rows.{table}
 use Rattle.window.proofs.Tables.{table-part}
 use Rattle.rolling.specs.WeightedSums.{weightedBy}
 use Rattle.rolling.proofs.Fixed.{right-some}
-use Rattle.rolling.proofs.Weighted.{rows-done}
+use Rattle.rolling.proofs.WeightedSums.{rows-done}
 use Rattle.rolling.proofs.weights.rows.Statement.{statement}
 use Rattle.rolling.proofs.weights.rows.Tie as tie
 

@@ -1,7 +1,7 @@
 -- The rows that have a place for the weight gain its term. Assumes nothing.
 use mathlib.Core.Path.{refl}
 use native.Mathlib.Omega.{arith}
-use Rattle.rolling.proofs.Weighted.{weighed-none, weighed-long, weighed-some}
+use Rattle.rolling.proofs.WeightedSums.{weighed-none, weighed-long, weighed-some}
 use borrow.Author.Needs.{needs}
 use Rattle.rolling.proofs.weights.weigh.Statement.{statement}
 use Rattle.rolling.proofs.weights.weigh.Tie as tie
