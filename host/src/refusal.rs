@@ -1,0 +1,331 @@
+//! Why a call was refused, in words.
+use crate::map::bytes_for;
+use crate::rolling::Plan;
+use std::error::Error;
+use std::fmt;
+
+/// The most readings that a trace may have, and the most rows that a plan may have.
+pub const MOST: usize = 16_777_216;
+
+/// One of the lists that a caller lends for the answers.
+#[derive(Clone, Copy, Debug, PartialEq, Eq)]
+pub enum List {
+    /// A double a row.
+    Figures,
+    /// A byte a row.
+    Present,
+    /// A double a reading, into which a plan call decodes its trace.
+    Readings,
+}
+
+/// Why a call was refused: document 01's numbers, each with what there is to say of it. Of several that apply it is the first
+/// (14 before all, then in number order, of 5, 6 and 7 the first row's), and no lent list has changed.
+///
+/// Its text is a sentence for whoever gave the input. Rows and places count from 0, as in a plan.
+///
+/// ```
+/// use moments::{plan, Plan, Refusal, Setting};
+/// let refusal = plan(&[2.0, 4.0, 6.0], None, Plan::new(&[0, 2], &[2, 4]), Setting::var(1)).unwrap_err();
+/// assert_eq!(refusal, Refusal::EndPastTrace { row: 1, end: 4, readings: 3 });
+/// assert_eq!(refusal.number(), 6);
+/// assert_eq!(refusal.to_string(), "row 1 ends at 4, but the trace has 3 readings, so a row can end at 3 at most");
+/// ```
+#[derive(Clone, Copy, Debug, PartialEq, Eq)]
+pub enum Refusal {
+    /// 1: a trace has more than [`MOST`] readings.
+    TooManyReadings {
+        /// How many.
+        readings: usize,
+    },
+    /// 2: paired traces differ in length.
+    LengthsDiffer {
+        /// Readings of the first.
+        first: usize,
+        /// Readings of the second.
+        second: usize,
+    },
+    /// 3: a map of the wrong length.
+    MapLength {
+        /// Bytes of the map.
+        bytes: usize,
+        /// Readings of its trace, which needs one bit for each.
+        readings: usize,
+    },
+    /// 4: a plan's lists differ in length or have more than [`MOST`] rows.
+    PlanLengths {
+        /// How many starts.
+        starts: usize,
+        /// How many ends.
+        ends: usize,
+    },
+    /// 5: a row's start lies after its end.
+    StartAfterEnd {
+        /// The first such row.
+        row: usize,
+        /// Where it starts.
+        start: u32,
+        /// Where it ends.
+        end: u32,
+    },
+    /// 6: a row's end lies past the trace's.
+    EndPastTrace {
+        /// The first such row.
+        row: usize,
+        /// Where it ends.
+        end: u32,
+        /// Readings of the trace.
+        readings: usize,
+    },
+    /// 7: a row's start or end lies before that of the row before.
+    BeforeLastRow {
+        /// The first such row.
+        row: usize,
+        /// Where it starts and ends.
+        bounds: (u32, u32),
+        /// Where the row before starts and ends.
+        before: (u32, u32),
+    },
+    /// 8: weights together with a map.
+    WeightsWithMap,
+    /// 9: the sum of the weights is zero.
+    WeightsSumToZero,
+    /// 10: another number of weights than the window has places.
+    WeightCount {
+        /// How many weights.
+        weights: usize,
+        /// The window's size.
+        window_size: usize,
+    },
+    /// 11: a range reaches past the trace's end.
+    RangePastTrace {
+        /// Where it starts.
+        start: usize,
+        /// How many places it has.
+        length: usize,
+        /// Readings of the trace.
+        readings: usize,
+    },
+    /// 12: a lent list is too short.
+    ListTooShort {
+        /// Which.
+        list: List,
+        /// How many places it has.
+        length: usize,
+        /// How many it needs.
+        needed: usize,
+    },
+    /// 13: the lent work slice is too short.
+    WorkTooShort {
+        /// How many doubles it has.
+        length: usize,
+        /// How many it needs.
+        needed: usize,
+    },
+    /// 14: the bytes of a trace are no multiple of 8.
+    TraceBytes {
+        /// How many.
+        bytes: usize,
+    },
+    /// A number that document 01 does not have or that does not fit the call: the linked archive is not this crate's.
+    Unknown {
+        /// The number.
+        number: u32,
+    },
+}
+
+impl Refusal {
+    /// Document 01's number, as the library answers it.
+    pub fn number(&self) -> u32 {
+        match self {
+            Self::TooManyReadings { .. } => 1,
+            Self::LengthsDiffer { .. } => 2,
+            Self::MapLength { .. } => 3,
+            Self::PlanLengths { .. } => 4,
+            Self::StartAfterEnd { .. } => 5,
+            Self::EndPastTrace { .. } => 6,
+            Self::BeforeLastRow { .. } => 7,
+            Self::WeightsWithMap => 8,
+            Self::WeightsSumToZero => 9,
+            Self::WeightCount { .. } => 10,
+            Self::RangePastTrace { .. } => 11,
+            Self::ListTooShort { .. } => 12,
+            Self::WorkTooShort { .. } => 13,
+            Self::TraceBytes { .. } => 14,
+            Self::Unknown { number } => *number,
+        }
+    }
+    /// The row of the plan that was refused, where it was one.
+    pub fn row(&self) -> Option<usize> {
+        match self {
+            Self::StartAfterEnd { row, .. } | Self::EndPastTrace { row, .. } | Self::BeforeLastRow { row, .. } => Some(*row),
+            _ => None,
+        }
+    }
+}
+
+/// A number and the thing that it counts.
+fn count(n: usize, one: &str, many: &str) -> String {
+    format!("{n} {}", if n == 1 { one } else { many })
+}
+fn readings(n: usize) -> String {
+    count(n, "reading", "readings")
+}
+fn doubles(n: usize) -> String {
+    count(n, "double", "doubles")
+}
+
+impl fmt::Display for Refusal {
+    fn fmt(&self, f: &mut fmt::Formatter<'_>) -> fmt::Result {
+        match *self {
+            Self::TooManyReadings { readings } => {
+                write!(f, "a trace has {readings} readings, but {MOST} is the most that is taken")
+            }
+            Self::LengthsDiffer { first, second } => {
+                write!(f, "the two traces differ in length: the first has {}, the second {second}", readings(first))
+            }
+            Self::MapLength { bytes, readings: n } => write!(
+                f,
+                "a map of {} has {}, but needs {}: one bit a reading, eight bits a byte",
+                readings(n),
+                count(bytes, "byte", "bytes"),
+                bytes_for(n),
+            ),
+            Self::PlanLengths { starts, ends } if starts == ends => {
+                write!(f, "the plan has {starts} rows, but {MOST} is the most that is taken")
+            }
+            Self::PlanLengths { starts, ends } => write!(
+                f,
+                "the plan has {} and {}, but every row needs both",
+                count(starts, "start", "starts"),
+                count(ends, "end", "ends"),
+            ),
+            Self::StartAfterEnd { row, start, end } => {
+                write!(f, "row {row} starts at {start}, after its end at {end}")
+            }
+            Self::EndPastTrace { row, end, readings: n } => {
+                write!(f, "row {row} ends at {end}, but the trace has {}, so a row can end at {n} at most", readings(n))
+            }
+            Self::BeforeLastRow { row, bounds, before } => {
+                let last = row.wrapping_sub(1);
+                let (start, end) = bounds;
+                match (start < before.0, end < before.1) {
+                    (true, true) => write!(
+                        f,
+                        "row {row}, from {start} to {end}, goes back behind row {last}, from {} to {}: starts and ends must not fall",
+                        before.0, before.1
+                    ),
+                    (true, false) => {
+                        write!(f, "row {row} starts at {start}, before row {last}, which starts at {}: starts must not fall", before.0)
+                    }
+                    _ => write!(f, "row {row} ends at {end}, before row {last}, which ends at {}: ends must not fall", before.1),
+                }
+            }
+            Self::WeightsWithMap => {
+                write!(f, "weights were given for a trace with a map: a weighted window cannot have missing readings")
+            }
+            Self::WeightsSumToZero => write!(f, "the weights add up to zero, so they cannot be divided by their sum"),
+            Self::WeightCount { weights, window_size } => write!(
+                f,
+                "there are {} for a window of {}: each place needs one",
+                count(weights, "weight", "weights"),
+                count(window_size, "place", "places"),
+            ),
+            Self::RangePastTrace { start, length, readings: n } => write!(
+                f,
+                "the range of {} from {start} reaches past the end of the trace, which has {}",
+                count(length, "place", "places"),
+                readings(n),
+            ),
+            Self::ListTooShort { list, length, needed } => {
+                let (list, what) = match list {
+                    List::Figures => ("figures", "row"),
+                    List::Present => ("present bytes", "row"),
+                    List::Readings => ("readings", "reading"),
+                };
+                let places = count(length, "place", "places");
+                write!(f, "the lent list of {list} has {places}, but needs {needed}, one for each {what}")
+            }
+            Self::WorkTooShort { length, needed } => {
+                write!(f, "the lent work slice has {}, but the widest window needs {needed}", doubles(length))
+            }
+            Self::TraceBytes { bytes } => {
+                write!(f, "the trace has {}, which is no multiple of 8: a reading has 8", count(bytes, "byte", "bytes"))
+            }
+            Self::Unknown { number } => {
+                write!(f, "the library answered the number {number}, which this crate does not know: is the archive an older or a newer one?")
+            }
+        }
+    }
+}
+impl Error for Refusal {}
+
+/// What a call was given, as far as a refusal can speak of it; what a call has not is left at its default.
+#[derive(Clone, Copy, Default)]
+pub(crate) struct Given<'a> {
+    pub trace_bytes: usize,
+    pub readings: usize,
+    /// Bytes of the map.
+    pub map: Option<usize>,
+    /// Readings of the second trace, and bytes of its map.
+    pub pair: Option<(usize, Option<usize>)>,
+    pub plan: Plan<'a>,
+    pub weights: usize,
+    pub window_size: usize,
+    pub range: (usize, usize),
+    pub rows: usize,
+    /// Lengths of the lists that are lent.
+    pub figures: usize,
+    pub present: usize,
+    pub decoded: Option<usize>,
+    pub work: usize,
+    pub needed_work: usize,
+}
+impl Given<'_> {
+    pub fn trace(trace: &[f64], map: Option<&[u8]>) -> Self {
+        Given { readings: trace.len(), map: map.map(<[u8]>::len), ..Given::default() }
+    }
+    /// 0 is acceptance; any other number is said in full.
+    pub fn result(&self, number: u32) -> Result<(), Refusal> {
+        match number {
+            0 => Ok(()),
+            _ => Err(self.refusal(number).filter(|refusal| refusal.number() == number).unwrap_or(Refusal::Unknown { number })),
+        }
+    }
+    /// The same for a call that is lent work, of which more is told only where it was too short.
+    pub fn result_of_work(self, number: u32, needed: impl FnOnce() -> usize) -> Result<(), Refusal> {
+        let needed_work = if number == 13 { needed() } else { 0 };
+        Given { needed_work, ..self }.result(number)
+    }
+    fn refusal(&self, number: u32) -> Option<Refusal> {
+        let second = self.pair.map_or(0, |(readings, _)| readings);
+        Some(match number {
+            1 => Refusal::TooManyReadings { readings: self.readings.max(second) },
+            2 => Refusal::LengthsDiffer { first: self.readings, second },
+            3 => self.bad_map()?,
+            4 => Refusal::PlanLengths { starts: self.plan.starts.len(), ends: self.plan.ends.len() },
+            5..=7 => self.plan.first_refusal(self.readings)?,
+            8 => Refusal::WeightsWithMap,
+            9 => Refusal::WeightsSumToZero,
+            10 => Refusal::WeightCount { weights: self.weights, window_size: self.window_size },
+            11 => Refusal::RangePastTrace { start: self.range.0, length: self.range.1, readings: self.readings },
+            12 => self.short_list()?,
+            13 => Refusal::WorkTooShort { length: self.work, needed: self.needed_work },
+            14 => Refusal::TraceBytes { bytes: self.trace_bytes },
+            _ => return None,
+        })
+    }
+    fn bad_map(&self) -> Option<Refusal> {
+        let first = Some((self.readings, self.map));
+        let maps = [first, self.pair].into_iter().flatten().filter_map(|(readings, map)| Some((readings, map?)));
+        maps.map(|(readings, bytes)| Refusal::MapLength { bytes, readings })
+            .find(|refusal| matches!(refusal, Refusal::MapLength { bytes, readings } if *bytes != bytes_for(*readings)))
+    }
+    fn short_list(&self) -> Option<Refusal> {
+        let decoded = self.decoded.map(|length| (List::Readings, length, self.readings));
+        [Some((List::Figures, self.figures, self.rows)), Some((List::Present, self.present, self.rows)), decoded]
+            .into_iter()
+            .flatten()
+            .find(|(_, length, needed)| length < needed)
+            .map(|(list, length, needed)| Refusal::ListTooShort { list, length, needed })
+    }
+}
