@@ -41,6 +41,9 @@ fn main() {
     println!("cargo:rerun-if-changed=build.rs");
     println!("cargo:rerun-if-env-changed=MOMENTS_LIB_DIR");
     println!("cargo:rerun-if-env-changed=ORACLE_SRC");
+    if Command::new("valgrind").arg("--version").output().is_ok_and(|out| out.status.success()) {
+        println!("cargo:rustc-cfg=valgrind");
+    }
     if env::var_os("ORACLE_SRC").is_some_and(|folder| Path::new(&folder).is_dir()) {
         println!("cargo:rustc-cfg=oracle");
     }

@@ -224,12 +224,10 @@ impl fmt::Display for Refusal {
                 write!(f, "weights were given for a trace with a map: a weighted window cannot have missing readings")
             }
             Self::WeightsSumToZero => write!(f, "the weights add up to zero, so they cannot be divided by their sum"),
-            Self::WeightCount { weights, window_size } => write!(
-                f,
-                "there are {} for a window of {}: each place needs one",
-                count(weights, "weight", "weights"),
-                count(window_size, "place", "places"),
-            ),
+            Self::WeightCount { weights, window_size } => {
+                let places = count(window_size, "place", "places");
+                write!(f, "a window of {places} needs as many weights, but {weights} are given")
+            }
             Self::RangePastTrace { start, length, readings: n } => write!(
                 f,
                 "the range of {} from {start} reaches past the end of the trace, which has {}",

@@ -195,7 +195,7 @@ pub fn plan(trace: &[f64], map: Option<&[u8]>, plan: Plan<'_>, setting: Setting)
 }
 
 /// [`plan`] into lists that the caller lends, of a trace that is given as bytes, eight a reading, little-endian, at any address.
-/// An accepted call decodes them into `readings`, bits unchanged.
+/// An accepted call decodes them into `readings`, bits unchanged but for a NaN's, which are then 7FF8000000000000.
 ///
 /// ```
 /// use moments::{plan_into, Lists, Plan, Setting};

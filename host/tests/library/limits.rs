@@ -1,0 +1,73 @@
+//! 16,777,216 readings, and as many rows, are taken; one more is refused, before anything is allocated or written.
+use moments::*;
+
+fn over(readings: usize) -> Refusal {
+    Refusal::TooManyReadings { readings }
+}
+
+#[test]
+fn readings_of_arrays() {
+    let trace: Vec<f64> = (0..=MOST).map(|i| (i % 2) as f64).collect();
+    let (most, map) = (&trace[..MOST], vec![0xFF; MOST / 8]);
+    let map = Some(&map[..]);
+    assert_eq!(var(most, None).map(|s| (s.weight, s.finalize(0))), Ok((MOST as f64, Some(0.25))));
+    assert_eq!(skew(most, map).map(|s| s.weight), Ok(MOST as f64));
+    assert_eq!(kurtosis(most, None).map(|s| s.weight), Ok(MOST as f64));
+    assert_eq!(cov(most, map, most, None).map(|s| s.finalize(0)), Ok(Some(0.25)));
+    assert_eq!(pearson_corr(most, None, most, map).map(|s| s.finalize()), Ok(1.0));
+    assert_eq!(skew_range(most, None, MOST, 0).map(|s| s.weight), Ok(0.0));
+    assert_eq!(kurtosis_range(most, map, MOST - 2, 2).map(|s| s.weight), Ok(2.0));
+    let one_more = Err(over(MOST + 1));
+    assert_eq!(var(&trace, None).map(drop), one_more);
+    assert_eq!(skew(&trace, map).map(drop), one_more);
+    assert_eq!(kurtosis(&trace, None).map(drop), one_more);
+    assert_eq!(cov(&trace, map, &trace, None).map(drop), one_more);
+    assert_eq!(cov(&trace, map, most, None).map(drop), one_more);
+    assert_eq!(pearson_corr(most, None, &trace, map).map(drop), one_more);
+    assert_eq!(skew_range(&trace, None, 0, 1).map(drop), one_more);
+    assert_eq!(kurtosis_range(&trace, map, usize::MAX, 1).map(drop), one_more);
+}
+
+#[test]
+fn readings_of_fixed_windows() {
+    let trace: Vec<f64> = (0..=MOST).map(|i| (i % 2) as f64).collect();
+    for setting in [Setting::var(0), Setting::skew(true), Setting::kurtosis(true, true)] {
+        let answers = rolling(&trace[..MOST], None, Window::trailing(2), setting).expect("as many as are taken");
+        let wanted = match setting.figure {
+            Figure::Var { .. } => 0.25,
+            Figure::Skew { .. } => 0.0,
+            Figure::Kurtosis { .. } => -2.0,
+        };
+        assert_eq!((answers.len(), answers[1], answers[MOST - 1]), (MOST, Some(wanted), Some(wanted)));
+        drop(answers);
+        assert_eq!(rolling(&trace, None, Window::trailing(2), setting).map(drop), Err(over(MOST + 1)));
+    }
+    let answers = rolling_var_weights(&trace[..MOST], None, Window::trailing(2), 2, &[1.0, 1.0]).expect("as many as are taken");
+    assert_eq!((answers[0], answers[MOST - 1]), (None, Some(0.25)));
+    assert_eq!(rolling_var_weights(&trace, None, Window::trailing(2), 2, &[1.0]).map(drop), Err(over(MOST + 1)));
+}
+
+#[test]
+fn readings_of_plans() {
+    let trace: Vec<f64> = (0..=MOST).map(|i| (i % 2) as f64).collect();
+    let rows = Plan::new(&[0, MOST as u32 - 2], &[2, MOST as u32]);
+    for (setting, wanted) in [(Setting::var(0), 0.25), (Setting::skew(true), 0.0), (Setting::kurtosis(true, true), -2.0)] {
+        assert_eq!(plan(&trace[..MOST], None, rows, setting), Ok(vec![Some(wanted); 2]));
+        assert_eq!(plan(&trace, None, Plan::new(&[3], &[2]), setting), Err(over(MOST + 1)));
+    }
+}
+
+#[test]
+fn rows_of_plans() {
+    let (mut starts, mut ends) = (vec![0; MOST], vec![2; MOST]);
+    for (setting, wanted) in [(Setting::var(0), 0.25), (Setting::skew(true), 0.0), (Setting::kurtosis(true, true), -2.0)] {
+        let answers = plan(&[0.0, 1.0], None, Plan::new(&starts, &ends), setting).expect("as many as are taken");
+        assert_eq!((answers.len(), answers[0], answers[MOST - 1]), (MOST, Some(wanted), Some(wanted)));
+    }
+    starts.push(1);
+    ends.push(1);
+    let both = Refusal::PlanLengths { starts: MOST + 1, ends: MOST + 1 };
+    for setting in [Setting::var(0), Setting::skew(true), Setting::kurtosis(true, true)] {
+        assert_eq!(plan(&[0.0, 1.0], None, Plan::new(&starts, &ends), setting), Err(both));
+    }
+}
