@@ -17,7 +17,7 @@
 //! let answers = plan(&trace, map.as_deref(), windows, Setting::var(1))?;
 //! assert!(answers[0].unwrap() < 0.021);            // two readings that hardly differ
 //! assert_eq!(answers[1], None);                    // one reading has no variance at ddof 1
-//! assert!(answers[2].unwrap() > 17.9);             // a swing
+//! assert_eq!(answers[2], Some(18.0));              // a swing
 //!
 //! let refusal = plan(&trace, map.as_deref(), Plan::new(&[0, 2, 1], &[3, 4, 5]), Setting::var(1)).unwrap_err();
 //! assert_eq!(refusal.to_string(), "row 2 starts at 1, before row 1, which starts at 2: starts must not fall");
@@ -44,3 +44,8 @@ pub use refusal::{List, Refusal, MOST};
 pub use rolling::{
     plan, plan_into, rolling, rolling_into, rolling_var_weights, rolling_var_weights_into, Figure, Lists, Plan, Setting, Window,
 };
+
+/// The README's example is run too.
+#[cfg(doctest)]
+#[doc = include_str!("../../README.md")]
+struct Readme;

@@ -55,6 +55,9 @@ fn readings_of_plans() {
         assert_eq!(plan(&trace[..MOST], None, rows, setting), Ok(vec![Some(wanted); 2]));
         assert_eq!(plan(&trace, None, Plan::new(&[3], &[2]), setting), Err(over(MOST + 1)));
     }
+    // a window of all of them, by the figure that needs most work
+    let rows = Plan::new(&[0], &[MOST as u32]);
+    assert_eq!(plan(&trace[..MOST], None, rows, Setting::kurtosis(true, true)), Ok(vec![Some(-2.0)]));
 }
 
 #[test]

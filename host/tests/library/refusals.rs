@@ -92,8 +92,11 @@ fn plans_are_refused_by_the_first_number_that_applies() {
             (|c| c.ends[2] = 10, Refusal::EndPastTrace { row: 2, end: 10, readings: 9 }),
             (|c| c.starts[2] = 1, row),
             (|c| c.lent.figures = 2, Refusal::ListTooShort { list: List::Figures, length: 2, needed: 3 }),
-            (|c| c.lent.present = 0, Refusal::ListTooShort { list: List::Present, length: 0, needed: 3 }),
-            (|c| c.lent.readings = 8, Refusal::ListTooShort { list: List::Readings, length: 8, needed: 9 }),
+            (|c| (c.lent.figures, c.lent.present) = (3, 0), Refusal::ListTooShort { list: List::Present, length: 0, needed: 3 }),
+            (
+                |c| (c.lent.figures, c.lent.present, c.lent.readings) = (3, 3, 8),
+                Refusal::ListTooShort { list: List::Readings, length: 8, needed: 9 },
+            ),
             (|c| c.lent.work = c.setting.work(6) - 1, Refusal::WorkTooShort { length: needed - 1, needed }),
         ];
         try_each(&PlanCall::new(setting), &faults, PlanCall::run);

@@ -6,7 +6,7 @@ use std::process::Command;
 fn no_error_under_valgrind() {
     let this = std::env::current_exe().expect("this program");
     let out = Command::new("valgrind")
-        .args(["--error-exitcode=9", "--leak-check=full", "--show-leak-kinds=definite"])
+        .args(["--error-exitcode=9", "--leak-check=full", "--show-leak-kinds=definite", "--errors-for-leak-kinds=definite"])
         .arg(this)
         .args(["vectors::", "refusals::", "--test-threads=1"])
         .output()
