@@ -1,0 +1,91 @@
+//! Files that are either written whole or left as they are.
+use crate::options::{Options, Windows};
+use crate::text::name;
+use std::fs::{self, File, OpenOptions};
+use std::io::{self, BufWriter, Write};
+use std::path::{Path, PathBuf};
+
+/// A file that is complete, but under another name beside its target. Unless it is kept, it is gone with this.
+#[derive(Debug)]
+pub struct Draft {
+    path: PathBuf,
+    target: PathBuf,
+}
+impl Draft {
+    pub fn new(target: &Path, fill: &mut dyn FnMut(&mut dyn Write) -> io::Result<()>) -> Result<Draft, String> {
+        let said = |why: io::Error| format!("{}: cannot be written: {why}", name(target));
+        let target = resolved(target).map_err(said)?;
+        let before = fs::metadata(&target).ok();
+        if before.as_ref().is_some_and(|file| !file.is_file()) {
+            return Err(format!("{}: cannot be written: it is no ordinary file", name(&target)));
+        }
+        let (path, file) = fresh(target.parent().unwrap_or(Path::new("."))).map_err(said)?;
+        let draft = Draft { path, target };
+        let mut out = BufWriter::with_capacity(1 << 16, file);
+        fill(&mut out).and_then(|()| out.flush()).map_err(said)?;
+        if let Some(before) = before {
+            fs::set_permissions(&draft.path, before.permissions()).map_err(said)?;
+        }
+        Ok(draft)
+    }
+    pub fn keep(self) -> Result<(), String> {
+        fs::rename(&self.path, &self.target).map_err(|why| format!("{}: cannot be written: {why}", name(&self.target)))
+    }
+}
+impl Drop for Draft {
+    fn drop(&mut self) {
+        // After `keep` there is none under this name.
+        let _ = fs::remove_file(&self.path);
+    }
+}
+
+/// A new file in a folder.
+fn fresh(folder: &Path) -> io::Result<(PathBuf, File)> {
+    let mut last = io::Error::from(io::ErrorKind::AlreadyExists);
+    for number in 0..100 {
+        let path = folder.join(format!(".collector-{}-{number}.tmp", std::process::id()));
+        match OpenOptions::new().write(true).create_new(true).open(&path) {
+            Ok(file) => return Ok((path, file)),
+            Err(why) if why.kind() == io::ErrorKind::AlreadyExists => last = why,
+            Err(why) => return Err(why),
+        }
+    }
+    Err(last)
+}
+
+/// The path without links: that of the file, or if there is none, of its folder.
+fn resolved(path: &Path) -> io::Result<PathBuf> {
+    fs::canonicalize(path).or_else(|why| match (path.parent(), path.file_name()) {
+        (Some(folder), Some(file)) if why.kind() == io::ErrorKind::NotFound => {
+            let folder = if folder.as_os_str().is_empty() { Path::new(".") } else { folder };
+            Ok(fs::canonicalize(folder)?.join(file))
+        }
+        _ => Err(why),
+    })
+}
+
+/// No two of the files may be the same.
+pub fn check_names(options: &Options) -> Result<(), String> {
+    let plan = match &options.windows {
+        Windows::Plan(path) => Some(path),
+        Windows::Fixed { .. } => None,
+    };
+    let same = |first: Option<&PathBuf>, second: Option<&PathBuf>| match (first, second) {
+        (Some(first), Some(second)) => {
+            first == second || resolved(first).ok().zip(resolved(second).ok()).is_some_and(|(first, second)| first == second)
+        }
+        _ => false,
+    };
+    let (trace, output, svg) = (options.trace.as_ref(), options.output.as_ref(), options.svg.as_ref());
+    let pairs = [
+        (output, svg, "--output and --svg name the same file"),
+        (output, trace, "--output names the file of the trace"),
+        (output, plan, "--output names the file of the plan"),
+        (svg, trace, "--svg names the file of the trace"),
+        (svg, plan, "--svg names the file of the plan"),
+    ];
+    match pairs.into_iter().find(|(first, second, _)| same(*first, *second)) {
+        Some((_, _, wrong)) => Err(wrong.to_string()),
+        None => Ok(()),
+    }
+}

@@ -1,0 +1,449 @@
+//! The picture: the figure above, the trace below, over the same places.
+use crate::report::{Report, Row, Rows};
+use crate::scale::Scale;
+use crate::text::{capped, count};
+use std::fmt::Write;
+
+const WIDTH: f64 = 1200.0;
+const HEIGHT: f64 = 660.0;
+const LEFT: f64 = 84.0;
+const RIGHT: f64 = 1180.0;
+/// A plan with more rows is drawn as a line.
+const MOST_BARS: usize = 400;
+
+const GRID: &str = "#e9e9e9";
+const FRAME: &str = "#9a9a9a";
+const MISSING: &str = "#f3dfae";
+const MISSING_FIGURE: &str = "#8c8c8c";
+const NOT_FINITE: &str = "#d01c1c";
+const TRACE: &str = "#1f5f99";
+const FIGURE: &str = "#b4500f";
+
+/// A part of the picture with its own vertical axis.
+struct Panel {
+    top: f64,
+    bottom: f64,
+    scale: Option<Scale>,
+}
+impl Panel {
+    fn y(&self, value: f64) -> f64 {
+        let fraction = self.scale.map_or(0.5, |scale| scale.fraction(value));
+        self.bottom - fraction * (self.bottom - self.top)
+    }
+}
+
+/// A picture of a report, complete and valid whatever the report holds.
+pub fn svg(report: &Report<'_>) -> String {
+    Picture::new(report).draw()
+}
+
+struct Picture<'a> {
+    report: &'a Report<'a>,
+    out: String,
+    figure: Panel,
+    trace: Panel,
+    /// What occurs, for the key.
+    key: Vec<(Swatch, &'static str, String)>,
+}
+enum Swatch {
+    Line,
+    Band,
+    Mark,
+}
+
+impl<'a> Picture<'a> {
+    fn new(report: &'a Report<'a>) -> Self {
+        let readings = (0..report.trace.len()).filter_map(|place| report.trace.reading(place));
+        let figures = || report.rows().filter_map(|row| row.figure);
+        let logarithmic = if report.options.is_variance() { Scale::logarithmic(figures()) } else { None };
+        let figure = Panel { top: 86.0, bottom: 312.0, scale: logarithmic.or_else(|| Scale::around(figures(), true)) };
+        let trace = Panel { top: 350.0, bottom: 566.0, scale: Scale::around(readings, false) };
+        Picture { report, out: String::new(), figure, trace, key: Vec::new() }
+    }
+    fn draw(mut self) -> String {
+        self.push(format_args!(
+            "<svg xmlns=\"http://www.w3.org/2000/svg\" width=\"{WIDTH}\" height=\"{HEIGHT}\" viewBox=\"0 0 {WIDTH} {HEIGHT}\" \
+             font-family=\"sans-serif\" font-size=\"13\" fill=\"#222222\">"
+        ));
+        self.rect((0.0, WIDTH), (0.0, HEIGHT), "#ffffff");
+        self.titles();
+        self.places();
+        self.values(|picture| &picture.figure, "no figure");
+        self.values(|picture| &picture.trace, "no reading");
+        self.figures();
+        self.readings();
+        self.frames();
+        self.keys();
+        self.out.push_str("</svg>\n");
+        self.out
+    }
+
+    fn push(&mut self, element: std::fmt::Arguments<'_>) {
+        // Writing to a string does not fail.
+        let _ = writeln!(self.out, "{element}");
+    }
+    fn rect(&mut self, (from, to): (f64, f64), (top, bottom): (f64, f64), fill: &str) {
+        let (width, height) = (to - from, bottom - top);
+        self.push(format_args!(
+            "<rect x=\"{from:.1}\" y=\"{top:.1}\" width=\"{width:.1}\" height=\"{height:.1}\" fill=\"{fill}\"/>"
+        ));
+    }
+    fn line(&mut self, (x1, y1): (f64, f64), (x2, y2): (f64, f64), stroke: &str) {
+        self.push(format_args!("<line x1=\"{x1:.1}\" y1=\"{y1:.1}\" x2=\"{x2:.1}\" y2=\"{y2:.1}\" stroke=\"{stroke}\"/>"));
+    }
+    fn path(&mut self, path: &str, stroke: &str) {
+        if !path.is_empty() {
+            self.push(format_args!(
+                "<path d=\"{path}\" fill=\"none\" stroke=\"{stroke}\" stroke-width=\"1.3\" stroke-linecap=\"round\" stroke-linejoin=\"round\"/>"
+            ));
+        }
+    }
+    fn text(&mut self, (x, y): (f64, f64), style: &str, text: &str) {
+        let text = escaped(text);
+        self.push(format_args!("<text x=\"{x:.1}\" y=\"{y:.1}\" {style}>{text}</text>"));
+    }
+    /// Where a place starts.
+    fn x(&self, place: f64) -> f64 {
+        let places = self.report.trace.len().max(1) as f64;
+        LEFT + (place / places).clamp(0.0, 1.0) * (RIGHT - LEFT)
+    }
+    fn across(&self, start: usize, end: usize) -> (f64, f64) {
+        (self.x(start as f64), self.x(end as f64))
+    }
+
+    fn titles(&mut self) {
+        let report = self.report;
+        let (trace, windows) = (file_name(&report.trace.file), file_name(&report.windows()));
+        let mut title = report.options.asked();
+        title.get_mut(..1).map(str::make_ascii_uppercase).unwrap_or(());
+        self.text((LEFT, 30.0), "font-size=\"19\" font-weight=\"bold\"", &title);
+        let rows = count(report.len(), "row");
+        self.text((LEFT, 51.0), "", &format!("trace {trace}: {}; windows {windows}: {rows}", report.readings()));
+        let logarithmic = self.figure.scale.is_some_and(|scale| scale.logarithmic);
+        let axis = match logarithmic {
+            true if report.rows().any(|row| row.figure == Some(0.0)) => " (logarithmic axis; 0 stands at its base)",
+            true => " (logarithmic axis)",
+            false => "",
+        };
+        self.text((LEFT, self.figure.top - 8.0), "font-weight=\"bold\"", &format!("{}{axis}", report.options.figure()));
+        self.text((LEFT, self.trace.top - 8.0), "font-weight=\"bold\"", "temperature");
+    }
+
+    /// The horizontal axis, which both panels share.
+    fn places(&mut self) {
+        let places = self.report.trace.len();
+        let scale = Scale::linear(0.0, places as f64);
+        let ticks: Vec<usize> = match places {
+            0 => Vec::new(),
+            // A tick stands at a whole place.
+            _ => scale.ticks(9).into_iter().filter(|(tick, _)| tick.fract() == 0.0).map(|(tick, _)| tick as usize).collect(),
+        };
+        let times = short_times(ticks.iter().map(|tick| self.report.trace.times.get(*tick)));
+        for (tick, time) in ticks.iter().zip(times) {
+            let x = self.x(*tick as f64);
+            for (top, bottom) in [(self.figure.top, self.figure.bottom), (self.trace.top, self.trace.bottom + 5.0)] {
+                self.line((x, top), (x, bottom), GRID);
+            }
+            self.line((x, self.trace.bottom), (x, self.trace.bottom + 5.0), FRAME);
+            self.text((x, self.trace.bottom + 19.0), "text-anchor=\"middle\"", &tick.to_string());
+            self.text((x, self.trace.bottom + 36.0), "text-anchor=\"middle\" fill=\"#555555\"", &time);
+        }
+        self.text((LEFT - 12.0, self.trace.bottom + 19.0), "text-anchor=\"end\" fill=\"#555555\"", "place");
+    }
+    /// A panel's vertical axis.
+    fn values(&mut self, panel: impl Fn(&Self) -> &Panel, if_none: &str) {
+        let Panel { top, bottom, scale } = *panel(self);
+        let Some(scale) = scale else {
+            self.text(((LEFT + RIGHT) / 2.0, (top + bottom) / 2.0), "text-anchor=\"middle\" fill=\"#777777\"", if_none);
+            return;
+        };
+        for (tick, text) in scale.ticks(6) {
+            let y = panel(self).y(tick);
+            self.line((LEFT, y), (RIGHT, y), if tick == 0.0 { "#bdbdbd" } else { GRID });
+            self.text((LEFT - 8.0, y + 4.5), "text-anchor=\"end\"", &text);
+        }
+    }
+    fn frames(&mut self) {
+        for (top, bottom) in [(self.figure.top, self.figure.bottom), (self.trace.top, self.trace.bottom)] {
+            let (width, height) = (RIGHT - LEFT, bottom - top);
+            self.push(format_args!(
+                "<rect x=\"{LEFT}\" y=\"{top}\" width=\"{width}\" height=\"{height}\" fill=\"none\" stroke=\"{FRAME}\"/>"
+            ));
+        }
+    }
+
+    fn readings(&mut self) {
+        let trace = &self.report.trace;
+        let spans = |such: fn(Option<f64>) -> bool| {
+            let places = (0..trace.len()).filter(move |place| such(trace.reading(*place)));
+            stretches(places.map(|place| self.across(place, place + 1)), 1.0)
+        };
+        let missing = spans(|reading| reading.is_none());
+        let not_finite = spans(|reading| reading.is_some_and(|x| !x.is_finite()));
+        let points = (0..trace.len()).map(|place| {
+            let reading = trace.reading(place).filter(|x| x.is_finite());
+            (self.x(place as f64 + 0.5), reading.map(|x| self.trace.y(x)))
+        });
+        let path = path(points);
+        let Panel { top, bottom, .. } = self.trace;
+        for span in &missing {
+            self.rect(*span, (top, bottom), MISSING);
+        }
+        for span in &not_finite {
+            self.rect(*span, (top, bottom), "#fbdcdc");
+        }
+        self.path(&path, TRACE);
+        for (from, to) in &not_finite {
+            let half = ((to - from) / 2.0).max(1.0);
+            let middle = (from + to) / 2.0;
+            self.rect((middle - half, middle + half), (top, top + 9.0), NOT_FINITE);
+        }
+        self.in_key(!path.is_empty(), Swatch::Line, TRACE, "reading");
+        self.in_key(!missing.is_empty(), Swatch::Band, MISSING, "reading missing");
+        self.in_key(!not_finite.is_empty(), Swatch::Mark, NOT_FINITE, "reading not finite");
+    }
+
+    fn figures(&mut self) {
+        let bars = matches!(self.report.rows, Rows::Plan(_)) && self.report.len() <= MOST_BARS;
+        if bars {
+            self.bars();
+        } else {
+            let points = self.points().map(|(x, figure)| (x, figure.filter(|x| x.is_finite()).map(|x| self.figure.y(x))));
+            let path = path(points);
+            self.path(&path, FIGURE);
+            self.in_key(
+                !path.is_empty(),
+                Swatch::Line,
+                FIGURE,
+                match self.report.rows {
+                    Rows::Plan(_) => "figure, at its window's middle",
+                    Rows::Fixed(window) if window.center => "figure, at its window's middle",
+                    Rows::Fixed(_) => "figure, at its window's last place",
+                },
+            );
+        }
+        let spans = |such: fn(&Row<'_>) -> bool| {
+            let rows = self.report.rows().zip(self.points()).filter(move |(row, _)| such(row));
+            stretches(rows.map(|(row, (x, _))| if bars { self.across(row.start, row.end) } else { (x, x) }), 2.0)
+        };
+        let missing = spans(|row| row.figure.is_none());
+        let not_finite = spans(|row| row.is_marked());
+        let Panel { top, bottom, .. } = self.figure;
+        for span in &missing {
+            self.rect(*span, (bottom - 6.0, bottom), MISSING_FIGURE);
+        }
+        for span in &not_finite {
+            self.rect(*span, (top, top + 9.0), NOT_FINITE);
+        }
+        self.in_key(!missing.is_empty(), Swatch::Mark, MISSING_FIGURE, "figure missing");
+        self.in_key(!not_finite.is_empty(), Swatch::Mark, NOT_FINITE, "figure not finite");
+    }
+    /// Each row's figure, from left to right: a plan's at the window's middle, another at the row's own place.
+    fn points(&self) -> impl Iterator<Item = (f64, Option<f64>)> + '_ {
+        let fixed = matches!(self.report.rows, Rows::Fixed(_));
+        self.report.rows().enumerate().map(move |(number, row)| {
+            let place = if fixed { number as f64 + 0.5 } else { (row.start + row.end) as f64 / 2.0 };
+            (self.x(place), row.figure)
+        })
+    }
+    fn bars(&mut self) {
+        let report = self.report;
+        let mut drawn = false;
+        let mut end = 0;
+        let apart = report.rows().all(|row| row.start >= std::mem::replace(&mut end, row.end));
+        for row in report.rows() {
+            let Some(figure) = row.figure.filter(|figure| figure.is_finite()) else { continue };
+            let (from, to) = widened(self.across(row.start, row.end), 2.0);
+            let (y, zero) = (self.figure.y(figure), self.figure.y(0.0));
+            if apart {
+                self.rect((from, to), (y.min(zero), y.max(zero)), "#f8e6d8");
+            }
+            self.rect((from, to), (y - 1.25, y + 1.25), FIGURE);
+            drawn = true;
+        }
+        self.in_key(drawn, Swatch::Line, FIGURE, "figure, over its window");
+    }
+
+    fn in_key(&mut self, occurs: bool, swatch: Swatch, color: &'static str, text: &str) {
+        if occurs {
+            self.key.push((swatch, color, text.to_string()));
+        }
+    }
+    fn keys(&mut self) {
+        let (mut x, y) = (LEFT, HEIGHT - 22.0);
+        for (swatch, color, text) in std::mem::take(&mut self.key) {
+            let width = match swatch {
+                Swatch::Line => 24.0,
+                Swatch::Band => 14.0,
+                Swatch::Mark => 4.0,
+            };
+            let height = if matches!(swatch, Swatch::Line) { 2.5 } else { 12.0 };
+            self.rect((x, x + width), (y - height / 2.0, y + height / 2.0), color);
+            self.text((x + width + 6.0, y + 4.5), "", &text);
+            x += width + 30.0 + 6.6 * text.chars().count() as f64;
+        }
+    }
+}
+
+/// The last part of a path, as far as it has room.
+fn file_name(path: &str) -> String {
+    capped(path.rsplit('/').next().unwrap_or(path))
+}
+
+/// Times to stand below ticks: of ISO times the dates, unless two neighbours then read the same.
+fn short_times<'a>(times: impl Iterator<Item = &'a str>) -> Vec<String> {
+    let times: Vec<&str> = times.collect();
+    let cut =
+        |most: usize| times.iter().map(move |time| if is_iso(time) { time.chars().take(most).collect() } else { brief(time) });
+    let dates: Vec<String> = cut("2025-01-31".len()).collect();
+    if dates.iter().zip(dates.iter().skip(1)).any(|(date, next)| date == next) {
+        return cut("2025-01-31T12:30".len()).collect();
+    }
+    dates
+}
+fn is_iso(time: &str) -> bool {
+    let mut bytes = time.bytes();
+    let date = b"dddd-dd-dd"
+        .iter()
+        .all(|form| bytes.next().is_some_and(|byte| if *form == b'd' { byte.is_ascii_digit() } else { byte == *form }));
+    date && matches!(bytes.next(), None | Some(b'T' | b't' | b' '))
+}
+fn brief(time: &str) -> String {
+    let most = "2025-01-31T12:30".len();
+    let mut brief: String = time.chars().take(most).collect();
+    if time.chars().nth(most).is_some() {
+        brief.push('…');
+    }
+    brief
+}
+
+/// Text for an XML element. What XML cannot have is left out.
+fn escaped(text: &str) -> String {
+    let mut escaped = String::new();
+    for c in text.chars() {
+        match c {
+            '&' => escaped.push_str("&amp;"),
+            '<' => escaped.push_str("&lt;"),
+            '>' => escaped.push_str("&gt;"),
+            '\t' | '\n' | '\r' => escaped.push(' '),
+            '\u{0}'..='\u{1F}' | '\u{7F}'..='\u{9F}' | '\u{FFFE}' | '\u{FFFF}' => {}
+            c => escaped.push(c),
+        }
+    }
+    escaped
+}
+
+/// At least so wide, about its middle.
+fn widened((from, to): (f64, f64), least: f64) -> (f64, f64) {
+    let more = ((least - (to - from)) / 2.0).max(0.0);
+    (from - more, to + more)
+}
+
+/// Spans that come in order, each at least so wide; those that touch are one, so that there are never more than fit side by side.
+fn stretches(spans: impl Iterator<Item = (f64, f64)>, least: f64) -> Vec<(f64, f64)> {
+    let mut all: Vec<(f64, f64)> = Vec::new();
+    for span in spans {
+        let (from, to) = widened(span, least);
+        match all.last_mut() {
+            Some(last) if from <= last.1 + 0.5 => last.1 = last.1.max(to),
+            _ => all.push((from, to)),
+        }
+    }
+    all
+}
+
+/// The points of one pixel's width that a line cannot do without.
+#[derive(Clone, Copy)]
+struct Column {
+    number: i64,
+    first: (f64, f64),
+    low: (f64, f64),
+    high: (f64, f64),
+    last: (f64, f64),
+}
+impl Column {
+    fn new(number: i64, point: (f64, f64)) -> Self {
+        Column { number, first: point, low: point, high: point, last: point }
+    }
+    fn add(&mut self, point: (f64, f64)) {
+        self.low = if point.1 < self.low.1 { point } else { self.low };
+        self.high = if point.1 > self.high.1 { point } else { self.high };
+        self.last = point;
+    }
+    /// Draws on from the column before, or anew. A point alone shows by its round ends.
+    fn draw(&self, path: &mut String, anew: bool, alone: bool) {
+        let between = if self.low.0 <= self.high.0 { [self.low, self.high] } else { [self.high, self.low] };
+        let mut points = vec![self.first, between[0], between[1], self.last];
+        points.dedup();
+        let single = points.len() == 1;
+        for (number, (x, y)) in points.into_iter().enumerate() {
+            let _ = write!(path, "{}{x:.1} {y:.1}", if anew && number == 0 { "M" } else { "L" });
+        }
+        if single && anew && alone {
+            path.push_str("h0");
+        }
+    }
+}
+
+/// A line through points that come in order of x. A place without one breaks it, if its pixel has no other.
+fn path(points: impl Iterator<Item = (f64, Option<f64>)>) -> String {
+    let (mut path, mut column, mut gap, mut anew) = (String::new(), None::<Column>, None, true);
+    for (x, y) in points {
+        let number = x.floor() as i64;
+        let same = column.is_some_and(|column| column.number == number);
+        match (y, &mut column) {
+            (None, _) if same => {}
+            (None, _) => gap = gap.or(Some(number)),
+            (Some(y), Some(column)) if same => column.add((x, y)),
+            (Some(y), _) => {
+                let breaks = gap.take().is_some_and(|gap| gap != number);
+                if let Some(column) = column.take() {
+                    column.draw(&mut path, anew, breaks);
+                    anew = breaks;
+                }
+                column = Some(Column::new(number, (x, y)));
+            }
+        }
+    }
+    if let Some(column) = column {
+        column.draw(&mut path, anew, true);
+    }
+    path
+}
+
+#[cfg(test)]
+mod tests {
+    use super::*;
+
+    #[test]
+    fn lines_break_at_gaps_and_keep_extremes() {
+        let few = [(0.5, Some(1.0)), (1.5, Some(2.0)), (2.5, None), (3.5, Some(3.0)), (4.5, None)];
+        assert_eq!(path(few.into_iter()), "M0.5 1.0L1.5 2.0M3.5 3.0h0");
+        let many = [(0.1, Some(5.0)), (0.2, Some(9.0)), (0.3, None), (0.4, Some(1.0)), (0.5, Some(4.0)), (1.2, Some(4.0))];
+        assert_eq!(path(many.into_iter()), "M0.1 5.0L0.2 9.0L0.4 1.0L0.5 4.0L1.2 4.0");
+        let long = [(0.1, Some(5.0)), (1.1, None), (2.1, None), (2.2, Some(5.0)), (3.1, Some(5.0))];
+        assert_eq!(path(long.into_iter()), "M0.1 5.0h0M2.2 5.0L3.1 5.0");
+        let inside = [(0.1, Some(5.0)), (1.1, None), (1.2, Some(5.0)), (2.1, Some(5.0))];
+        assert_eq!(path(inside.into_iter()), "M0.1 5.0L1.2 5.0L2.1 5.0");
+        assert_eq!(path([(0.1, None)].into_iter()), "");
+    }
+
+    #[test]
+    fn stretches_that_touch_are_one() {
+        let spans = [(0.0, 0.1), (0.1, 0.2), (5.0, 9.0), (6.0, 7.0)];
+        assert_eq!(stretches(spans.into_iter(), 1.0), [(-0.45, 0.65), (5.0, 9.0)]);
+    }
+
+    #[test]
+    fn texts_for_xml() {
+        assert_eq!(escaped("a<b>&\u{0}\u{1b}\u{FFFF}\tc\"'é"), "a&lt;b&gt;&amp; c\"'é");
+    }
+
+    #[test]
+    fn times_below_ticks() {
+        let short = |times: &[&str]| short_times(times.iter().copied());
+        assert_eq!(short(&["2025-01-01T00:00", "2025-01-02T00:00:00Z"]), ["2025-01-01", "2025-01-02"]);
+        assert_eq!(short(&["2025-01-01 00:00:00", "2025-01-01 06:00:00"]), ["2025-01-01 00:00", "2025-01-01 06:00"]);
+        assert_eq!(short(&["1/2/2025 3:04", "", "2025-01-31x2345678901"]), ["1/2/2025 3:04", "", "2025-01-31x23456…"]);
+    }
+}

@@ -1,0 +1,460 @@
+//! The program `collector`, run as a process: its example, its messages, and that a failure writes nothing.
+use std::fs;
+use std::io::{Read, Write};
+use std::path::{Path, PathBuf};
+use std::process::{Command, Output, Stdio};
+use std::sync::atomic::{AtomicUsize, Ordering};
+
+#[path = "support/xml.rs"]
+mod xml;
+
+fn host() -> &'static Path {
+    Path::new(env!("CARGO_MANIFEST_DIR"))
+}
+fn expected(name: &str) -> String {
+    fs::read_to_string(host().join("tests/expected").join(name)).expect("an expected file")
+}
+
+/// A folder of its own, gone at the end.
+struct Folder(PathBuf);
+impl Folder {
+    fn new() -> Self {
+        static NUMBER: AtomicUsize = AtomicUsize::new(0);
+        let name = format!("collector-test-{}-{}", std::process::id(), NUMBER.fetch_add(1, Ordering::Relaxed));
+        let folder = std::env::temp_dir().join(name);
+        fs::create_dir(&folder).expect("a new folder");
+        Folder(folder)
+    }
+    fn with(files: &[(&str, &[u8])]) -> Self {
+        let folder = Folder::new();
+        files.iter().for_each(|(name, bytes)| folder.write(name, bytes));
+        folder
+    }
+    fn write(&self, name: &str, bytes: &[u8]) {
+        fs::write(self.0.join(name), bytes).expect("a file");
+    }
+    /// Every file and what it holds.
+    fn holds(&self) -> Vec<(String, Vec<u8>)> {
+        let entries = fs::read_dir(&self.0).expect("the folder").map(|entry| entry.expect("an entry"));
+        let mut files: Vec<_> = entries
+            .filter(|entry| entry.path().is_file())
+            .map(|entry| (entry.file_name().to_string_lossy().into_owned(), fs::read(entry.path()).expect("a file")))
+            .collect();
+        files.sort();
+        files
+    }
+    fn run(&self, line: &str) -> Output {
+        run_in(&self.0, &line.split_whitespace().collect::<Vec<_>>(), b"")
+    }
+    /// Standard output of a run that goes well and says nothing else.
+    fn table(&self, line: &str) -> String {
+        let output = self.run(line);
+        assert_eq!((said(&output), output.status.code()), (String::new(), Some(0)), "{line}");
+        String::from_utf8(output.stdout).expect("UTF-8")
+    }
+    /// The message of a run that fails. Neither standard output nor any file has changed by it.
+    fn message(&self, line: &str) -> String {
+        let before = self.holds();
+        let output = self.run(line);
+        assert_eq!((output.status.code(), output.stdout.as_slice()), (Some(2), b"".as_slice()), "{line}: {}", said(&output));
+        assert!(self.holds() == before, "{line} changed a file");
+        said(&output).trim_end().to_string()
+    }
+}
+impl Drop for Folder {
+    fn drop(&mut self) {
+        let _ = fs::remove_dir_all(&self.0);
+    }
+}
+
+fn said(output: &Output) -> String {
+    String::from_utf8_lossy(&output.stderr).into_owned()
+}
+fn command(folder: &Path, args: &[&str]) -> Command {
+    let mut command = Command::new(env!("CARGO_BIN_EXE_collector"));
+    command.args(args).current_dir(folder).stdin(Stdio::piped()).stdout(Stdio::piped()).stderr(Stdio::piped());
+    command
+}
+fn run_in(folder: &Path, args: &[&str], input: &[u8]) -> Output {
+    let mut child = command(folder, args).spawn().expect("the program");
+    // It may end before it has read all.
+    let _ = child.stdin.take().expect("its input").write_all(input);
+    child.wait_with_output().expect("its output")
+}
+/// The fields of each line behind the heading.
+fn rows(csv: &str) -> Vec<Vec<String>> {
+    csv.lines().skip(1).map(|line| line.split(',').map(String::from).collect()).collect()
+}
+fn column(csv: &str, number: usize) -> Vec<String> {
+    rows(csv).into_iter().map(|mut row| row.swap_remove(number)).collect()
+}
+const VALID: usize = 6;
+const FIGURE: usize = 7;
+const MARK: usize = 8;
+
+#[test]
+fn the_example_s_tables() {
+    for (args, file) in [
+        (&["examples/year.csv", "--plan", "examples/weeks.csv"][..], "weeks.txt"),
+        (&["examples/year.csv", "--plan", "examples/weeks.csv", "--csv"], "weeks.csv"),
+        (
+            &["examples/year.csv", "--plan", "examples/weeks.csv", "--figure", "kurtosis", "--unbiased", "--minimum", "130"],
+            "weeks_kurtosis.txt",
+        ),
+    ] {
+        let output = run_in(host(), args, b"");
+        assert_eq!((output.status.code(), said(&output)), (Some(0), String::new()));
+        assert_eq!(String::from_utf8_lossy(&output.stdout), expected(file), "{file}");
+    }
+}
+
+#[test]
+fn the_example_s_pictures() {
+    let folder = Folder::new();
+    let svg = folder.0.join("out.svg");
+    let windows: [(&[&str], &[&str]); 3] = [
+        (&["--plan", "examples/weeks.csv"], &["logarithmic axis", "figure, over its window", "figure missing"]),
+        (&["--window", "168"], &["trailing, of 168 places", "figure, at its window's last place", "figure not finite"]),
+        (&["--window", "24", "--centered", "--figure", "kurtosis"], &["Kurtosis less three, biased", "centred, of 24 places"]),
+    ];
+    for (windows, texts) in windows {
+        let mut args = vec!["examples/year.csv", "--svg", svg.to_str().expect("a name"), "--csv"];
+        args.extend(windows);
+        assert_eq!(run_in(host(), &args, b"").status.code(), Some(0));
+        let picture = fs::read_to_string(&svg).expect("a picture");
+        assert_eq!(xml::wrong_with(&picture), None);
+        let texts =
+            texts.iter().chain(&["reading missing", "reading not finite", "2025-01-01", ">8000<", "year.csv: 8760 readings"]);
+        texts.for_each(|text| assert!(picture.contains(text), "{windows:?} lacks {text}"));
+        assert!(picture.len() < 200_000, "{} bytes", picture.len());
+    }
+}
+
+#[test]
+fn the_example_is_what_its_script_writes() {
+    let folder = Folder::new();
+    let made = Command::new("python3").arg("-B").arg(host().join("examples/make_year.py")).arg(&folder.0).status();
+    assert!(made.expect("python3").success());
+    let names: Vec<String> = folder.holds().into_iter().map(|(name, _)| name).collect();
+    assert_eq!(names, ["quarters_refused.csv", "weeks.csv", "year.csv"]);
+    for (name, bytes) in folder.holds() {
+        assert!(bytes == fs::read(host().join("examples").join(&name)).expect("an example"), "{name} differs");
+    }
+}
+
+#[test]
+fn the_example_of_a_refused_plan() {
+    let output = run_in(host(), &["examples/year.csv", "--plan", "examples/quarters_refused.csv"], b"");
+    let message = "examples/quarters_refused.csv:6: row 4 starts at 0, before row 3, which starts at 6552: starts must not fall (label \"the whole year\")\n";
+    assert_eq!((output.status.code(), said(&output).as_str(), output.stdout.len()), (Some(2), message, 0));
+}
+
+/// Figures, bounds and counts of fixed windows are those of the library.
+#[test]
+fn fixed_windows_agree_with_the_library() {
+    let text = fs::read_to_string(host().join("examples/year.csv")).expect("the example");
+    let readings = text.lines().skip(1).map(|line| line.split_once(',').expect("two fields").1);
+    let (trace, map) = moments::trace_of(readings.map(|field| field.parse().ok()));
+    let setting = moments::Setting::skew(true).min_periods(5);
+    for (window, args) in [
+        (moments::Window::trailing(30), &["--window", "30"][..]),
+        (moments::Window::centered(31), &["--window", "31", "--centered"]),
+    ] {
+        let mut all = vec!["examples/year.csv", "--csv", "--figure", "skewness", "--minimum", "5"];
+        all.extend(args);
+        let csv = String::from_utf8(run_in(host(), &all, b"").stdout).expect("UTF-8");
+        let answers = moments::rolling(&trace, map.as_deref(), window, setting).expect("figures");
+        let shown = answers.iter().map(|answer| answer.map_or("-".to_string(), |figure| format!("{figure:?}")));
+        assert_eq!(column(&csv, FIGURE), shown.collect::<Vec<_>>());
+        for row in rows(&csv) {
+            let [start, end, valid] = [2, 3, VALID].map(|at| row[at].parse::<usize>().expect("a number"));
+            assert_eq!(valid, (start..end).filter(|place| moments::is_valid(map.as_deref(), *place)).count(), "{row:?}");
+        }
+        // A plan of the same bounds has the same figures.
+        let folder = Folder::with(&[("t.csv", text.as_bytes())]);
+        let plan: String = rows(&csv).iter().map(|row| format!("{},{}\n", row[2], row[3])).collect();
+        folder.write("p.csv", plan.as_bytes());
+        let by_plan = folder.table("t.csv --plan p.csv --csv --figure skewness --minimum 5");
+        assert_eq!(column(&by_plan, FIGURE), column(&csv, FIGURE));
+    }
+}
+
+#[test]
+fn bad_files_are_named_with_their_line() {
+    let good: (&[u8], &[u8]) = (b"time,temperature\na,1\nb,2\nc,3\n", b"label,start,end\nx,0,2\n");
+    let traces: [(&[u8], &str); 12] = [
+        (b"date,temp\na,1\n", "t.csv:1: \"temp\" is no number; a heading reads time,temperature"),
+        (b"time,temperature\na,1\nb,warm\n", "t.csv:3: \"warm\" is no number"),
+        (b"a,1\nb,1e999\n", "t.csv:2: \"1e999\" is too large for a 64-bit float"),
+        (b"a,1\nb,2,3\n", "t.csv:2: a line has two fields, time and temperature, but this one has 3"),
+        (b"a,1\nb;2\n", "t.csv:2: a line has two fields, time and temperature, but this one has 1"),
+        (b"a,1\nb,-18,5\n", "t.csv:2: a line has two fields, time and temperature, but this one has 3"),
+        (b"a,1\n\nb,2\n", "t.csv:2: the line is blank: a missing reading is written as its time and a comma, `time,`"),
+        (b"\na,1\n", "t.csv:1: the line is blank"),
+        (b"a,1\nb\xFF,2\n", "t.csv:2: the line is not UTF-8 text"),
+        (b"a,1\n\"b,2\n", "t.csv:2: a field's closing quote is missing"),
+        (b"a,1\n\"b\"c,2\n", "t.csv:2: a comma is missing after a closing quote"),
+        (b"a,1\ntime,temperature\n", "t.csv:2: \"temperature\" is no number"),
+    ];
+    let plans: [(&[u8], &str); 10] = [
+        (
+            b"from,to\n0,1\n",
+            "p.csv:1: \"from\" is no place: a start or an end is a whole number from 0 to 4294967295; a heading reads start,end",
+        ),
+        (b"0,1\n1,2.5\n", "p.csv:2: \"2.5\" is no place"),
+        (b"0,1\n-1,2\n", "p.csv:2: \"-1\" is no place"),
+        (b"0,1\n0,4294967296\n", "p.csv:2: \"4294967296\" is no place"),
+        (b"0,1\n,2\n", "p.csv:2: \"\" is no place"),
+        (b"label,start,end\n0,1\n", "p.csv:2: this line has 2 fields, but those before it have 3"),
+        (b"0,1\nx,0,1\n", "p.csv:2: this line has 3 fields, but those before it have 2"),
+        (b"0,1\nx,y,0,1\n", "p.csv:2: a line has start and end, or label, start and end, but this one has 4 fields"),
+        (b"0,1\n\n0,1\n", "p.csv:2: the line is blank"),
+        (b"0,1\n\xC3,1\n", "p.csv:2: the line is not UTF-8 text"),
+    ];
+    let cases = traces.map(|(trace, message)| (trace, good.1, message)).into_iter();
+    let cases = cases.chain(plans.map(|(plan, message)| (good.0, plan, message)));
+    for (trace, plan, message) in cases {
+        let old: &[(&str, &[u8])] = &[("t.csv", trace), ("p.csv", plan), ("old.txt", b"old table"), ("old.svg", b"old picture")];
+        let folder = Folder::with(old);
+        for targets in ["", "--output old.txt --svg old.svg", "--output new.txt --svg new.svg --csv"] {
+            let said = folder.message(&format!("t.csv --plan p.csv {targets}"));
+            assert!(said.starts_with(message) && said.lines().count() == 1, "{said}\nand not\n{message}");
+        }
+    }
+    let folder = Folder::with(&[("t.csv", good.0), ("p.csv", good.1)]);
+    assert!(folder.message("none.csv --plan p.csv").starts_with("none.csv: cannot be opened: "));
+    assert!(folder.message("t.csv --plan none.csv").starts_with("none.csv: cannot be opened: "));
+    assert!(folder.message(". --plan p.csv").starts_with(".: cannot be read: "));
+}
+
+#[test]
+fn refusals_in_words() {
+    let folder =
+        Folder::with(&[("t.csv", b"a,1\nb,\nc,3\n"), ("whole.csv", b"time,temperature\na,1\nb,2\nc,3\n"), ("old.txt", b"old")]);
+    let plans: [(&str, &str); 6] = [
+        ("0,1\n2,1\n", "p.csv:2: row 1 starts at 2, after its end at 1"),
+        ("start,end\n0,1\n0,4\n", "p.csv:3: row 1 ends at 4, but the trace has 3 readings, so a row can end at 3 at most"),
+        ("start,end\n1,2\n0,2\n", "p.csv:3: row 1 starts at 0, before row 0, which starts at 1: starts must not fall"),
+        ("0,3\n1,2\n", "p.csv:2: row 1 ends at 2, before row 0, which ends at 3: ends must not fall"),
+        (
+            "label,start,end\na,1,2\n\"b, \"\"c\"\"\",0,1\n",
+            "p.csv:3: row 1, from 0 to 1, goes back behind row 0, from 1 to 2: starts and ends must not fall (label \"b, \"c\"\")",
+        ),
+        ("label,start,end\n,0,9\n", "p.csv:2: row 0 ends at 9, but the trace has 3 readings, so a row can end at 3 at most (label \"\")"),
+    ];
+    for (plan, message) in plans {
+        folder.write("p.csv", plan.as_bytes());
+        assert_eq!(folder.message("t.csv --plan p.csv"), message);
+        assert_eq!(folder.message("t.csv --plan p.csv --csv --output old.txt --svg new.svg"), message);
+    }
+    let with_map = "t.csv:2: weights were given for a trace with a map: a weighted window cannot have missing readings; the first that is missing is here";
+    assert_eq!(folder.message("t.csv --window 2 --weights 1,1"), with_map);
+    let zero = "--weights: the weights add up to zero, so they cannot be divided by their sum";
+    assert_eq!(folder.message("whole.csv --window 2 --weights 1,-1 --output old.txt"), zero);
+    let count = "--weights: there are 2 weights for a window of 3 places: each place needs one";
+    assert_eq!(folder.message("whole.csv --window 3 --weights 1,1"), count);
+}
+
+#[test]
+fn missing_readings_and_readings_that_are_not_finite() {
+    let folder =
+        Folder::with(&[("t.csv", b"a,2\nb,\nc,4\nd,na\ne, NaN\nf,-INF\ng,1\nh,3\n"), ("p.csv", b"0,3\n3,4\n3,5\n4,6\n6,8\n")]);
+    let csv = folder.table("t.csv --plan p.csv --csv");
+    assert_eq!(column(&csv, FIGURE), ["2.0", "-", "-", "NaN", "2.0"]);
+    assert_eq!(column(&csv, VALID), ["2", "0", "1", "2", "2"]);
+    assert_eq!(column(&csv, MARK), ["", "", "", "not finite", ""]);
+    let text = folder.table("t.csv --plan p.csv");
+    assert!(text.contains("8 readings, 2 missing, 2 not finite"), "{text}");
+    assert!(text.contains("\n  3      4 to   6  e     f       2       NaN !\n"), "{text}");
+    // With a missing reading anywhere the minimum counts valid readings, and else places.
+    assert_eq!(column(&folder.table("t.csv --plan p.csv --csv --minimum 2 --ddof 0"), FIGURE), ["1.0", "-", "-", "NaN", "1.0"]);
+    folder.write("whole.csv", b"a,2\nb,4\nc,6\n");
+    folder.write("p.csv", b"0,2\n1,2\n1,1\n0,0\n");
+    assert!(folder.message("whole.csv --plan p.csv").starts_with("p.csv:3: row 2 ends at 1"));
+    folder.write("p.csv", b"0,0\n0,2\n1,2\n2,2\n");
+    assert_eq!(column(&folder.table("whole.csv --plan p.csv --csv --minimum 2 --ddof 0"), FIGURE), ["-", "1.0", "-", "-"]);
+    assert_eq!(rows(&folder.table("whole.csv --plan p.csv --csv"))[0][4..6], ["", ""]);
+    assert_eq!(rows(&folder.table("whole.csv --plan p.csv --csv"))[1][4..6], ["a", "b"]);
+}
+
+#[test]
+fn every_figure() {
+    let folder = Folder::with(&[("t.csv", b"a,0\nb,0\nc,0\nd,0\ne,5\nf,1\ng,3\n"), ("p.csv", b"0,5\n5,7\n")]);
+    let figures = |options: &str| column(&folder.table(&format!("t.csv --plan p.csv --csv {options}")), FIGURE);
+    assert_eq!(figures("--figure variance --ddof 0"), ["4.0", "1.0"]);
+    assert_eq!(figures("--ddof 2"), ["6.666666666666667", "-"]);
+    assert!(figures("--figure skewness")[0].starts_with("1.5"));
+    assert_eq!(figures("--figure skewness --unbiased")[1], "-");
+    assert_eq!(figures("--figure kurtosis")[1], "-2.0");
+    assert_eq!(figures("--figure kurtosis --pearson")[1], "1.0");
+    assert_eq!(figures("--figure kurtosis --unbiased")[1], "-");
+    assert_eq!(column(&folder.table("t.csv --window 0 --csv --minimum 0"), FIGURE), ["-"; 7]);
+}
+
+#[test]
+fn weighted_variance() {
+    let folder = Folder::with(&[("t.csv", b"a,1\nb,3\n")]);
+    assert_eq!(column(&folder.table("t.csv --window 2 --weights 1,1 --csv"), FIGURE), ["0.0", "1.0"]);
+    assert_eq!(column(&folder.table("t.csv --window 2 --weights 1,0 --csv"), FIGURE), ["0.0", "0.0"]);
+    assert_eq!(column(&folder.table("t.csv --window 2 --weights 1,1 --csv --minimum 2"), FIGURE), ["-", "1.0"]);
+    assert!(folder.table("t.csv --window 2 --weights 1,1").starts_with("weighted variance, minimum 1\n"));
+}
+
+#[test]
+fn files_as_they_come() {
+    let plain: (&[u8], &[u8]) = (b"time,temperature\na,1\nb,2\n", b"label,start,end\nx,0,2\n");
+    let folder = Folder::with(&[("t.csv", plain.0), ("p.csv", plain.1)]);
+    let table = folder.table("t.csv --plan p.csv");
+    let traces: [&[u8]; 6] = [
+        b"\xEF\xBB\xBFtime,temperature\r\na,1\r\nb,2\r\n",
+        b" Time , TEMPERATURE\na, 1 \nb,2",
+        b"\"time\",\"temperature\"\n\"a\",\"1\"\n \"b\" , 2\n\n \n",
+        b"a,1\nb,2\n",
+        b"\xEF\xBB\xBFa,1\nb,+2.0e0",
+        b"a,1\r\nb,2\r\n\r\n",
+    ];
+    for trace in traces {
+        folder.write("t.csv", trace);
+        assert_eq!(folder.table("t.csv --plan p.csv"), table, "{}", String::from_utf8_lossy(trace));
+    }
+    for plan in [&b"\xEF\xBB\xBFLabel, Start ,END\r\nx,0,2\r\n"[..], b"\"x\",\"0\",2", b"x, 0 ,2\n\n\n"] {
+        folder.write("p.csv", plan);
+        assert_eq!(folder.table("t.csv --plan p.csv"), table, "{}", String::from_utf8_lossy(plan));
+    }
+}
+
+#[test]
+fn nothing_to_read() {
+    let folder = Folder::with(&[
+        ("none.csv", b""),
+        ("heading.csv", b"time,temperature\n"),
+        ("p.csv", b""),
+        ("t.csv", b"a,1\n"),
+        ("r.csv", b"0,0\n"),
+    ]);
+    let heading = "row,label,start,end,from,to,valid,figure,mark\n";
+    for line in [
+        "none.csv --plan p.csv",
+        "heading.csv --plan p.csv",
+        "t.csv --plan p.csv",
+        "none.csv --window 3",
+        "none.csv --window 3 --centered",
+    ] {
+        assert_eq!(folder.table(&format!("{line} --csv --svg out.svg")), heading, "{line}");
+        assert_eq!(xml::wrong_with(&fs::read_to_string(folder.0.join("out.svg")).expect("a picture")), None);
+        assert!(folder.table(line).contains(" 0 rows;"), "{line}");
+    }
+    assert_eq!(folder.table("none.csv --plan r.csv --csv"), format!("{heading}0,,0,0,,,0,-,\n"));
+}
+
+#[test]
+fn labels_in_quotes_and_long_ones() {
+    let long = "ß".repeat(60);
+    let folder = Folder::with(&[("t.csv", b"\"a, b\",1\nc,2\nd,4\n")]);
+    folder.write("p.csv", format!("\"top, \"\"shelf\"\"\",0,1\n{long},0,2\nx\ty,1,3\n").as_bytes());
+    let csv = folder.table("t.csv --plan p.csv --csv --ddof 0");
+    assert!(csv.contains("\n0,\"top, \"\"shelf\"\"\",0,1,\"a, b\",\"a, b\",1,0.0,\n"), "{csv}");
+    assert!(csv.contains(&format!("\n1,{long},0,2,\"a, b\",c,2,0.25,\n")), "{csv}");
+    let text = folder.table("t.csv --plan p.csv --ddof 0");
+    assert!(text.contains("top, \"shelf\"") && text.contains(&format!(" {}… ", "ß".repeat(39))), "{text}");
+    let widths: Vec<usize> = text.lines().skip(4).take(4).map(|line| line.chars().count()).collect();
+    assert_eq!(widths, [widths[0]; 4], "{text}");
+    assert!(!text.contains('\t'));
+}
+
+#[test]
+fn standard_input() {
+    let folder = Folder::with(&[("p.csv", b"0,2\n")]);
+    let output = run_in(&folder.0, &["-", "--plan", "p.csv", "--csv"], b"a,1\nb,3\n");
+    assert_eq!(
+        (output.status.code(), column(&String::from_utf8_lossy(&output.stdout), FIGURE)),
+        (Some(0), vec!["2.0".to_string()])
+    );
+    let output = run_in(&folder.0, &["-", "--plan", "p.csv"], b"a,1\nb,x\n");
+    assert_eq!((output.status.code(), said(&output).as_str()), (Some(2), "standard input:2: \"x\" is no number\n"));
+    let output = run_in(&folder.0, &["-", "--plan", "p.csv"], b"a,1\nb,3\n");
+    assert!(String::from_utf8_lossy(&output.stdout).contains("trace    standard input: 2 readings"));
+}
+
+#[test]
+fn wrong_command_lines_get_a_hint() {
+    let folder = Folder::with(&[("t.csv", b"a,1\n"), ("p.csv", b"0,1\n")]);
+    let cases = [
+        ("", "no trace is named"),
+        ("t.csv", "--plan or --window is needed"),
+        ("t.csv --plan p.csv --tabel x", "there is no option \"--tabel\""),
+        ("t.csv --plan p.csv --csv --csv", "--csv is given twice"),
+        ("t.csv --plan p.csv --output", "--output is given without its value"),
+        ("t.csv --plan p.csv --centered", "--centered goes with --window and not with --plan"),
+        ("t.csv --window 1 --weights 1 --ddof 1", "--ddof has no meaning for the weighted variance"),
+        ("t.csv --plan p.csv --output x --svg x", "--output and --svg name the same file"),
+        ("t.csv --plan p.csv --output x --svg ./x", "--output and --svg name the same file"),
+        ("t.csv --plan p.csv --output ./t.csv", "--output names the file of the trace"),
+        ("t.csv --plan p.csv --svg p.csv", "--svg names the file of the plan"),
+    ];
+    for (line, wrong) in cases {
+        assert_eq!(folder.message(line), format!("collector: {wrong}\n`collector --help` has the options"), "{line}");
+    }
+    let help = folder.table("--help");
+    let options =
+        ["--plan", "--window", "--centered", "--weights", "--figure", "--ddof", "--unbiased", "--pearson", "--minimum", "--csv"];
+    for option in options.iter().chain(&["--output", "--svg", "--help"]) {
+        assert!(help.contains(&format!("\n  {option} ")), "{option}");
+    }
+    assert!(help.lines().all(|line| line.chars().count() <= 120));
+}
+
+#[test]
+fn files_are_written_whole_or_not_at_all() {
+    let folder = Folder::with(&[("t.csv", b"a,1\nb,3\n"), ("p.csv", b"0,2\n"), ("out.txt", b"old")]);
+    let table = folder.table("t.csv --plan p.csv");
+    assert_eq!(folder.table("t.csv --plan p.csv --output out.txt --svg out.svg"), "");
+    let names: Vec<String> = folder.holds().into_iter().map(|(name, _)| name).collect();
+    assert_eq!(names, ["out.svg", "out.txt", "p.csv", "t.csv"]);
+    assert_eq!(fs::read_to_string(folder.0.join("out.txt")).expect("the table"), table);
+    fs::create_dir(folder.0.join("folder")).expect("a folder");
+    for (line, name) in [
+        ("--output out.txt --svg none/out.svg", "none/out.svg"),
+        ("--svg none/out.svg", "none/out.svg"),
+        ("--output none/out.txt --svg out.svg", "none/out.txt"),
+        ("--output out.txt --svg folder", "folder"),
+        ("--output folder --svg out.svg", "folder"),
+    ] {
+        let said = folder.message(&format!("t.csv --plan p.csv --csv {line}"));
+        assert!(said.contains(&format!("{name}: cannot be written: ")) && said.lines().count() == 1, "{line}: {said}");
+    }
+}
+
+#[test]
+fn a_reader_that_goes_away_is_no_failure() {
+    let mut child = command(host(), &["examples/year.csv", "--window", "24"]).spawn().expect("the program");
+    let mut first = [0; 10];
+    let mut stdout = child.stdout.take().expect("its output");
+    stdout.read_exact(&mut first).expect("some of the table");
+    drop(stdout);
+    let output = child.wait_with_output().expect("its end");
+    assert_eq!((output.status.code(), said(&output)), (Some(0), String::new()));
+}
+
+/// Files of any bytes, as a process: it ends by itself, and never by a panic.
+#[test]
+fn any_bytes_end_with_a_status() {
+    let mut state = 3u64;
+    let mut next = || {
+        state = state.wrapping_mul(6364136223846793005).wrapping_add(1442695040888963407);
+        (state >> 33) as usize
+    };
+    let folder = Folder::new();
+    for run in 0..60 {
+        for name in ["t.csv", "p.csv"] {
+            let words: [&[u8]; 10] = [b",", b"\n", b"1", b"2", b"\"", b"nan", b"NA", b"\r\n", b"\x00", b"\xF0\x9F"];
+            let bytes: Vec<u8> = match run % 3 {
+                0 => (0..next() % 200).map(|_| next() as u8).collect(),
+                _ => (0..next() % 30).flat_map(|_| words[next() % words.len()]).copied().collect(),
+            };
+            folder.write(name, &bytes);
+        }
+        let output = folder.run(["t.csv --plan p.csv --svg o.svg", "t.csv --window 2 --svg o.svg --csv"][run % 2]);
+        assert!(matches!(output.status.code(), Some(0 | 2)), "run {run}: {:?} {}", output.status, said(&output));
+    }
+}
