@@ -413,12 +413,18 @@ fn files_are_written_whole_or_not_at_all() {
     assert_eq!(names, ["out.svg", "out.txt", "p.csv", "t.csv"]);
     assert_eq!(fs::read_to_string(folder.0.join("out.txt")).expect("the table"), table);
     fs::create_dir(folder.0.join("folder")).expect("a folder");
+    folder.write("locked.svg", b"locked");
+    let mut locked = fs::metadata(folder.0.join("locked.svg")).expect("a file").permissions();
+    locked.set_readonly(true);
+    fs::set_permissions(folder.0.join("locked.svg"), locked).expect("a locked file");
     for (line, name) in [
         ("--output out.txt --svg none/out.svg", "none/out.svg"),
         ("--svg none/out.svg", "none/out.svg"),
         ("--output none/out.txt --svg out.svg", "none/out.txt"),
         ("--output out.txt --svg folder", "folder"),
         ("--output folder --svg out.svg", "folder"),
+        ("--output out.txt --svg locked.svg", "locked.svg"),
+        ("--output out.txt --svg /dev/null", "/dev/null"),
     ] {
         let said = folder.message(&format!("t.csv --plan p.csv --csv {line}"));
         assert!(said.contains(&format!("{name}: cannot be written: ")) && said.lines().count() == 1, "{line}: {said}");

@@ -1,5 +1,6 @@
 //! Lines of a CSV file and their fields.
 use crate::progress::Progress;
+use crate::text::capped;
 use std::borrow::Cow;
 use std::fmt;
 use std::io::{BufRead, Read};
@@ -69,7 +70,7 @@ impl<'a> Lines<'a> {
         let read = read.map_err(|why| Fault { line: None, ..self.fault(format!("cannot be read: {why}")) })?;
         self.line += 1;
         let line = self.line;
-        self.progress.step(|| format!("reading {}: line {line}", self.file));
+        self.progress.step(|| format!("reading {}: line {line}", capped(self.file)));
         for end in [b'\n', b'\r'] {
             if buffer.last() == Some(&end) {
                 buffer.pop();

@@ -16,8 +16,11 @@ impl Draft {
         let said = |why: io::Error| format!("{}: cannot be written: {why}", name(target));
         let target = resolved(target).map_err(said)?;
         let before = fs::metadata(&target).ok();
-        if before.as_ref().is_some_and(|file| !file.is_file()) {
-            return Err(format!("{}: cannot be written: it is no ordinary file", name(&target)));
+        // A device must not be replaced by a file, nor what its owner has locked.
+        match &before {
+            Some(file) if !file.is_file() => return Err(said(io::Error::other("it is no ordinary file"))),
+            Some(file) if file.permissions().readonly() => return Err(said(io::ErrorKind::PermissionDenied.into())),
+            _ => {}
         }
         let (path, file) = fresh(target.parent().unwrap_or(Path::new("."))).map_err(said)?;
         let draft = Draft { path, target };

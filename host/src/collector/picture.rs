@@ -10,6 +10,8 @@ const LEFT: f64 = 84.0;
 const RIGHT: f64 = 1180.0;
 /// A plan with more rows is drawn as a line.
 const MOST_BARS: usize = 400;
+/// A line of more points shows none of them as a dot, but those that stand alone.
+const MOST_DOTS: usize = 150;
 
 const GRID: &str = "#e9e9e9";
 const FRAME: &str = "#9a9a9a";
@@ -54,9 +56,8 @@ enum Swatch {
 impl<'a> Picture<'a> {
     fn new(report: &'a Report<'a>) -> Self {
         let readings = (0..report.trace.len()).filter_map(|place| report.trace.reading(place));
-        let figures = || report.rows().filter_map(|row| row.figure);
-        let logarithmic = if report.options.is_variance() { Scale::logarithmic(figures()) } else { None };
-        let figure = Panel { top: 86.0, bottom: 312.0, scale: logarithmic.or_else(|| Scale::around(figures(), true)) };
+        let logarithmic = if report.options.is_variance() { Scale::logarithmic(report.figures()) } else { None };
+        let figure = Panel { top: 86.0, bottom: 312.0, scale: logarithmic.or_else(|| Scale::around(report.figures(), true)) };
         let trace = Panel { top: 350.0, bottom: 566.0, scale: Scale::around(readings, false) };
         Picture { report, out: String::new(), figure, trace, key: Vec::new() }
     }
@@ -91,11 +92,13 @@ impl<'a> Picture<'a> {
     fn line(&mut self, (x1, y1): (f64, f64), (x2, y2): (f64, f64), stroke: &str) {
         self.push(format_args!("<line x1=\"{x1:.1}\" y1=\"{y1:.1}\" x2=\"{x2:.1}\" y2=\"{y2:.1}\" stroke=\"{stroke}\"/>"));
     }
-    fn path(&mut self, path: &str, stroke: &str) {
-        if !path.is_empty() {
-            self.push(format_args!(
-                "<path d=\"{path}\" fill=\"none\" stroke=\"{stroke}\" stroke-width=\"1.3\" stroke-linecap=\"round\" stroke-linejoin=\"round\"/>"
-            ));
+    fn drawn(&mut self, drawn: &Drawn, stroke: &str) {
+        for (path, width) in [(&drawn.line, 1.3), (&drawn.dots, 4.0)] {
+            if !path.is_empty() {
+                self.push(format_args!(
+                    "<path d=\"{path}\" fill=\"none\" stroke=\"{stroke}\" stroke-width=\"{width}\" stroke-linecap=\"round\" stroke-linejoin=\"round\"/>"
+                ));
+            }
         }
     }
     fn text(&mut self, (x, y): (f64, f64), style: &str, text: &str) {
@@ -121,7 +124,7 @@ impl<'a> Picture<'a> {
         self.text((LEFT, 51.0), "", &format!("trace {trace}: {}; windows {windows}: {rows}", report.readings()));
         let logarithmic = self.figure.scale.is_some_and(|scale| scale.logarithmic);
         let axis = match logarithmic {
-            true if report.rows().any(|row| row.figure == Some(0.0)) => " (logarithmic axis; 0 stands at its base)",
+            true if report.figures().any(|figure| figure == 0.0) => " (logarithmic axis; 0 stands at its base)",
             true => " (logarithmic axis)",
             false => "",
         };
@@ -133,14 +136,12 @@ impl<'a> Picture<'a> {
     fn places(&mut self) {
         let places = self.report.trace.len();
         let scale = Scale::linear(0.0, places as f64);
-        let ticks: Vec<usize> = match places {
-            0 => Vec::new(),
-            // A tick stands at a whole place.
-            _ => scale.ticks(9).into_iter().filter(|(tick, _)| tick.fract() == 0.0).map(|(tick, _)| tick as usize).collect(),
-        };
+        // A tick stands at the middle of a place, where its reading is.
+        let ticks = scale.ticks(9).into_iter().filter(|(tick, _)| tick.fract() == 0.0).map(|(tick, _)| tick as usize);
+        let ticks: Vec<usize> = ticks.filter(|tick| *tick < places).collect();
         let times = short_times(ticks.iter().map(|tick| self.report.trace.times.get(*tick)));
         for (tick, time) in ticks.iter().zip(times) {
-            let x = self.x(*tick as f64);
+            let x = self.x(*tick as f64 + 0.5);
             for (top, bottom) in [(self.figure.top, self.figure.bottom), (self.trace.top, self.trace.bottom + 5.0)] {
                 self.line((x, top), (x, bottom), GRID);
             }
@@ -184,7 +185,7 @@ impl<'a> Picture<'a> {
             let reading = trace.reading(place).filter(|x| x.is_finite());
             (self.x(place as f64 + 0.5), reading.map(|x| self.trace.y(x)))
         });
-        let path = path(points);
+        let drawn = Drawn::new(points, trace.len() <= MOST_DOTS);
         let Panel { top, bottom, .. } = self.trace;
         for span in &missing {
             self.rect(*span, (top, bottom), MISSING);
@@ -192,13 +193,13 @@ impl<'a> Picture<'a> {
         for span in &not_finite {
             self.rect(*span, (top, bottom), "#fbdcdc");
         }
-        self.path(&path, TRACE);
+        self.drawn(&drawn, TRACE);
         for (from, to) in &not_finite {
             let half = ((to - from) / 2.0).max(1.0);
             let middle = (from + to) / 2.0;
             self.rect((middle - half, middle + half), (top, top + 9.0), NOT_FINITE);
         }
-        self.in_key(!path.is_empty(), Swatch::Line, TRACE, "reading");
+        self.in_key(drawn.is_any(), Swatch::Line, TRACE, "reading");
         self.in_key(!missing.is_empty(), Swatch::Band, MISSING, "reading missing");
         self.in_key(!not_finite.is_empty(), Swatch::Mark, NOT_FINITE, "reading not finite");
     }
@@ -209,10 +210,10 @@ impl<'a> Picture<'a> {
             self.bars();
         } else {
             let points = self.points().map(|(x, figure)| (x, figure.filter(|x| x.is_finite()).map(|x| self.figure.y(x))));
-            let path = path(points);
-            self.path(&path, FIGURE);
+            let drawn = Drawn::new(points, self.report.len() <= MOST_DOTS);
+            self.drawn(&drawn, FIGURE);
             self.in_key(
-                !path.is_empty(),
+                drawn.is_any(),
                 Swatch::Line,
                 FIGURE,
                 match self.report.rows {
@@ -257,6 +258,9 @@ impl<'a> Picture<'a> {
             let (y, zero) = (self.figure.y(figure), self.figure.y(0.0));
             if apart {
                 self.rect((from, to), (y.min(zero), y.max(zero)), "#f8e6d8");
+            } else {
+                // Bars that lie over one another are told apart by their ends.
+                [from, to - 1.5].iter().for_each(|end| self.rect((*end, end + 1.5), (y - 4.5, y + 4.5), FIGURE));
             }
             self.rect((from, to), (y - 1.25, y + 1.25), FIGURE);
             drawn = true;
@@ -287,7 +291,7 @@ impl<'a> Picture<'a> {
 
 /// The last part of a path, as far as it has room.
 fn file_name(path: &str) -> String {
-    capped(path.rsplit('/').next().unwrap_or(path))
+    capped(path.rsplit('/').next().unwrap_or(path)).into_owned()
 }
 
 /// Times to stand below ticks: of ISO times the dates, unless two neighbours then read the same.
@@ -370,45 +374,64 @@ impl Column {
         self.high = if point.1 > self.high.1 { point } else { self.high };
         self.last = point;
     }
-    /// Draws on from the column before, or anew. A point alone shows by its round ends.
-    fn draw(&self, path: &mut String, anew: bool, alone: bool) {
+    /// Draws on from the column before, or anew.
+    fn draw(&self, path: &mut String, anew: bool) {
         let between = if self.low.0 <= self.high.0 { [self.low, self.high] } else { [self.high, self.low] };
         let mut points = vec![self.first, between[0], between[1], self.last];
         points.dedup();
-        let single = points.len() == 1;
         for (number, (x, y)) in points.into_iter().enumerate() {
             let _ = write!(path, "{}{x:.1} {y:.1}", if anew && number == 0 { "M" } else { "L" });
-        }
-        if single && anew && alone {
-            path.push_str("h0");
         }
     }
 }
 
-/// A line through points that come in order of x. A place without one breaks it, if its pixel has no other.
-fn path(points: impl Iterator<Item = (f64, Option<f64>)>) -> String {
-    let (mut path, mut column, mut gap, mut anew) = (String::new(), None::<Column>, None, true);
-    for (x, y) in points {
-        let number = x.floor() as i64;
-        let same = column.is_some_and(|column| column.number == number);
-        match (y, &mut column) {
-            (None, _) if same => {}
-            (None, _) => gap = gap.or(Some(number)),
-            (Some(y), Some(column)) if same => column.add((x, y)),
-            (Some(y), _) => {
-                let breaks = gap.take().is_some_and(|gap| gap != number);
-                if let Some(column) = column.take() {
-                    column.draw(&mut path, anew, breaks);
-                    anew = breaks;
+/// Points as paths: a line through them, and dots for those that it does not show.
+#[derive(Default)]
+struct Drawn {
+    line: String,
+    dots: String,
+}
+impl Drawn {
+    /// The points come in order of x. A place without one breaks the line, if its pixel has no other.
+    fn new(points: impl Iterator<Item = (f64, Option<f64>)>, all_dots: bool) -> Self {
+        let (mut drawn, mut column, mut gap, mut anew) = (Drawn::default(), None::<Column>, None, true);
+        for (x, y) in points {
+            let number = x.floor() as i64;
+            let same = column.is_some_and(|column| column.number == number);
+            if let Some(y) = y.filter(|_| all_dots) {
+                drawn.dot((x, y));
+            }
+            match (y, &mut column) {
+                (None, _) if same => {}
+                (None, _) => gap = gap.or(Some(number)),
+                (Some(y), Some(column)) if same => column.add((x, y)),
+                (Some(y), _) => {
+                    let breaks = gap.take().is_some_and(|gap| gap != number);
+                    if let Some(column) = column.replace(Column::new(number, (x, y))) {
+                        drawn.column(&column, anew, breaks);
+                        anew = breaks;
+                    }
                 }
-                column = Some(Column::new(number, (x, y)));
             }
         }
+        if let Some(column) = column {
+            drawn.column(&column, anew, true);
+        }
+        drawn
     }
-    if let Some(column) = column {
-        column.draw(&mut path, anew, true);
+    fn column(&mut self, column: &Column, anew: bool, breaks: bool) {
+        column.draw(&mut self.line, anew);
+        if anew && breaks {
+            self.dot(column.last);
+        }
     }
-    path
+    /// Its ends are round.
+    fn dot(&mut self, (x, y): (f64, f64)) {
+        let _ = write!(self.dots, "M{x:.1} {y:.1}h0");
+    }
+    fn is_any(&self) -> bool {
+        !self.line.is_empty()
+    }
 }
 
 #[cfg(test)]
@@ -417,15 +440,20 @@ mod tests {
 
     #[test]
     fn lines_break_at_gaps_and_keep_extremes() {
+        let drawn = |points: &[(f64, Option<f64>)]| {
+            let Drawn { line, dots } = Drawn::new(points.iter().copied(), false);
+            (line, dots)
+        };
         let few = [(0.5, Some(1.0)), (1.5, Some(2.0)), (2.5, None), (3.5, Some(3.0)), (4.5, None)];
-        assert_eq!(path(few.into_iter()), "M0.5 1.0L1.5 2.0M3.5 3.0h0");
+        assert_eq!(drawn(&few), ("M0.5 1.0L1.5 2.0M3.5 3.0".into(), "M3.5 3.0h0".into()));
+        assert_eq!(Drawn::new(few.into_iter(), true).dots, "M0.5 1.0h0M1.5 2.0h0M3.5 3.0h0M3.5 3.0h0");
         let many = [(0.1, Some(5.0)), (0.2, Some(9.0)), (0.3, None), (0.4, Some(1.0)), (0.5, Some(4.0)), (1.2, Some(4.0))];
-        assert_eq!(path(many.into_iter()), "M0.1 5.0L0.2 9.0L0.4 1.0L0.5 4.0L1.2 4.0");
+        assert_eq!(drawn(&many), ("M0.1 5.0L0.2 9.0L0.4 1.0L0.5 4.0L1.2 4.0".into(), String::new()));
         let long = [(0.1, Some(5.0)), (1.1, None), (2.1, None), (2.2, Some(5.0)), (3.1, Some(5.0))];
-        assert_eq!(path(long.into_iter()), "M0.1 5.0h0M2.2 5.0L3.1 5.0");
+        assert_eq!(drawn(&long), ("M0.1 5.0M2.2 5.0L3.1 5.0".into(), "M0.1 5.0h0".into()));
         let inside = [(0.1, Some(5.0)), (1.1, None), (1.2, Some(5.0)), (2.1, Some(5.0))];
-        assert_eq!(path(inside.into_iter()), "M0.1 5.0L1.2 5.0L2.1 5.0");
-        assert_eq!(path([(0.1, None)].into_iter()), "");
+        assert_eq!(drawn(&inside).0, "M0.1 5.0L1.2 5.0L2.1 5.0");
+        assert_eq!(drawn(&[(0.1, None)]), (String::new(), String::new()));
     }
 
     #[test]

@@ -56,6 +56,10 @@ impl<'a> Report<'a> {
     pub fn len(&self) -> usize {
         self.answers.len()
     }
+    /// The figures alone, without those that are missing.
+    pub fn figures(&self) -> impl Iterator<Item = f64> + '_ {
+        self.answers.iter().flatten().copied()
+    }
     pub fn rows(&self) -> impl Iterator<Item = Row<'_>> {
         self.answers.iter().enumerate().map(|(row, figure)| self.row(row, *figure))
     }

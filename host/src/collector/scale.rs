@@ -25,6 +25,9 @@ impl Scale {
             return None;
         }
         let (base, top) = if from_zero { (low.min(0.0), high.max(0.0)) } else { (low, high) };
+        if from_zero && base == top {
+            return Some(Scale::linear(0.0, 1.0));
+        }
         // Half the range, as the whole may be too large for a double.
         let half = top / 2.0 - base / 2.0;
         let room = if half > 0.0 { half / 8.0 } else { (base.abs() / 8.0).max(0.5) };
@@ -69,8 +72,12 @@ impl Scale {
         let ticks = (0..=most).map(|number| (first + f64::from(number)) * step);
         let mut ticks: Vec<f64> = ticks.filter(|tick| (self.low..=self.high).contains(tick)).collect();
         ticks.dedup();
-        let power = |tick: f64| (10f64.powf(tick), power_text(tick as i32));
-        ticks.into_iter().map(|tick| if self.logarithmic { power(tick) } else { (tick, self.text(tick, step)) }).collect()
+        let ticks = ticks.into_iter();
+        if self.logarithmic {
+            let powers = ticks.map(|tick| (10f64.powf(tick), power_text(tick as i32)));
+            return powers.filter(|(power, _)| power.is_normal()).collect();
+        }
+        ticks.map(|tick| (tick, self.text(tick, step))).collect()
     }
     /// The least of 1, 2, 5, 10, .. that makes no more ticks than so many.
     fn step(&self, most: u32) -> Option<f64> {
@@ -145,7 +152,7 @@ mod tests {
         assert_eq!(around(&[0.0, 16.0], false), Some((-1.0, 17.0)));
         assert_eq!(around(&[8.0, 16.0], true), Some((0.0, 17.0)));
         assert_eq!(around(&[-16.0], true), Some((-17.0, 0.0)));
-        assert_eq!(around(&[0.0, 0.0], true), Some((-0.5, 0.5)));
+        assert_eq!(around(&[0.0, -0.0], true), Some((0.0, 1.0)));
         assert_eq!(around(&[-16.0, -16.0], false), Some((-18.0, -14.0)));
         assert_eq!(around(&[f64::MIN, f64::MAX], false), Some((f64::MIN, f64::MAX)));
         assert!(around(&[f64::MAX], false).is_some_and(|(low, high)| low < high && high.is_finite()));

@@ -1,13 +1,17 @@
 //! The table, as text and as CSV.
 use crate::number::six_digits;
 use crate::report::{Report, Row};
-use crate::text::{capped, count, plain};
+use crate::text::{capped, count, WIDEST};
+use std::borrow::Cow;
+use std::fmt::Display;
 use std::io::{self, Write};
 
 /// Columns of the text table: row, label, start, to, end, from, to, valid, figure.
 const COLUMNS: usize = 9;
+const LABEL: usize = 1;
 const TO_THE_LEFT: [bool; COLUMNS] = [false, true, false, true, false, true, true, false, false];
-type Cells = [String; COLUMNS];
+const GAPS: [&str; COLUMNS] = ["", "  ", "  ", " ", " ", "  ", "  ", "  ", "  "];
+type Cells<'a> = [&'a dyn Display; COLUMNS];
 
 /// What the lines have in common, found before the first is written.
 struct Layout {
@@ -19,65 +23,54 @@ struct Layout {
     from_finite: usize,
 }
 impl Layout {
-    fn of(report: &Report<'_>, heading: &Cells) -> Self {
-        let widths = heading.each_ref().map(|name| name.chars().count());
-        let mut layout = Layout { widths, labels: report.has_labels(), missing: 0, from_readings: 0, from_finite: 0 };
+    fn of(report: &Report<'_>, heading: &[&str; COLUMNS]) -> Self {
+        let (mut largest, mut texts, mut figures) = ([0; 4], [0; 3], 0);
+        let (mut missing, mut from_readings, mut from_finite) = (0, 0, 0);
         for (number, row) in report.rows().enumerate() {
-            for (width, cell) in layout.widths.iter_mut().zip(cells(number, &row)) {
-                *width = (*width).max(cell.chars().count());
-            }
-            layout.missing += usize::from(row.figure.is_none());
-            layout.from_readings += usize::from(row.is_marked() && row.not_finite > 0);
-            layout.from_finite += usize::from(row.is_marked() && row.not_finite == 0);
+            raise(&mut largest, [number, row.start, row.end, row.valid]);
+            raise(&mut texts, [row.label, row.from, row.to].map(|text| text.chars().take(WIDEST).count()));
+            figures = figures.max(figure(&row).len());
+            missing += usize::from(row.figure.is_none());
+            from_readings += usize::from(row.is_marked() && row.not_finite > 0);
+            from_finite += usize::from(row.is_marked() && row.not_finite == 0);
         }
-        layout
+        let ([row, start, end, valid], [label, from, to]) = (largest.map(|number| number.to_string().len()), texts);
+        let mut widths = heading.map(str::len);
+        raise(&mut widths, [row, label, start, "to".len(), end, from, to, valid, figures]);
+        Layout { widths, labels: report.has_labels(), missing, from_readings, from_finite }
     }
-    fn line(&self, cells: &Cells, mark: &str) -> String {
-        let mut line = String::new();
-        for (column, ((cell, width), left)) in cells.iter().zip(self.widths).zip(TO_THE_LEFT).enumerate() {
-            if column == 1 && !self.labels {
-                continue;
+    fn line(&self, out: &mut dyn Write, cells: Cells<'_>, mark: &str) -> io::Result<()> {
+        for (column, (cell, width)) in cells.into_iter().zip(self.widths).enumerate() {
+            match (TO_THE_LEFT.get(column), GAPS.get(column).copied().unwrap_or("")) {
+                _ if column == LABEL && !self.labels => {}
+                (Some(true), gap) => write!(out, "{gap}{cell:<width$}")?,
+                (_, gap) => write!(out, "{gap}{cell:>width$}")?,
             }
-            line.push_str(match column {
-                0 => "",
-                3 | 4 => " ",
-                _ => "  ",
-            });
-            line.push_str(&if left { format!("{cell:<width$}") } else { format!("{cell:>width$}") });
         }
-        line.push_str(mark);
-        line.truncate(line.trim_end().len());
-        line
+        writeln!(out, "{mark}")
     }
 }
+fn raise<const N: usize>(largest: &mut [usize; N], by: [usize; N]) {
+    largest.iter_mut().zip(by).for_each(|(largest, by)| *largest = by.max(*largest));
+}
 
-fn cells(number: usize, row: &Row<'_>) -> Cells {
-    [
-        number.to_string(),
-        capped(row.label),
-        row.start.to_string(),
-        "to".to_string(),
-        row.end.to_string(),
-        capped(row.from),
-        capped(row.to),
-        row.valid.to_string(),
-        row.figure.map_or("-".to_string(), six_digits),
-    ]
+fn figure(row: &Row<'_>) -> String {
+    row.figure.map_or("-".to_string(), six_digits)
 }
 
 /// The table for reading: what was asked, the rows, and what their signs mean.
 pub fn text(report: &Report<'_>, out: &mut dyn Write) -> io::Result<()> {
-    let heading = ["row", "label", "start", "", "end", "from", "to", "valid", report.options.figure()].map(String::from);
+    let heading = ["row", "label", "start", "", "end", "from", "to", "valid", report.options.figure()];
     let layout = Layout::of(report, &heading);
     writeln!(out, "{}", report.options.asked())?;
     writeln!(out, "trace    {}: {}", report.trace.file, report.readings())?;
     let rows = count(report.len(), "row");
     writeln!(out, "windows  {}: {rows}; places count from 0, a window's end is not in it\n", report.windows())?;
-    writeln!(out, "{}", layout.line(&heading, ""))?;
+    layout.line(out, heading.each_ref().map(|name| name as &dyn Display), "")?;
     for (number, row) in report.rows().enumerate() {
-        let mark = if row.is_marked() { " !" } else { "" };
-        let line = layout.line(&cells(number, &row), mark);
-        writeln!(out, "{line}")?;
+        let [label, from, to] = [row.label, row.from, row.to].map(capped);
+        let cells: Cells = [&number, &label, &row.start, &"to", &row.end, &from, &to, &row.valid, &figure(&row)];
+        layout.line(out, cells, if row.is_marked() { " !" } else { "" })?;
     }
     legend(&layout, out)
 }
@@ -113,12 +106,11 @@ pub fn csv(report: &Report<'_>, out: &mut dyn Write) -> io::Result<()> {
 }
 
 /// In quotes where it would be read as something else.
-fn field(text: &str) -> String {
-    let text = plain(text);
-    if text.contains([',', '"']) || text.trim() != text {
-        format!("\"{}\"", text.replace('"', "\"\""))
+fn field(text: &str) -> Cow<'_, str> {
+    if text.contains([',', '"', '\r', '\n']) || text.trim() != text {
+        format!("\"{}\"", text.replace('"', "\"\"")).into()
     } else {
-        text
+        text.into()
     }
 }
 
@@ -128,6 +120,9 @@ mod tests {
 
     #[test]
     fn fields_in_quotes() {
-        assert_eq!(["a b", "a,b", "a\"b", " a", ""].map(field), ["a b", "\"a,b\"", "\"a\"\"b\"", "\" a\"", ""]);
+        assert_eq!(
+            ["a\tb", "a,b", "a\"b", " a", "", "a\rb"].map(field),
+            ["a\tb", "\"a,b\"", "\"a\"\"b\"", "\" a\"", "", "\"a\rb\""]
+        );
     }
 }

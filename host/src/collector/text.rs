@@ -1,24 +1,26 @@
 //! Texts from files, made fit to be shown.
+use std::borrow::Cow;
 use std::path::Path;
 
 /// The most characters of a label, a time or a name that are shown.
 pub const WIDEST: usize = 40;
 
 /// On one line and without what a terminal would obey.
-pub fn plain(text: &str) -> String {
-    text.chars().map(|c| if c.is_control() { '\u{FFFD}' } else { c }).collect()
+pub fn plain(text: &str) -> Cow<'_, str> {
+    if text.contains(char::is_control) {
+        text.replace(char::is_control, "\u{FFFD}").into()
+    } else {
+        text.into()
+    }
 }
 
 /// Plain, and no longer than [`WIDEST`].
-pub fn capped(text: &str) -> String {
-    let mut capped = plain(text);
-    if let Some((last, _)) = capped.char_indices().nth(WIDEST - 1) {
-        if capped.chars().nth(WIDEST).is_some() {
-            capped.truncate(last);
-            capped.push('…');
-        }
+pub fn capped(text: &str) -> Cow<'_, str> {
+    let mut ends = text.char_indices().skip(WIDEST - 1).map(|(end, _)| end);
+    match (ends.next(), ends.next()) {
+        (Some(end), Some(_)) => format!("{}…", plain(text.get(..end).unwrap_or(text))).into(),
+        _ => plain(text),
     }
-    capped
 }
 
 /// In quotes, for a message.
@@ -28,7 +30,7 @@ pub fn quoted(text: &str) -> String {
 
 /// A file's name as it was given.
 pub fn name(path: &Path) -> String {
-    plain(&path.to_string_lossy())
+    plain(&path.to_string_lossy()).into_owned()
 }
 
 /// A number and the thing that it counts.
@@ -62,7 +64,8 @@ mod tests {
     #[test]
     fn long_texts_are_capped_by_characters() {
         assert_eq!(capped(&"é".repeat(WIDEST)), "é".repeat(WIDEST));
-        let long = capped(&"é".repeat(WIDEST + 1));
+        let long = "é".repeat(WIDEST + 1);
+        let long = capped(&long);
         assert_eq!((long.chars().count(), long.chars().last()), (WIDEST, Some('…')));
         assert_eq!(capped("a\tb\u{1b}[2J"), "a\u{FFFD}b\u{FFFD}[2J");
         assert_eq!(capped(""), "");
