@@ -356,7 +356,10 @@ fn labels_in_quotes_and_long_ones() {
     assert!(csv.contains("\n0,\"top, \"\"shelf\"\"\",0,1,\"a, b\",\"a, b\",1,0.0,\n"), "{csv}");
     assert!(csv.contains(&format!("\n1,{long},0,2,\"a, b\",c,2,0.25,\n")), "{csv}");
     let text = folder.table("t.csv --plan p.csv --ddof 0");
-    assert!(text.contains("top, \"shelf\"") && text.contains(&format!(" {}… ", "ß".repeat(39))), "{text}");
+    assert!(
+        text.contains("top, \"shelf\"") && text.contains(&format!("\n  1  {}…      0 to   2  a, b  c ", "ß".repeat(39))),
+        "{text}"
+    );
     let widths: Vec<usize> = text.lines().skip(4).take(4).map(|line| line.chars().count()).collect();
     assert_eq!(widths, [widths[0]; 4], "{text}");
     assert!(!text.contains('\t'));
@@ -413,6 +416,7 @@ fn files_are_written_whole_or_not_at_all() {
     assert_eq!(names, ["out.svg", "out.txt", "p.csv", "t.csv"]);
     assert_eq!(fs::read_to_string(folder.0.join("out.txt")).expect("the table"), table);
     fs::create_dir(folder.0.join("folder")).expect("a folder");
+    let _socket = std::os::unix::net::UnixListener::bind(folder.0.join("socket")).expect("a socket");
     folder.write("locked.svg", b"locked");
     let mut locked = fs::metadata(folder.0.join("locked.svg")).expect("a file").permissions();
     locked.set_readonly(true);
@@ -424,11 +428,24 @@ fn files_are_written_whole_or_not_at_all() {
         ("--output out.txt --svg folder", "folder"),
         ("--output folder --svg out.svg", "folder"),
         ("--output out.txt --svg locked.svg", "locked.svg"),
-        ("--output out.txt --svg /dev/null", "/dev/null"),
+        ("--output out.txt --svg socket", "socket"),
     ] {
         let said = folder.message(&format!("t.csv --plan p.csv --csv {line}"));
         assert!(said.contains(&format!("{name}: cannot be written: ")) && said.lines().count() == 1, "{line}: {said}");
     }
+}
+
+/// Where there is such a device: standard output that takes nothing. The picture is then not there either.
+#[test]
+fn standard_output_that_cannot_be_written() {
+    let Ok(full) = fs::OpenOptions::new().write(true).open("/dev/full") else { return };
+    let folder = Folder::with(&[("t.csv", b"a,1\nb,3\n"), ("p.csv", b"0,2\n"), ("old.svg", b"old")]);
+    let before = folder.holds();
+    let args = ["t.csv", "--plan", "p.csv", "--svg", "old.svg"];
+    let output = command(&folder.0, &args).stdout(full).spawn().expect("the program").wait_with_output().expect("its end");
+    assert_eq!(output.status.code(), Some(2));
+    assert!(said(&output).starts_with("standard output: cannot be written: "), "{}", said(&output));
+    assert!(folder.holds() == before);
 }
 
 #[test]
@@ -440,6 +457,22 @@ fn a_reader_that_goes_away_is_no_failure() {
     drop(stdout);
     let output = child.wait_with_output().expect("its end");
     assert_eq!((output.status.code(), said(&output)), (Some(0), String::new()));
+}
+
+/// The library's own limits, and no more memory for what lies past them. Run it with `--ignored`.
+#[test]
+#[ignore = "reads 67 million lines, a minute without optimisation"]
+fn too_many_readings_or_rows() {
+    let folder = Folder::with(&[("t.csv", b"a,1\n")]);
+    let lines = |count: usize| b"0,0\n".repeat(count);
+    for (count, code) in [(moments::MOST, 0), (moments::MOST + 1, 2), (moments::MOST + 5, 2)] {
+        let output = run_in(&folder.0, &["-", "--window", "0", "--csv"], &lines(count));
+        assert_eq!(output.status.code(), Some(code), "{}", said(&output));
+        let message = format!("standard input: a trace has {count} readings, but 16777216 is the most that is taken\n");
+        assert_eq!(said(&output), if code == 0 { String::new() } else { message });
+    }
+    folder.write("p.csv", &lines(moments::MOST + 2));
+    assert_eq!(folder.message("t.csv --plan p.csv"), "p.csv: the plan has 16777218 rows, but 16777216 is the most that is taken");
 }
 
 /// Files of any bytes, as a process: it ends by itself, and never by a panic.

@@ -1,8 +1,8 @@
 //! The bounds that the library gives the rows of a window of one size.
 use moments::Window;
 
-/// Where a row starts and ends in a trace of so many readings. Centred, the larger half of an odd size stands from the row's own place on.
-/// A row past the last is empty.
+/// Where a row starts and ends in a trace of so many readings. Centred, the larger half of an odd size stands from the row's
+/// own place on. A row past the last is empty.
 pub fn bounds(window: Window, readings: usize, row: usize) -> (usize, usize) {
     if row >= readings {
         return (readings, readings);

@@ -1,7 +1,7 @@
 //! `collector`: figures of a temperature trace by window, as a table and a picture.
 //!
-//! It reads a trace and a plan (or is told a window's size), has the library work out a figure for each row, and writes nothing unless
-//! all of that went well. `collector --help` is its manual.
+//! It reads a trace and a plan (or is told a window's size), has the library work out a figure for each row, and writes nothing
+//! unless all of that went well. `collector --help` is its manual.
 mod bounds;
 mod csv;
 mod number;
@@ -68,7 +68,7 @@ fn open(path: &Path) -> Result<BufReader<File>, String> {
     Ok(BufReader::with_capacity(1 << 16, file))
 }
 
-/// Both files are complete beside their targets before the first takes its name. Standard output comes last.
+/// Both files are complete beside their targets, and standard output is written, before the first takes its name.
 fn write(options: &Options, report: &Report) -> Result<(), String> {
     let mut lines = |out: &mut dyn Write| if options.csv { table::csv(report, out) } else { table::text(report, out) };
     let svg = match &options.svg {
@@ -77,13 +77,12 @@ fn write(options: &Options, report: &Report) -> Result<(), String> {
     };
     let table = match &options.output {
         Some(path) => Some(Draft::new(path, &mut lines)?),
-        None => None,
+        None => {
+            print(&mut lines)?;
+            None
+        }
     };
-    svg.map_or(Ok(()), Draft::keep)?;
-    match table {
-        Some(table) => table.keep(),
-        None => print(&mut lines),
-    }
+    [svg, table].into_iter().flatten().try_for_each(Draft::keep)
 }
 
 /// A reader that has seen enough and closed the pipe is no failure.

@@ -20,6 +20,8 @@ const MISSING_FIGURE: &str = "#8c8c8c";
 const NOT_FINITE: &str = "#d01c1c";
 const TRACE: &str = "#1f5f99";
 const FIGURE: &str = "#b4500f";
+/// Between a bar and 0.
+pub const BELOW: &str = "#f8e6d8";
 
 /// A part of the picture with its own vertical axis.
 struct Panel {
@@ -96,7 +98,8 @@ impl<'a> Picture<'a> {
         for (path, width) in [(&drawn.line, 1.3), (&drawn.dots, 4.0)] {
             if !path.is_empty() {
                 self.push(format_args!(
-                    "<path d=\"{path}\" fill=\"none\" stroke=\"{stroke}\" stroke-width=\"{width}\" stroke-linecap=\"round\" stroke-linejoin=\"round\"/>"
+                    "<path d=\"{path}\" fill=\"none\" stroke=\"{stroke}\" stroke-width=\"{width}\" stroke-linecap=\"round\" \
+                     stroke-linejoin=\"round\"/>"
                 ));
             }
         }
@@ -118,7 +121,9 @@ impl<'a> Picture<'a> {
         let report = self.report;
         let (trace, windows) = (file_name(&report.trace.file), file_name(&report.windows()));
         let mut title = report.options.asked();
-        title.get_mut(..1).map(str::make_ascii_uppercase).unwrap_or(());
+        if let Some(first) = title.get_mut(..1) {
+            first.make_ascii_uppercase();
+        }
         self.text((LEFT, 30.0), "font-size=\"19\" font-weight=\"bold\"", &title);
         let rows = count(report.len(), "row");
         self.text((LEFT, 51.0), "", &format!("trace {trace}: {}; windows {windows}: {rows}", report.readings()));
@@ -212,16 +217,11 @@ impl<'a> Picture<'a> {
             let points = self.points().map(|(x, figure)| (x, figure.filter(|x| x.is_finite()).map(|x| self.figure.y(x))));
             let drawn = Drawn::new(points, self.report.len() <= MOST_DOTS);
             self.drawn(&drawn, FIGURE);
-            self.in_key(
-                drawn.is_any(),
-                Swatch::Line,
-                FIGURE,
-                match self.report.rows {
-                    Rows::Plan(_) => "figure, at its window's middle",
-                    Rows::Fixed(window) if window.center => "figure, at its window's middle",
-                    Rows::Fixed(_) => "figure, at its window's last place",
-                },
-            );
+            let at = match self.report.rows {
+                Rows::Fixed(window) if !window.center => "figure, at its window's last place",
+                _ => "figure, at its window's middle",
+            };
+            self.in_key(drawn.is_any(), Swatch::Line, FIGURE, at);
         }
         let spans = |such: fn(&Row<'_>) -> bool| {
             let rows = self.report.rows().zip(self.points()).filter(move |(row, _)| such(row));
@@ -257,7 +257,7 @@ impl<'a> Picture<'a> {
             let (from, to) = widened(self.across(row.start, row.end), 2.0);
             let (y, zero) = (self.figure.y(figure), self.figure.y(0.0));
             if apart {
-                self.rect((from, to), (y.min(zero), y.max(zero)), "#f8e6d8");
+                self.rect((from, to), (y.min(zero), y.max(zero)), BELOW);
             } else {
                 // Bars that lie over one another are told apart by their ends.
                 [from, to - 1.5].iter().for_each(|end| self.rect((*end, end + 1.5), (y - 4.5, y + 4.5), FIGURE));

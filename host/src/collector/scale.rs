@@ -35,8 +35,8 @@ impl Scale {
         let high = if from_zero && top == 0.0 && base < 0.0 { 0.0 } else { (top + room).min(f64::MAX) };
         Some(Scale::linear(low, high))
     }
-    /// A logarithmic range, where a few of these values would press all others flat: where the highest is more than [`FLAT`] times the
-    /// middle one. None elsewhere, and if a value is negative.
+    /// A logarithmic range, where a few of these values would press all others flat: where the highest is more than [`FLAT`]
+    /// times the middle one. None elsewhere, and if a value is negative.
     pub fn logarithmic(values: impl Iterator<Item = f64>) -> Option<Scale> {
         let mut values: Vec<f64> = values.filter(|value| value.is_finite() && *value != 0.0).collect();
         let half = values.len() / 2;

@@ -174,3 +174,12 @@ fn marks_say_where_they_come_from() {
     let [text, ..] = make(&options("t --plan p --ddof 0"), b"a,1\nb,2\n", b"0,2\n").expect("a report");
     assert!(!text.contains("missing, in") && !text.contains('!'), "{text}");
 }
+
+#[test]
+fn bars_that_lie_apart_stand_on_the_axis() {
+    let bars = |plan: &str| {
+        let [_, _, svg] = make(&options("t --plan p --ddof 0"), b"a,1\nb,2\nc,4\nd,8\n", plan.as_bytes()).expect("a report");
+        svg.matches(picture::BELOW).count()
+    };
+    assert_eq!([bars("0,2\n2,4\n"), bars("0,2\n1,4\n"), bars("0,1\n3,4\n"), bars("")], [2, 0, 2, 0]);
+}

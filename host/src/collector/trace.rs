@@ -37,9 +37,9 @@ impl Trace {
     }
     fn new(file: &str, readings: Vec<f64>, map: Option<Vec<u8>>, reader: Reader<'_>) -> Trace {
         let (times, seen, heading) = (reader.times, reader.seen, reader.heading);
-        let is_valid = |place: usize| is_valid(map.as_deref(), place);
-        let valid = totals(readings.len(), is_valid);
-        let not_finite = totals(readings.len(), |place| is_valid(place) && readings.get(place).is_some_and(|x| !x.is_finite()));
+        let valid = totals(readings.len(), |place| is_valid(map.as_deref(), place));
+        // A missing place holds 0.0.
+        let not_finite = totals(readings.len(), |place| readings.get(place).is_some_and(|x| !x.is_finite()));
         Trace { file: file.to_string(), readings, map, times, seen, heading, valid, not_finite }
     }
     pub fn len(&self) -> usize {
@@ -86,8 +86,8 @@ struct Reader<'a> {
     heading: bool,
 }
 impl Reader<'_> {
-    /// The next reading or missing one; none at the file's end. One more than the library takes is kept, so that it refuses; those past
-    /// it are only counted.
+    /// The next reading or missing one; none at the file's end. One more than the library takes is kept, so that it refuses;
+    /// those past it are only counted.
     fn next(&mut self) -> Result<Option<Option<f64>>, Fault> {
         while let Some(line) = self.lines.next(&mut self.buffer)? {
             let fields = split(line).map_err(|text| self.lines.fault(text))?;
