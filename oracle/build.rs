@@ -39,16 +39,6 @@ fn main() {
     println!("cargo:rerun-if-env-changed=ORACLE_SRC");
     println!("cargo:rerun-if-changed=build.rs");
     println!("cargo:rerun-if-changed=standin");
-    if env::var_os("CARGO_FEATURE_SECOND").is_some() {
-        println!("cargo:rerun-if-env-changed=MOMENTS_LIB_DIR");
-        let Some(folder) = env::var_os("MOMENTS_LIB_DIR").map(PathBuf::from) else {
-            eprintln!("set MOMENTS_LIB_DIR to the folder with libmoments.a (rt staticlib moments: target/staticlib)");
-            std::process::exit(1);
-        };
-        println!("cargo:rerun-if-changed={}", folder.join("libmoments.a").display());
-        println!("cargo:rustc-link-search=native={}", folder.display());
-        println!("cargo:rustc-link-lib=static=moments");
-    }
     let here = PathBuf::from(env::var("CARGO_MANIFEST_DIR").unwrap());
     let Some(root) = env::var_os("ORACLE_SRC").map(PathBuf::from) else {
         eprintln!("set ORACLE_SRC to the folder with the sources of polars-compute 0.55.2 (moment.rs and rolling/)");

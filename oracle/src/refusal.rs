@@ -1,24 +1,32 @@
 //! Document 01's refusal numbers, straight from its text (not from the crate). 0: accepted.
 pub const LIMIT: usize = 16_777_216;
 
-/// 5, 6, 7, each row tested in that order from row 0.
-pub fn rows(rows: impl Iterator<Item = (usize, usize)>, n: usize) -> u32 {
+/// The first row that is refused, with its number, itself and the row before: 5, 6, 7, each row tested in that order from row 0.
+pub fn first_row(rows: impl Iterator<Item = (usize, usize)>, n: usize) -> Option<FirstRow> {
     let mut prev: Option<(usize, usize)> = None;
-    for (s, e) in rows {
-        if s > e {
-            return 5;
-        }
-        if e > n {
-            return 6;
-        }
-        if let Some((ps, pe)) = prev {
-            if s < ps || e < pe {
-                return 7;
-            }
-        }
-        prev = Some((s, e));
+    for (row, (s, e)) in rows.enumerate() {
+        let number = if s > e {
+            5
+        } else if e > n {
+            6
+        } else if prev.is_some_and(|(ps, pe)| s < ps || e < pe) {
+            7
+        } else {
+            prev = Some((s, e));
+            continue;
+        };
+        return Some(FirstRow { row, number, bounds: (s, e), prev });
     }
-    0
+    None
+}
+pub struct FirstRow {
+    pub row: usize,
+    pub number: u32,
+    pub bounds: (usize, usize),
+    pub prev: Option<(usize, usize)>,
+}
+pub fn rows(rows: impl Iterator<Item = (usize, usize)>, n: usize) -> u32 {
+    first_row(rows, n).map_or(0, |first| first.number)
 }
 pub fn trace(n: usize, map: Option<usize>) -> u32 {
     if n > LIMIT {
@@ -73,7 +81,7 @@ pub fn host(
     entry: usize,
     work: usize,
 ) -> u32 {
-    if bytes % 8 != 0 {
+    if !bytes.is_multiple_of(8) {
         return 14;
     }
     match plan(bytes / 8, map, starts, ends, outs, entry, work) {

@@ -1,12 +1,24 @@
-//! Random calls of libmoments.a (src/second.rs) against the Rust: every entry on states, whole arrays and ranges, and the
-//! root. Compared: the number; states, all NaNs alike; figures by their bits, a NaN being 7FF8000000000000; the present byte
-//! and the +0.0 of a missing figure; and that nothing else is written. usage: face CALLS SEED
+//! Random calls of libmoments.a against the Rust: every entry on states, whole arrays and ranges, and the root. Compared: the
+//! number; states, all NaNs alike; figures by their bits, a NaN being 7FF8000000000000; the present byte and the +0.0 of a missing
+//! figure; and that nothing else is written. An entry that is lent something to write to is called twice: by ../host's declaration,
+//! which shows what was written, and by its safe function. usage: face CALLS SEED
+use moments::{abi, CovState, KurtosisState, PearsonState, Refusal, SkewState, VarState};
 use oracle::record::*;
 use oracle::refusal::LIMIT;
 use oracle::rng::Rng;
-use oracle::second::c::{self, *};
 use oracle::{canon, refusal};
 use std::collections::BTreeMap;
+
+/// An entry that makes a state of a trace: trace, whether there is a map, map, state.
+type OfTrace<const N: usize> = unsafe extern "C" fn(*const f64, usize, bool, *const u8, usize, &mut [f64; N]) -> u32;
+/// Of two traces, each as above.
+#[rustfmt::skip]
+type OfPair<const N: usize> = unsafe extern "C" fn(
+    *const f64, usize, bool, *const u8, usize, *const f64, usize, bool, *const u8, usize, &mut [f64; N],
+) -> u32;
+/// Of a range: a trace as above, start, length, state.
+type OfRange<const N: usize> =
+    unsafe extern "C" fn(*const f64, usize, bool, *const u8, usize, usize, usize, &mut [f64; N]) -> u32;
 
 /// A map as it is lent. Without one, pointer and length may be anything that a slice may be, null too where it is empty.
 struct Lent<'a> {
@@ -44,9 +56,9 @@ impl<const N: usize> Guarded<N> {
     }
     /// Lends the list to a call, and gives the call's answer and what all of it holds then. The black box keeps the
     /// compiler from taking for granted that the words beside the list are as they were.
-    fn lent<T>(mut self, call: impl FnOnce(*mut [f64; N]) -> T) -> (T, Self) {
+    fn lent<T>(mut self, call: impl FnOnce(&mut [f64; N]) -> T) -> (T, Self) {
         let all: *mut Self = std::hint::black_box(&raw mut self);
-        let answer = call(unsafe { &raw mut (*all).held });
+        let answer = call(unsafe { &mut (*all).held });
         (answer, unsafe { *all })
     }
     /// Whether only what was lent changed, and that only where the call was accepted.
@@ -54,6 +66,23 @@ impl<const N: usize> Guarded<N> {
         let bits = |g: &Self| g.held.map(f64::to_bits);
         self.low == after.low && self.high == after.high && (code == 0 || bits(self) == bits(after))
     }
+}
+
+/// A call's entry, the number and the state that it is to answer, and what it was given.
+struct Asked<A, G> {
+    name: &'static str,
+    want: u32,
+    answer: A,
+    given: G,
+}
+/// What the calls on whole arrays and ranges are given; one that has no second trace or no range does not look at it.
+struct Given<'a> {
+    x: &'a [f64],
+    xm: &'a Lent<'a>,
+    y: &'a [f64],
+    ym: &'a Lent<'a>,
+    start: usize,
+    length: usize,
 }
 
 #[derive(Default)]
@@ -77,27 +106,27 @@ impl Seen {
             }
         }
     }
-    /// A call that answers a number and writes a state.
-    fn array<const N: usize>(
+    /// A call that answers a number and writes a state, and the same by its safe function.
+    fn array<const N: usize, S: Into<[f64; N]>>(
         &mut self,
         r: &mut Rng,
-        name: &'static str,
-        want: u32,
-        answer: impl FnOnce() -> Vec<f64>,
-        given: impl FnOnce() -> String,
-        call: impl FnOnce(*mut [f64; N]) -> u32,
+        asked: Asked<impl FnOnce() -> Vec<f64>, impl FnOnce() -> String>,
+        call: impl FnOnce(&mut [f64; N]) -> u32,
+        safe: impl FnOnce() -> Result<S, Refusal>,
     ) {
+        let Asked { name, want, answer, given } = asked;
         let before = Guarded::<N>::new(r);
         let (code, after) = before.lent(call);
         *self.numbers.entry(want).or_default() += 1;
-        let what = if code != want {
-            Some(format!("number {code}, wanted {want}"))
-        } else if !before.kept(&after, code) {
-            Some("wrote what it may not".into())
-        } else if code == 0 {
-            unlike(&after.held, &answer())
-        } else {
-            None
+        let what = match (code, safe().map(Into::into)) {
+            _ if code != want => Some(format!("number {code}, wanted {want}")),
+            _ if !before.kept(&after, code) => Some("wrote what it may not".into()),
+            (0, Ok(state)) => {
+                let answer = answer();
+                unlike(&after.held, &answer).or_else(|| unlike(&state, &answer).map(|w| format!("by its safe function {w}")))
+            }
+            (_, Err(refusal)) if refusal.number() == want => None,
+            (_, safe) => Some(format!("by its safe function {safe:?}, wanted {want}")),
         };
         self.tell(name, what.map(|w| format!("{w}; {}", given())));
     }
@@ -109,9 +138,18 @@ impl Seen {
         let what = (got.to_bits() != canon(want)).then(|| format!("{:016X}, wanted {:016X}; {}", got.to_bits(), canon(want), given()));
         self.tell(name, what);
     }
-    fn finalized(&mut self, r: &mut Rng, name: &'static str, want: Option<f64>, given: impl FnOnce() -> String, call: impl FnOnce(&mut f64) -> u8) {
+    /// A `finalize` that writes its figure, and the same by its safe function.
+    fn finalized(
+        &mut self,
+        r: &mut Rng,
+        name: &'static str,
+        want: Option<f64>,
+        given: impl FnOnce() -> String,
+        call: impl FnOnce(&mut f64) -> u8,
+        safe: Option<f64>,
+    ) {
         let before = Guarded::<1>::new(r);
-        let (present, after) = before.lent(|held| call(unsafe { &mut (*held)[0] }));
+        let (present, after) = before.lent(|held| call(&mut held[0]));
         let got = after.held[0].to_bits();
         let bits = want.map_or(0, canon);
         self.nans += want.is_some_and(f64::is_nan) as u64;
@@ -120,6 +158,8 @@ impl Seen {
             Some(format!("{got:016X} {present}, wanted {bits:016X} {}; {}", want.is_some() as u8, given()))
         } else if !before.kept(&after, 0) {
             Some("wrote what it may not".into())
+        } else if safe.map(f64::to_bits) != want.map(canon) {
+            Some(format!("by its safe function {safe:?}, wanted {want:?}; {}", given()))
         } else {
             None
         };
@@ -138,49 +178,71 @@ fn shown(x: &[f64]) -> String {
     format!("{} readings {}", x.len(), hex(&x[..x.len().min(40)]))
 }
 
-fn one<const N: usize>(seen: &mut Seen, r: &mut Rng, name: &'static str, s: &str, f: c::One<N>, x: &[f64], m: &Lent) {
+fn one<const N: usize, S: Into<[f64; N]>>(
+    (seen, r): (&mut Seen, &mut Rng),
+    (name, s): (&'static str, &str),
+    f: OfTrace<N>,
+    safe: impl FnOnce(&[f64], Option<&[u8]>) -> Result<S, Refusal>,
+    &Given { x, xm: m, .. }: &Given,
+) {
     let want = refusal::trace(x.len(), m.map.map(<[u8]>::len));
     let answer = || whole(s, x, m.map, &[], None);
-    seen.array(r, name, want, answer, || format!("{} map {:02X?}", shown(x), m.map), |state| unsafe {
-        f(at(x), x.len(), m.has, m.at, m.bytes, state)
-    });
+    let given = || format!("{} map {:02X?}", shown(x), m.map);
+    let call = |state: &mut [f64; N]| unsafe { f(at(x), x.len(), m.has, m.at, m.bytes, state) };
+    seen.array(r, Asked { name, want, answer, given }, call, || safe(x, m.map));
 }
-fn two<const N: usize>(seen: &mut Seen, r: &mut Rng, name: &'static str, s: &str, f: c::Two<N>, x: &[f64], xm: &Lent, y: &[f64], ym: &Lent) {
+fn two<const N: usize, S: Into<[f64; N]>>(
+    (seen, r): (&mut Seen, &mut Rng),
+    (name, s): (&'static str, &str),
+    f: OfPair<N>,
+    safe: impl FnOnce(&[f64], Option<&[u8]>, &[f64], Option<&[u8]>) -> Result<S, Refusal>,
+    &Given { x, xm, y, ym, .. }: &Given,
+) {
     let want = refusal::pair(x.len(), xm.map.map(<[u8]>::len), y.len(), ym.map.map(<[u8]>::len));
     let answer = || whole(s, x, xm.map, y, ym.map);
     let given = || format!("{} map {:02X?} {} map {:02X?}", shown(x), xm.map, shown(y), ym.map);
-    seen.array(r, name, want, answer, given, |state| unsafe {
+    let call = |state: &mut [f64; N]| unsafe {
         f(at(x), x.len(), xm.has, xm.at, xm.bytes, at(y), y.len(), ym.has, ym.at, ym.bytes, state)
-    });
+    };
+    seen.array(r, Asked { name, want, answer, given }, call, || safe(x, xm.map, y, ym.map));
 }
-fn part<const N: usize>(seen: &mut Seen, r: &mut Rng, name: &'static str, s: &str, f: c::Part<N>, x: &[f64], m: &Lent, start: usize, length: usize) {
+fn part<const N: usize, S: Into<[f64; N]>>(
+    (seen, r): (&mut Seen, &mut Rng),
+    (name, s): (&'static str, &str),
+    f: OfRange<N>,
+    safe: impl FnOnce(&[f64], Option<&[u8]>, usize, usize) -> Result<S, Refusal>,
+    &Given { x, xm: m, start, length, .. }: &Given,
+) {
     let want = refusal::range(x.len(), m.map.map(<[u8]>::len), start, length);
     let answer = || range(s, x, m.map, start, length);
     let given = || format!("{} map {:02X?} start {start} length {length}", shown(x), m.map);
-    seen.array(r, name, want, answer, given, |state| unsafe {
-        f(at(x), x.len(), m.has, m.at, m.bytes, start, length, state)
-    });
+    let call = |state: &mut [f64; N]| unsafe { f(at(x), x.len(), m.has, m.at, m.bytes, start, length, state) };
+    seen.array(r, Asked { name, want, answer, given }, call, || safe(x, m.map, start, length));
 }
-fn arrays(seen: &mut Seen, r: &mut Rng, x: &[f64], xm: &Lent, y: &[f64], ym: &Lent, start: usize, length: usize, which: usize) {
+fn arrays(seen: &mut Seen, r: &mut Rng, given: &Given, which: usize) {
+    let to = (seen, r);
     match which {
-        0 => one(seen, r, "moments_var", "var", moments_var, x, xm),
-        1 => one(seen, r, "moments_skew", "skew", moments_skew, x, xm),
-        2 => one(seen, r, "moments_kurtosis", "kurt", moments_kurtosis, x, xm),
-        3 => two(seen, r, "moments_cov", "cov", moments_cov, x, xm, y, ym),
-        4 => two(seen, r, "moments_pearson_corr", "pearson", moments_pearson_corr, x, xm, y, ym),
-        5 => part(seen, r, "moments_skew_range", "skew", moments_skew_range, x, xm, start, length),
-        _ => part(seen, r, "moments_kurtosis_range", "kurt", moments_kurtosis_range, x, xm, start, length),
+        0 => one(to, ("moments_var", "var"), abi::moments_var, moments::var, given),
+        1 => one(to, ("moments_skew", "skew"), abi::moments_skew, moments::skew, given),
+        2 => one(to, ("moments_kurtosis", "kurt"), abi::moments_kurtosis, moments::kurtosis, given),
+        3 => two(to, ("moments_cov", "cov"), abi::moments_cov, moments::cov, given),
+        4 => two(to, ("moments_pearson_corr", "pearson"), abi::moments_pearson_corr, moments::pearson_corr, given),
+        5 => part(to, ("moments_skew_range", "skew"), abi::moments_skew_range, moments::skew_range, given),
+        _ => part(to, ("moments_kurtosis_range", "kurt"), abi::moments_kurtosis_range, moments::kurtosis_range, given),
     }
+}
+fn of<const N: usize, S: From<[f64; N]>>(fields: &[f64]) -> S {
+    S::from(fields.try_into().unwrap())
 }
 fn states(seen: &mut Seen, r: &mut Rng, s: &str) {
     macro_rules! each {
-        ($T:ident, $insert:ident($($y:ident)?), $combine:ident) => {{
+        ($T:ident, $insert:literal ($($y:ident)?), $combine:literal) => {{
             let (st, x, y) = insert_case(r, s);
-            let got = $insert($T::of(&st), x $(, { let $y = y; $y })?).fields();
-            seen.state(stringify!($insert), &got, &insert(s, &st, x, y), || format!("{} and {}", hex(&st), hex(&[x, y])));
+            let got: [f64; _] = of::<_, $T>(&st).insert_one(x $(, { let $y = y; $y })?).into();
+            seen.state($insert, &got, &insert(s, &st, x, y), || format!("{} and {}", hex(&st), hex(&[x, y])));
             let (a, b) = combine_case(r, s);
-            let got = $combine($T::of(&a), $T::of(&b)).fields();
-            seen.state(stringify!($combine), &got, &combine(s, &a, &b), || format!("{} and {}", hex(&a), hex(&b)));
+            let got: [f64; _] = of::<_, $T>(&a).combine(of(&b)).into();
+            seen.state($combine, &got, &combine(s, &a, &b), || format!("{} and {}", hex(&a), hex(&b)));
         }};
     }
     let (st, ddof, bias, fisher) = finalize_case(r, s);
@@ -188,24 +250,32 @@ fn states(seen: &mut Seen, r: &mut Rng, s: &str) {
     let given = || format!("{} ddof {ddof} bias {bias} fisher {fisher}", hex(&st));
     match s {
         "var" => {
-            each!(VarState, moments_var_insert_one(), moments_var_combine);
-            seen.finalized(r, "moments_var_finalize", want, given, |f| moments_var_finalize(VarState::of(&st), ddof, f));
+            each!(VarState, "moments_var_insert_one"(), "moments_var_combine");
+            let state: VarState = of(&st);
+            let call = |f: &mut f64| abi::moments_var_finalize(state, ddof, f);
+            seen.finalized(r, "moments_var_finalize", want, given, call, state.finalize(ddof));
         }
         "cov" => {
-            each!(CovState, moments_cov_insert_one(y), moments_cov_combine);
-            seen.finalized(r, "moments_cov_finalize", want, given, |f| moments_cov_finalize(CovState::of(&st), ddof, f));
+            each!(CovState, "moments_cov_insert_one"(y), "moments_cov_combine");
+            let state: CovState = of(&st);
+            let call = |f: &mut f64| abi::moments_cov_finalize(state, ddof, f);
+            seen.finalized(r, "moments_cov_finalize", want, given, call, state.finalize(ddof));
         }
         "pearson" => {
-            each!(PearsonState, moments_pearson_insert_one(y), moments_pearson_combine);
-            seen.figure("moments_pearson_finalize", moments_pearson_finalize(PearsonState::of(&st)), want.unwrap(), given);
+            each!(PearsonState, "moments_pearson_insert_one"(y), "moments_pearson_combine");
+            seen.figure("moments_pearson_finalize", of::<_, PearsonState>(&st).finalize(), want.unwrap(), given);
         }
         "skew" => {
-            each!(SkewState, moments_skew_insert_one(), moments_skew_combine);
-            seen.finalized(r, "moments_skew_finalize", want, given, |f| moments_skew_finalize(SkewState::of(&st), bias, f));
+            each!(SkewState, "moments_skew_insert_one"(), "moments_skew_combine");
+            let state: SkewState = of(&st);
+            let call = |f: &mut f64| abi::moments_skew_finalize(state, bias, f);
+            seen.finalized(r, "moments_skew_finalize", want, given, call, state.finalize(bias));
         }
         _ => {
-            each!(KurtosisState, moments_kurtosis_insert_one(), moments_kurtosis_combine);
-            seen.finalized(r, "moments_kurtosis_finalize", want, given, |f| moments_kurtosis_finalize(KurtosisState::of(&st), fisher, bias, f));
+            each!(KurtosisState, "moments_kurtosis_insert_one"(), "moments_kurtosis_combine");
+            let state: KurtosisState = of(&st);
+            let call = |f: &mut f64| abi::moments_kurtosis_finalize(state, fisher, bias, f);
+            seen.finalized(r, "moments_kurtosis_finalize", want, given, call, state.finalize(fisher, bias));
         }
     }
 }
@@ -216,14 +286,14 @@ fn limits(seen: &mut Seen, r: &mut Rng) {
     for (n, map) in [(LIMIT, None), (LIMIT, Some(&ones[..])), (LIMIT + 1, None), (LIMIT + 1, Some(&ones[..]))] {
         let m = Lent::new(map, &ones, r);
         for which in 0..7 {
-            arrays(seen, r, &x[..n], &m, &x[..n], &m, 1, LIMIT - 1, which);
+            arrays(seen, r, &Given { x: &x[..n], xm: &m, y: &x[..n], ym: &m, start: 1, length: LIMIT - 1 }, which);
         }
     }
     // a trace too long beside a short one is 1 and not 2
     let m = Lent::new(None, &ones, r);
     for (x, y) in [(&x[..], &x[..3]), (&x[..3], &x[..]), (&x[..LIMIT], &x[..3])] {
-        arrays(seen, r, x, &m, y, &m, 0, 0, 3);
-        arrays(seen, r, x, &m, y, &m, 0, 0, 4);
+        arrays(seen, r, &Given { x, xm: &m, y, ym: &m, start: 0, length: 0 }, 3);
+        arrays(seen, r, &Given { x, xm: &m, y, ym: &m, start: 0, length: 0 }, 4);
     }
 }
 
@@ -260,7 +330,7 @@ fn main() {
                         (start, length) = (length, start);
                     }
                 }
-                arrays(&mut seen, &mut r, &x, &xm, &y, &ym, start, length, which);
+                arrays(&mut seen, &mut r, &Given { x: &x, xm: &xm, y: &y, ym: &ym, start, length }, which);
             }
             7..22 => {
                 let s = STATES[r.below(5)];
@@ -277,7 +347,7 @@ fn main() {
                     3 => f64::from_bits(((0x3FF + r.below(2) as u64) << 52) + (r.u64() >> 12)),
                     _ => f64::from_bits(r.u64()),
                 };
-                seen.figure("moments_root", moments_root(x), x.sqrt(), || hex(&[x]));
+                seen.figure("moments_root", moments::root(x), x.sqrt(), || hex(&[x]));
             }
         }
     }

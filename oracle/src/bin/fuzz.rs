@@ -1,15 +1,15 @@
-//! Random window calls of a second implementation (src/second.rs) against the Rust: plans by the host call and, with the
-//! feature `rolling`, fixed windows and weights (the other entries: `face`). Compared: the number; both output lists to the
-//! last place, figures by their bits, a NaN being 7FF8000000000000; the readings that an accepted call decodes; and that
-//! nothing else is written: no list on a refusal, and otherwise no place past the last row, past the needed work, past the
-//! readings or beside a list. Each run also makes the calls at 16,777,216 readings or rows and one more.
+//! Random window calls of a second implementation (src/second.rs) against the Rust: plans by the host call, fixed windows and
+//! weights (the other entries: `face`). Compared: the number, and what the safe functions of ../host say of the first refused
+//! row of a plan; both output lists to the last place, figures by their bits, a NaN being 7FF8000000000000; the readings that an
+//! accepted call decodes; and that nothing else is written: no list on a refusal, and otherwise no place past the last row, past
+//! the needed work, past the readings or beside a list. Each run also makes the calls at 16,777,216 readings or rows and one more.
 //! usage: fuzz [--demo] CALLS SEED [plan] [fixed] [weighted]
 //! (CALLS are made of the kinds that are named, in turn, or of every kind. --demo asks the model of src/model.rs in place
 //! of libmoments.a; it has no weights.)
 use oracle::host::{Call, Case, Room};
 use oracle::refusal::LIMIT;
 use oracle::rng::Rng;
-use oracle::second::{Impl, PlanFn, WindowsFn};
+use oracle::second::{Answer, Impl, PlanFn, WindowsFn};
 use oracle::*;
 use std::collections::BTreeMap;
 use std::fmt::Debug;
@@ -57,20 +57,27 @@ impl Lists {
         Lists { readings, work, figures, present: Guarded::new(room.present, || r.u64() as u8) }
     }
 }
-/// What the Rust and document 01 say: the number, the decoded readings, the rows' answers and the doubles of work needed.
+/// What the Rust and document 01 say: the number, the plan's row that is refused and what is to be said of it, the decoded
+/// readings, the rows' answers and the doubles of work needed.
 struct Wanted {
     number: u32,
+    row: Option<(usize, Vec<usize>)>,
     readings: Vec<f64>,
     rows: Vec<Option<f64>>,
     need: usize,
 }
 impl Wanted {
     fn refused(number: u32) -> Self {
-        Wanted { number, readings: vec![], rows: vec![], need: 0 }
+        Wanted { number, row: None, readings: vec![], rows: vec![], need: 0 }
     }
-    fn differs(&self, number: u32, before: &Lists, after: &Lists) -> Option<String> {
-        if number != self.number {
-            return Some(format!("number {number}, wanted {}", self.number));
+    fn differs(&self, answer: &Answer, before: &Lists, after: &Lists) -> Option<String> {
+        if answer.number() != self.number {
+            return Some(format!("number {}, wanted {}", answer.number(), self.number));
+        }
+        if let Answer::Words { row, .. } = answer {
+            if *row != self.row {
+                return Some(format!("row and numbers {row:?}, wanted {:?}", self.row));
+            }
         }
         for (name, changed) in [
             ("readings", before.readings.changed(&after.readings, self.readings.len(), |x| x.to_bits())),
@@ -109,11 +116,15 @@ struct Seen {
     missing: u64,
     /// NaN readings decoded, and those of them whose bits are not the trace's.
     nan_readings: (u64, u64),
+    /// Refused rows of a plan, and those of them that were told in words.
+    refused_rows: (u64, u64),
     differing: u64,
 }
 impl Seen {
-    fn tell(&mut self, name: &'static str, given: impl Debug, wanted: &Wanted, number: u32, before: &Lists, after: &Lists) {
-        let what = wanted.differs(number, before, after);
+    fn tell(&mut self, name: &'static str, given: impl Debug, wanted: &Wanted, answer: &Answer, before: &Lists, after: &Lists) {
+        let what = wanted.differs(answer, before, after);
+        self.refused_rows.0 += wanted.row.is_some() as u64;
+        self.refused_rows.1 += matches!(answer, Answer::Words { row: Some(_), .. }) as u64;
         let entry = self.calls.entry(name).or_default();
         entry.0 += 1;
         *entry.2.entry(wanted.number).or_default() += 1;
@@ -148,15 +159,29 @@ fn plan_name(f: Figure) -> &'static str {
         Figure::Kurt { .. } => "plan kurtosis",
     }
 }
+/// The first row that is refused, and for 5 its bounds, for 6 its end and the readings, for 7 its bounds and those before.
+fn refused_row(call: &Call, number: u32) -> Option<(usize, Vec<usize>)> {
+    if !(5..=7).contains(&number) {
+        return None;
+    }
+    let n = call.trace.len() / 8;
+    let refusal::FirstRow { row, bounds: (s, e), prev, .. } = refusal::first_row(call.rows().into_iter(), n)?;
+    let said = match (number, prev) {
+        (5, _) => vec![s, e],
+        (6, _) => vec![e, n],
+        (_, prev) => prev.map_or(vec![], |(ps, pe)| vec![s, e, ps, pe]),
+    };
+    Some((row, said))
+}
 fn plan_call(seen: &mut Seen, r: &mut Rng, f: PlanFn, call: Call, room: Room) {
     let before = Lists::new(r, room);
     let mut after = before.clone();
-    let number = f(&call, after.readings.lent(), after.work.lent(), after.figures.lent(), after.present.lent());
+    let answer = f(&call, after.readings.lent(), after.work.lent(), after.figures.lent(), after.present.lent());
     let wanted = match call.refusal(room) {
-        0 => Wanted { number: 0, readings: call.readings(), rows: call.answers(), need: call.need() },
-        number => Wanted::refused(number),
+        0 => Wanted { readings: call.readings(), rows: call.answers(), need: call.need(), ..Wanted::refused(0) },
+        number => Wanted { row: refused_row(&call, number), ..Wanted::refused(number) },
     };
-    seen.tell(plan_name(call.figure), call, &wanted, number, &before, &after);
+    seen.tell(plan_name(call.figure), call, &wanted, &answer, &before, &after);
 }
 fn any_plan(seen: &mut Seen, r: &mut Rng, f: PlanFn) {
     let (most, count) = match r.below(200) {
@@ -207,10 +232,10 @@ fn windows_name(c: &windows::Call) -> &'static str {
 fn windows_call(seen: &mut Seen, r: &mut Rng, f: WindowsFn, call: windows::Call, room: Room) {
     let before = Lists::new(r, room);
     let mut after = before.clone();
-    let number = f(&call, after.work.lent(), after.figures.lent(), after.present.lent());
+    let answer = f(&call, after.work.lent(), after.figures.lent(), after.present.lent());
     let name = windows_name(&call);
     let wanted = match call.refusal(room) {
-        0 => Wanted { number: 0, readings: vec![], rows: call.answers(), need: call.need() },
+        0 => Wanted { rows: call.answers(), need: call.need(), ..Wanted::refused(0) },
         number => Wanted::refused(number),
     };
     if wanted.number == 0 {
@@ -224,7 +249,7 @@ fn windows_call(seen: &mut Seen, r: &mut Rng, f: WindowsFn, call: windows::Call,
     let bits = |v: &[f64]| v.iter().map(|v| v.to_bits()).collect::<Vec<u64>>();
     let (x, w) = (bits(&call.x[..call.x.len().min(400)]), call.weights.map(bits));
     let given = (call.figure, call.min, call.size, call.centre, room, x, w, call.map().map(|m| &m[..m.len().min(50)]));
-    seen.tell(name, given, &wanted, number, &before, &after);
+    seen.tell(name, given, &wanted, &answer, &before, &after);
 }
 /// A random call on fixed windows or weights; one in 200 is long enough for many blocks of rows.
 fn any_windows(seen: &mut Seen, r: &mut Rng, f: WindowsFn, any: fn(&mut Rng, usize) -> windows::Case) {
@@ -282,12 +307,11 @@ fn main() {
         std::process::exit(1);
     };
     let asked = if demo { Some(second::demo()) } else { second::second() };
-    let Some(Impl { plan: Some(plan), fixed, weighted, .. }) = asked else {
-        eprintln!("build with --features plans or rolling, or give --demo");
+    let Some(Impl { plan, fixed, weighted }) = asked else {
+        eprintln!("build with --features host, or give --demo");
         std::process::exit(1);
     };
-    let mut kinds = vec!["plan"];
-    kinds.extend(fixed.map(|_| "fixed"));
+    let mut kinds = vec!["plan", "fixed"];
     kinds.extend(weighted.map(|_| "weighted"));
     if let Some(name) = named.iter().find(|n| !kinds.contains(&n.as_str())) {
         eprintln!("no calls of {name} here, only of {kinds:?}");
@@ -296,7 +320,7 @@ fn main() {
     kinds.retain(|kind| named.is_empty() || named.iter().any(|n| n == kind));
     let mut r = Rng(seed);
     let mut seen = Seen::default();
-    let (fixed, weighted) = (fixed.filter(|_| kinds.contains(&"fixed")), weighted.filter(|_| kinds.contains(&"weighted")));
+    let (fixed, weighted) = (Some(fixed).filter(|_| kinds.contains(&"fixed")), weighted.filter(|_| kinds.contains(&"weighted")));
     if kinds.contains(&"plan") {
         limits(&mut seen, &mut r, plan);
     }
@@ -315,6 +339,7 @@ fn main() {
     for (name, sizes) in &seen.sizes {
         println!("accepted windows of {name}: {sizes:?}");
     }
+    println!("rows that are refused: {}, told in words: {}", seen.refused_rows.0, seen.refused_rows.1);
     println!("rows: {} numbers, {} NaN, {} missing", seen.present, seen.nans, seen.missing);
     println!("NaN readings decoded: {}, with bits other than the trace's: {}", seen.nan_readings.0, seen.nan_readings.1);
     println!("differing {}", seen.differing);
