@@ -2,6 +2,8 @@
 //! libmoments.a, by the crate `moments` of ../host.
 use crate::host::Call;
 use crate::windows;
+#[cfg(feature = "host")]
+use crate::Figure;
 
 /// What a call answers.
 #[derive(Debug)]
@@ -74,21 +76,25 @@ pub fn second() -> Option<Impl> {
     Some(Impl { plan: ours::plan, fixed: ours::windows, weighted: Some(ours::windows) })
 }
 
+/// A figure and a minimum as ../host has them.
+#[cfg(feature = "host")]
+pub fn setting(figure: Figure, min: usize) -> moments::Setting {
+    use moments::Setting;
+    let setting = match figure {
+        Figure::Var { ddof } => Setting::var(ddof),
+        Figure::Skew { bias } => Setting::skew(bias),
+        Figure::Kurt { fisher, bias } => Setting::kurtosis(fisher, bias),
+    };
+    setting.min_periods(min)
+}
+
 #[cfg(feature = "host")]
 mod ours {
-    use super::Answer;
+    use super::{setting, Answer};
     use crate::host::Call;
     use crate::{windows, Figure};
-    use moments::{abi, plan_into, rolling_into, rolling_var_weights_into, Lists, Plan, Refusal, Setting, Window};
+    use moments::{abi, plan_into, rolling_into, rolling_var_weights_into, Lists, Plan, Refusal, Window};
 
-    fn setting(figure: Figure, min: usize) -> Setting {
-        let setting = match figure {
-            Figure::Var { ddof } => Setting::var(ddof),
-            Figure::Skew { bias } => Setting::skew(bias),
-            Figure::Kurt { fisher, bias } => Setting::kurtosis(fisher, bias),
-        };
-        setting.min_periods(min)
-    }
     fn answer(result: Result<(), Refusal>) -> Answer {
         let Err(refusal) = result else { return Answer::Words { number: 0, row: None } };
         let wide = |v: &[u32]| v.iter().map(|v| *v as usize).collect();
