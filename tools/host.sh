@@ -10,3 +10,4 @@ fi
 if cargo fmt --version >/dev/null 2>&1; then cargo fmt --check; fi
 if cargo clippy --version >/dev/null 2>&1; then cargo clippy --offline --quiet --all-targets -- -D warnings; fi
 cargo test --release --offline
+cargo test --release --offline --test collector -- --ignored

@@ -191,6 +191,8 @@ pub fn plan(trace: &[f64], map: Option<&[u8]>, plan: Plan<'_>, setting: Setting)
     let mut readings = vec![0.0; trace.len().min(MOST)];
     let mut room = Room::new(setting.work(plan.widest().min(trace.len())), plan.starts.len());
     plan_into(bytes_of(trace), &mut readings, map, plan, setting, room.lend())?;
+    // before the answers take room, so that they can have its
+    drop(readings);
     Ok(room.answers())
 }
 
