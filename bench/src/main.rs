@@ -17,7 +17,7 @@ use std::process::exit;
 const USAGE: &str = "bench [--n LIST] [--reps K] [--budget SECONDS] [--filter TEXT] [--into FILE]
 
   --n        readings, a list with commas (100000,1000000,10000000)
-  --reps     repetitions of a line at each size (21)
+  --reps     repetitions of a line at each size (61)
   --budget   seconds for the repetitions of a line at each size (2); there are 3 at least
   --filter   only lines whose section or name has this text in it
   --into     the file in which the figures are put between the marks, besides standard output";
@@ -39,7 +39,7 @@ fn put(text: &str, figures: &str) -> Option<String> {
 }
 
 fn main() {
-    let mut options = Options { sizes: vec![100_000, 1_000_000, 10_000_000], reps: 21, budget: 2.0, filter: String::new() };
+    let mut options = Options { sizes: vec![100_000, 1_000_000, 10_000_000], reps: 61, budget: 2.0, filter: String::new() };
     let (mut into, mut command) = (None, String::from("bench"));
     let mut args = std::env::args().skip(1);
     while let Some(name) = args.next() {

@@ -7,11 +7,11 @@
 //! The Rust's method stands behind a function that is not inlined, reached by a pointer that the compiler cannot see through, with
 //! the method's own signature: the state is changed in place. Ours is called as a user calls it: the method of ../host is inlined
 //! and calls the entry, which takes the state by value and gives it back, both through memory. So each side makes one call a step, and the
-//! copies that a caller of ours makes are counted with ours. Two kinds of lines show what is behind a ratio and are no targets:
+//! copies that a caller of ours makes are counted with ours. Two kinds of lines show what is behind a ratio:
 //!
 //! - 'by value': the Rust's method, not inlined either, behind the C signature that our entry has. What is left is the work itself.
-//! - 'inlined': the Rust as it is in a program of its own, where a chain keeps its state in registers. No library behind a C interface
-//!   can do that.
+//! - 'inlined', which is no target: the Rust as it is in a program of its own, where a chain keeps its state in registers. No
+//!   library behind a C interface can do that.
 use crate::input::Input;
 use crate::measure::{Aim, Bench, Case};
 use std::hint::black_box;
@@ -197,7 +197,7 @@ fn of<S: State>(bench: &mut Bench, input: &Input) {
         all_same::<S>,
     );
     bench.run(
-        extra("insert_one, independent, the Rust by value"),
+        target("insert_one, independent, the Rust by value"),
         many,
         |(states, _): &mut Both<S>| {
             let insert = black_box(insert_one_by_value::<S> as InsertByValue<S>);
@@ -222,7 +222,7 @@ fn of<S: State>(bench: &mut Bench, input: &Input) {
         all_same::<S>,
     );
     bench.run(
-        extra("insert_one, chain, the Rust by value"),
+        target("insert_one, chain, the Rust by value"),
         one,
         |(states, _): &mut Both<S>| {
             let insert = black_box(insert_one_by_value::<S> as InsertByValue<S>);
@@ -258,7 +258,7 @@ fn of<S: State>(bench: &mut Bench, input: &Input) {
         all_same::<S>,
     );
     bench.run(
-        extra("combine, independent, the Rust by value"),
+        target("combine, independent, the Rust by value"),
         many,
         |(states, _): &mut Both<S>| {
             let combine = black_box(combine_by_value::<S> as CombineByValue<S>);
@@ -284,7 +284,7 @@ fn of<S: State>(bench: &mut Bench, input: &Input) {
         all_same::<S>,
     );
     bench.run(
-        extra("combine, chain, the Rust by value"),
+        target("combine, chain, the Rust by value"),
         one,
         |(states, _): &mut Both<S>| {
             let combine = black_box(combine_by_value::<S> as CombineByValue<S>);

@@ -60,16 +60,17 @@ pub fn plans(bench: &mut Bench, input: &Input) {
         of_plan(bench, input, &bytes, &name(size), size, input.trailing(size));
     }
     of_plan(bench, input, &bytes, "uneven", 0, input.uneven());
+    of_plan(bench, input, &bytes, "growing", 0, input.trailing(input.n));
 }
 fn of_plan(bench: &mut Bench, input: &Input, bytes: &[u8], plan_name: &str, size: usize, (starts, ends): (Vec<u32>, Vec<u32>)) {
     let (n, rows) = (input.n, Plan::new(&starts, &ends));
     for (map, tag) in input.maps() {
         let bitmap = map.map(|map| oracle::bitmap(map, n));
-        let case = |name: String| Case { section: "Plans", name, aim: Aim::AtMost(1.0), n };
+        let case = |name: String, aim: Aim| Case { section: "Plans", name, aim, n };
         for (figure_name, figure) in figures(size) {
             let (setting, rust) = (setting(figure, 1), || oracle::plan_raw(&input.x, bitmap.as_ref(), &starts, &ends, figure, 1));
             bench.run(
-                case(format!("{plan_name}, {figure_name}, {tag}")),
+                case(format!("{plan_name}, {figure_name}, {tag}"), Aim::AtMost(1.0)),
                 || Lent::new(n, n, setting.work(rows.widest())),
                 |_| drop(black_box(rust())),
                 |Lent { readings, work, figures, present }| {
@@ -83,7 +84,7 @@ fn of_plan(bench: &mut Bench, input: &Input, bytes: &[u8], plan_name: &str, size
             let (setting, rust) = (setting(figure, 1), || oracle::plan_raw(&input.x, bitmap.as_ref(), &starts, &ends, figure, 1));
             let ours = || plan(&input.x, map, rows, setting);
             bench.run(
-                case(format!("{plan_name}, {figure_name}, {tag}, allocating")),
+                case(format!("{plan_name}, {figure_name}, {tag}, allocating (no target)"), Aim::None),
                 || (),
                 |_| drop(black_box(rust())),
                 |_| drop(black_box(ours())),
@@ -102,12 +103,12 @@ pub fn fixed(bench: &mut Bench, input: &Input) {
     for (size, (map, tag)) in SIZES.into_iter().flat_map(|size| input.maps().map(|map| (size, map))) {
         let array = oracle::array(x, map);
         for (window, window_name) in windows(size) {
-            let case = |name: String| Case { section: "Fixed windows", name, aim: Aim::AtMost(1.0), n };
+            let case = |name: String, aim: Aim| Case { section: "Fixed windows", name, aim, n };
             let rust = |figure: Figure| oracle::fixed_raw(&array, size, 1, window.center, figure);
             for (figure_name, figure) in figures(size) {
                 let setting: Setting = setting(figure, 1);
                 bench.run(
-                    case(format!("{window_name}, {figure_name}, {tag}")),
+                    case(format!("{window_name}, {figure_name}, {tag}"), Aim::AtMost(1.0)),
                     || Lent::new(n, 0, setting.work(size.min(n))),
                     |_| drop(black_box(rust(figure))),
                     |Lent { work, figures, present, .. }| {
@@ -119,7 +120,7 @@ pub fn fixed(bench: &mut Bench, input: &Input) {
             for (figure_name, figure) in [VARIANCE, SKEWNESS].into_iter().filter(|_| size == MIDDLE && !window.center) {
                 let ours = || rolling(x, map, window, setting(figure, 1));
                 bench.run(
-                    case(format!("{window_name}, {figure_name}, {tag}, allocating")),
+                    case(format!("{window_name}, {figure_name}, {tag}, allocating (no target)"), Aim::None),
                     || (),
                     |_| drop(black_box(rust(figure))),
                     |_| drop(black_box(ours())),
