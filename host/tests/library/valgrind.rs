@@ -1,19 +1,35 @@
-//! The tests on stored answers and on refusals once more under valgrind, where it is on the PATH.
+//! The tests on stored answers and on refusals once more under valgrind, where it is on the PATH, and the collector on its example.
+use std::path::Path;
 use std::process::Command;
 
-#[test]
-#[cfg_attr(not(valgrind), ignore = "valgrind is not on the PATH")]
-fn no_error_under_valgrind() {
-    let this = std::env::current_exe().expect("this program");
+/// What the program prints under valgrind, which finds nothing.
+fn run(program: &Path, args: &[&str]) -> String {
     let out = Command::new("valgrind")
         .args(["--error-exitcode=9", "--leak-check=full", "--show-leak-kinds=definite", "--errors-for-leak-kinds=definite"])
-        .arg(this)
-        .args(["vectors::", "refusals::", "--test-threads=1"])
+        .arg(program)
+        .args(args)
+        .current_dir(env!("CARGO_MANIFEST_DIR"))
         .output()
         .expect("valgrind runs");
     let (said, summary) = (String::from_utf8_lossy(&out.stdout), String::from_utf8_lossy(&out.stderr));
     print!("{said}{summary}");
     assert!(out.status.success(), "{}", out.status);
     assert!(summary.contains("ERROR SUMMARY: 0 errors from 0 contexts"));
+    said.into_owned()
+}
+
+#[test]
+#[cfg_attr(not(valgrind), ignore = "valgrind is not on the PATH")]
+fn no_error_in_the_entries() {
+    let this = std::env::current_exe().expect("this program");
+    let said = run(&this, &["vectors::", "refusals::", "--test-threads=1"]);
     assert!(said.contains("test vectors::plans ... ok") && said.contains(" passed; 0 failed"));
+}
+
+#[test]
+#[cfg_attr(not(valgrind), ignore = "valgrind is not on the PATH")]
+fn no_error_in_the_collector() {
+    let collector = Path::new(env!("CARGO_BIN_EXE_collector"));
+    let said = run(collector, &["examples/year.csv", "--plan", "examples/weeks.csv", "--figure", "skewness", "--csv"]);
+    assert_eq!(said.lines().count(), 54);
 }
