@@ -1,7 +1,8 @@
 //! Finds the archive libmoments.a, or has `rt staticlib moments` make it, which proves the library first.
 //!
-//! `MOMENTS_LIB_DIR`, where it is set, names the folder that holds the archive. Otherwise an archive at the repository's root is
-//! taken if no file of its crates is younger, and else made there: some five minutes from nothing, half a minute after a check.
+//! `MOMENTS_LIB_DIR`, where it is set, names the folder that holds the archive, from this crate's own if it is relative. Otherwise an archive
+//! at the repository's root is taken if nothing of its crates is younger, and else made there: some five minutes from nothing, half a
+//! minute after a check.
 use std::path::{Path, PathBuf};
 use std::process::{exit, Command};
 use std::time::SystemTime;
@@ -12,13 +13,13 @@ fn fail(why: &str) -> ! {
     exit(1)
 }
 
-/// When the youngest file under a folder was written.
-fn youngest(folder: &Path) -> io::Result<SystemTime> {
-    let mut time = SystemTime::UNIX_EPOCH;
-    for entry in fs::read_dir(folder)? {
-        let entry = entry?;
-        let kind = entry.file_type()?;
-        time = time.max(if kind.is_dir() { youngest(&entry.path())? } else { entry.metadata()?.modified()? });
+/// When anything of a folder was last written, or a name in it made or removed.
+fn youngest(path: &Path) -> io::Result<SystemTime> {
+    let mut time = fs::metadata(path)?.modified()?;
+    if path.is_dir() {
+        for entry in fs::read_dir(path)? {
+            time = time.max(youngest(&entry?.path())?);
+        }
     }
     Ok(time)
 }
@@ -54,10 +55,11 @@ fn main() {
             else {
                 fail("cargo names no folder of the crate")
             };
-            let (crates, folder) = (root.join("crates"), root.join("target").join("staticlib"));
-            println!("cargo:rerun-if-changed={}", crates.display());
+            let (sources, folder) = ([root.join("crates"), root.join("crates.txt")], root.join("target").join("staticlib"));
+            sources.iter().for_each(|source| println!("cargo:rerun-if-changed={}", source.display()));
             let made = fs::metadata(folder.join("libmoments.a")).and_then(|archive| archive.modified());
-            let fresh = made.and_then(|made| Ok(youngest(&crates)? < made)).unwrap_or(false);
+            let older = |made: SystemTime| sources.iter().all(|source| youngest(source).is_ok_and(|time| time < made));
+            let fresh = made.is_ok_and(older);
             if !fresh {
                 make(&root);
             }

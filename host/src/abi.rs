@@ -1,7 +1,7 @@
 //! The entries of libmoments.a as a linker sees them; the rest of the crate calls them safely.
 //!
 //! Names, order and types are those of docs/ABI.md, where a slice is a pointer and then a length (`trace`, `trace_len`);
-//! `tests/declarations.rs` holds each to that document and to the Rattle source.
+//! `tests/library/declarations.rs` holds each to that document and to the Rattle source.
 //!
 //! # Safety
 //!
@@ -9,6 +9,26 @@
 //! readable, of a `*mut` list writable too and in no other list of the call. That is all: the entries have no other precondition.
 //! Where `has_map` is false the map is not looked at.
 use crate::{CovState, KurtosisState, PearsonState, SkewState, VarState};
+
+/// An entry that makes a state of a trace: the trace, whether there is a map, the map, the state.
+pub type OfTrace<const N: usize> = unsafe extern "C" fn(*const f64, usize, bool, *const u8, usize, &mut [f64; N]) -> u32;
+/// An entry that makes a state of two traces, each as above, with the state last.
+pub type OfPair<const N: usize> = unsafe extern "C" fn(
+    *const f64,
+    usize,
+    bool,
+    *const u8,
+    usize,
+    *const f64,
+    usize,
+    bool,
+    *const u8,
+    usize,
+    &mut [f64; N],
+) -> u32;
+/// An entry that makes a state of a range: a trace as above, the start, the length, the state.
+pub type OfRange<const N: usize> =
+    unsafe extern "C" fn(*const f64, usize, bool, *const u8, usize, usize, usize, &mut [f64; N]) -> u32;
 
 unsafe extern "C" {
     /// Variance of a plan's windows.

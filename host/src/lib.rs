@@ -11,16 +11,11 @@
 //! takes; [`trace_of`] makes both. A call gives its answer or a [`Refusal`], and does not panic.
 //!
 //! ```
-//! use moments::{plan, trace_of, Plan, Setting};
-//! let (trace, map) = trace_of([Some(-18.1), Some(-17.9), None, Some(-12.0), Some(-18.0)]);
-//! let windows = Plan::new(&[0, 2, 3], &[3, 4, 5]);
-//! let answers = plan(&trace, map.as_deref(), windows, Setting::var(1))?;
-//! assert!(answers[0].unwrap() < 0.021);            // two readings that hardly differ
-//! assert_eq!(answers[1], None);                    // one reading has no variance at ddof 1
-//! assert_eq!(answers[2], Some(18.0));              // a swing
-//!
-//! let refusal = plan(&trace, map.as_deref(), Plan::new(&[0, 2, 1], &[3, 4, 5]), Setting::var(1)).unwrap_err();
-//! assert_eq!(refusal.to_string(), "row 2 starts at 1, before row 1, which starts at 2: starts must not fall");
+//! use moments::{rolling, trace_of, var, Setting, Window};
+//! let (trace, map) = trace_of([Some(2.0), Some(4.0), None, Some(8.0)]);
+//! let answers = rolling(&trace, map.as_deref(), Window::trailing(2), Setting::var(1))?;
+//! assert_eq!(answers, [None, Some(2.0), None, None]);      // at ddof 1 a figure takes two readings
+//! assert_eq!(var(&trace, map.as_deref())?.weight, 3.0);
 //! # Ok::<(), moments::Refusal>(())
 //! ```
 //!

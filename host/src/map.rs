@@ -10,6 +10,7 @@ pub(crate) fn bytes_for(readings: usize) -> usize {
 /// ```
 /// assert!(moments::is_valid(Some(&[0b101]), 2));
 /// assert!(!moments::is_valid(Some(&[0b101]), 1));
+/// assert!(!moments::is_valid(Some(&[0b101]), 8));
 /// assert!(moments::is_valid(None, 1));
 /// ```
 pub fn is_valid(map: Option<&[u8]>, place: usize) -> bool {

@@ -1,5 +1,5 @@
 //! The five states, whole arrays and ranges.
-use crate::abi;
+use crate::abi::{self, OfPair, OfRange, OfTrace};
 use crate::refusal::{Given, Refusal};
 
 macro_rules! states {
@@ -169,37 +169,17 @@ pub fn root(x: f64) -> f64 {
     abi::moments_root(x)
 }
 
-/// A trace and its map, as an entry takes them: pointer, length, whether there is a map, pointer, length.
-pub(crate) fn parts(trace: &[f64], map: Option<&[u8]>) -> (*const f64, usize, bool, *const u8, usize) {
+/// A map as an entry takes it: whether there is one, pointer, length.
+pub(crate) fn map_parts(map: Option<&[u8]>) -> (bool, *const u8, usize) {
     let bytes = map.unwrap_or(&[]);
-    (trace.as_ptr(), trace.len(), map.is_some(), bytes.as_ptr(), bytes.len())
+    (map.is_some(), bytes.as_ptr(), bytes.len())
 }
-
-/// An entry that makes a state of a trace: trace, whether there is a map, map, state.
-type OfTrace<const N: usize> = unsafe extern "C" fn(*const f64, usize, bool, *const u8, usize, &mut [f64; N]) -> u32;
-/// An entry that makes a state of two traces, each as above, with the state last.
-type OfPair<const N: usize> = unsafe extern "C" fn(
-    *const f64,
-    usize,
-    bool,
-    *const u8,
-    usize,
-    *const f64,
-    usize,
-    bool,
-    *const u8,
-    usize,
-    &mut [f64; N],
-) -> u32;
-/// An entry that makes a state of a range: a trace as above, start, length, state.
-type OfRange<const N: usize> =
-    unsafe extern "C" fn(*const f64, usize, bool, *const u8, usize, usize, usize, &mut [f64; N]) -> u32;
 
 fn of_trace<const N: usize>(entry: OfTrace<N>, trace: &[f64], map: Option<&[u8]>) -> Result<[f64; N], Refusal> {
     let mut state = [0.0; N];
-    let (x, n, has_map, m, bytes) = parts(trace, map);
+    let (has_map, m, bytes) = map_parts(map);
     // SAFETY: each pointer and length is a slice's.
-    let number = unsafe { entry(x, n, has_map, m, bytes, &mut state) };
+    let number = unsafe { entry(trace.as_ptr(), trace.len(), has_map, m, bytes, &mut state) };
     Given::trace(trace, map).result(number)?;
     Ok(state)
 }
@@ -209,10 +189,11 @@ fn of_pair<const N: usize>(
     (y, y_map): (&[f64], Option<&[u8]>),
 ) -> Result<[f64; N], Refusal> {
     let mut state = [0.0; N];
-    let (a, n, has_map, m, bytes) = parts(x, x_map);
-    let (b, other_n, other_has_map, other_m, other_bytes) = parts(y, y_map);
+    let (x_has_map, xm, x_bytes) = map_parts(x_map);
+    let (y_has_map, ym, y_bytes) = map_parts(y_map);
+    let (a, b) = (x.as_ptr(), y.as_ptr());
     // SAFETY: each pointer and length is a slice's.
-    let number = unsafe { entry(a, n, has_map, m, bytes, b, other_n, other_has_map, other_m, other_bytes, &mut state) };
+    let number = unsafe { entry(a, x.len(), x_has_map, xm, x_bytes, b, y.len(), y_has_map, ym, y_bytes, &mut state) };
     Given { pair: Some((y.len(), y_map.map(<[u8]>::len))), ..Given::trace(x, x_map) }.result(number)?;
     Ok(state)
 }
@@ -223,9 +204,9 @@ fn of_range<const N: usize>(
     (start, length): (usize, usize),
 ) -> Result<[f64; N], Refusal> {
     let mut state = [0.0; N];
-    let (x, n, has_map, m, bytes) = parts(trace, map);
+    let (has_map, m, bytes) = map_parts(map);
     // SAFETY: each pointer and length is a slice's.
-    let number = unsafe { entry(x, n, has_map, m, bytes, start, length, &mut state) };
+    let number = unsafe { entry(trace.as_ptr(), trace.len(), has_map, m, bytes, start, length, &mut state) };
     Given { range: (start, length), ..Given::trace(trace, map) }.result(number)?;
     Ok(state)
 }
@@ -241,10 +222,20 @@ pub fn var(trace: &[f64], map: Option<&[u8]>) -> Result<VarState, Refusal> {
     of_trace(abi::moments_var, trace, map).map(VarState::from)
 }
 /// Skewness's state of a trace's valid readings, put together from chunks; [`skew_range`] makes it in one.
+///
+/// ```
+/// assert_eq!(moments::skew(&[1.0, 9.0, 2.0, 3.0], Some(&[0b1101]))?.finalize(true), Some(0.0));
+/// # Ok::<(), moments::Refusal>(())
+/// ```
 pub fn skew(trace: &[f64], map: Option<&[u8]>) -> Result<SkewState, Refusal> {
     of_trace(abi::moments_skew, trace, map).map(SkewState::from)
 }
 /// Kurtosis's state of a trace's valid readings, put together from chunks; [`kurtosis_range`] makes it in one.
+///
+/// ```
+/// assert_eq!(moments::kurtosis(&[1.0, 3.0], None)?.finalize(false, true), Some(1.0));
+/// # Ok::<(), moments::Refusal>(())
+/// ```
 pub fn kurtosis(trace: &[f64], map: Option<&[u8]>) -> Result<KurtosisState, Refusal> {
     of_trace(abi::moments_kurtosis, trace, map).map(KurtosisState::from)
 }

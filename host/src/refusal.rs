@@ -77,7 +77,7 @@ pub enum Refusal {
         readings: usize,
     },
     /// 7: a row's start or end lies before that of the row before.
-    BeforeLastRow {
+    BelowRowBefore {
         /// The first such row.
         row: usize,
         /// Where it starts and ends.
@@ -134,7 +134,7 @@ pub enum Refusal {
 }
 
 impl Refusal {
-    /// Document 01's number, as the library answers it.
+    /// The number that the library answers: document 01's, but for [`Refusal::Unknown`].
     pub fn number(&self) -> u32 {
         match self {
             Self::TooManyReadings { .. } => 1,
@@ -143,7 +143,7 @@ impl Refusal {
             Self::PlanLengths { .. } => 4,
             Self::StartAfterEnd { .. } => 5,
             Self::EndPastTrace { .. } => 6,
-            Self::BeforeLastRow { .. } => 7,
+            Self::BelowRowBefore { .. } => 7,
             Self::WeightsWithMap => 8,
             Self::WeightsSumToZero => 9,
             Self::WeightCount { .. } => 10,
@@ -157,7 +157,7 @@ impl Refusal {
     /// The row of the plan that was refused, where it was one.
     pub fn row(&self) -> Option<usize> {
         match self {
-            Self::StartAfterEnd { row, .. } | Self::EndPastTrace { row, .. } | Self::BeforeLastRow { row, .. } => Some(*row),
+            Self::StartAfterEnd { row, .. } | Self::EndPastTrace { row, .. } | Self::BelowRowBefore { row, .. } => Some(*row),
             _ => None,
         }
     }
@@ -205,8 +205,8 @@ impl fmt::Display for Refusal {
             Self::EndPastTrace { row, end, readings: n } => {
                 write!(f, "row {row} ends at {end}, but the trace has {}, so a row can end at {n} at most", readings(n))
             }
-            Self::BeforeLastRow { row, bounds, before } => {
-                let last = row.wrapping_sub(1);
+            Self::BelowRowBefore { row, bounds, before } => {
+                let last = row.saturating_sub(1);
                 let (start, end) = bounds;
                 match (start < before.0, end < before.1) {
                     (true, true) => write!(
@@ -226,7 +226,7 @@ impl fmt::Display for Refusal {
             Self::WeightsSumToZero => write!(f, "the weights add up to zero, so they cannot be divided by their sum"),
             Self::WeightCount { weights, window_size } => {
                 let places = count(window_size, "place", "places");
-                write!(f, "a window of {places} needs as many weights, but {weights} are given")
+                write!(f, "a window of {places} needs as many weights, but has {weights}")
             }
             Self::RangePastTrace { start, length, readings: n } => write!(
                 f,
@@ -325,5 +325,20 @@ impl Given<'_> {
             .flatten()
             .find(|(_, length, needed)| length < needed)
             .map(|(list, length, needed)| Refusal::ListTooShort { list, length, needed })
+    }
+}
+
+#[cfg(test)]
+mod tests {
+    use super::*;
+
+    #[test]
+    fn a_number_that_does_not_fit_the_call_is_unknown() {
+        let given = Given { readings: 3, plan: Plan::new(&[0], &[4]), ..Given::default() };
+        assert_eq!(given.result(0), Ok(()));
+        assert_eq!(given.result(6), Err(Refusal::EndPastTrace { row: 0, end: 4, readings: 3 }));
+        for number in [3, 5, 7, 12, 15, 99, u32::MAX] {
+            assert_eq!(given.result(number), Err(Refusal::Unknown { number }));
+        }
     }
 }

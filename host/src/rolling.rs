@@ -1,6 +1,6 @@
 //! Figures of moving windows: plans, fixed windows and weights.
 use crate::abi;
-use crate::moment::parts;
+use crate::moment::map_parts;
 use crate::refusal::{Given, Refusal, MOST};
 
 /// A plan of windows, as two lists of equal length: a row's window holds the places `start` up to but not including `end`.
@@ -42,7 +42,7 @@ impl<'a> Plan<'a> {
                 return Some(Refusal::EndPastTrace { row, end, readings });
             }
             if start < before.0 || end < before.1 {
-                return Some(Refusal::BeforeLastRow { row, bounds, before });
+                return Some(Refusal::BelowRowBefore { row, bounds, before });
             }
             before = bounds;
         }
@@ -153,23 +153,27 @@ pub struct Lists<'a> {
     pub present: &'a mut [u8],
 }
 
-/// What a call's lists hold, as long as it needs them, all zero.
+/// The lists of a call, as long as it needs them.
 struct Room {
+    readings: Vec<f64>,
     work: Vec<f64>,
     figures: Vec<f64>,
     present: Vec<u8>,
 }
 impl Room {
-    /// No list is longer than an accepted call's can be: a longer trace or plan is refused whatever is lent.
-    fn new(work: usize, rows: usize) -> Self {
-        let (work, rows) = (work.min(6 * MOST), rows.min(MOST));
-        Room { work: vec![0.0; work], figures: vec![0.0; rows], present: vec![0; rows] }
+    /// What is too long is refused whatever is lent, so nothing is allocated for it.
+    fn new(readings: usize, rows: usize, decoded: usize, work: usize) -> Self {
+        let [decoded, work, rows] = if readings.max(rows) > MOST { [0; 3] } else { [decoded, work, rows] };
+        Room { readings: vec![0.0; decoded], work: vec![0.0; work], figures: vec![0.0; rows], present: vec![0; rows] }
     }
-    fn lend(&mut self) -> Lists<'_> {
-        Lists { work: &mut self.work, figures: &mut self.figures, present: &mut self.present }
+    fn lend(&mut self) -> (&mut [f64], Lists<'_>) {
+        (&mut self.readings, Lists { work: &mut self.work, figures: &mut self.figures, present: &mut self.present })
     }
-    fn answers(&self) -> Vec<Option<f64>> {
-        self.figures.iter().zip(&self.present).map(|(figure, present)| (*present == 1).then_some(*figure)).collect()
+    fn answers(self) -> Vec<Option<f64>> {
+        let Room { readings, work, figures, present } = self;
+        // the answers can have their memory
+        drop((readings, work));
+        figures.into_iter().zip(present).map(|(figure, present)| (present == 1).then_some(figure)).collect()
     }
 }
 
@@ -188,11 +192,10 @@ fn bytes_of(trace: &[f64]) -> &[u8] {
 /// # Ok::<(), moments::Refusal>(())
 /// ```
 pub fn plan(trace: &[f64], map: Option<&[u8]>, plan: Plan<'_>, setting: Setting) -> Result<Vec<Option<f64>>, Refusal> {
-    let mut readings = vec![0.0; trace.len().min(MOST)];
-    let mut room = Room::new(setting.work(plan.widest().min(trace.len())), plan.starts.len());
-    plan_into(bytes_of(trace), &mut readings, map, plan, setting, room.lend())?;
-    // before the answers take room, so that they can have its
-    drop(readings);
+    let n = trace.len();
+    let mut room = Room::new(n, plan.starts.len(), n, setting.work(plan.widest().min(n)));
+    let (readings, lists) = room.lend();
+    plan_into(bytes_of(trace), readings, map, plan, setting, lists)?;
     Ok(room.answers())
 }
 
@@ -219,7 +222,7 @@ pub fn plan_into(
     lists: Lists<'_>,
 ) -> Result<(), Refusal> {
     let (t, tn, r, rn) = (trace.as_ptr(), trace.len(), readings.as_mut_ptr(), readings.len());
-    let (_, _, has_map, m, mn) = parts(&[], map);
+    let (has_map, m, mn) = map_parts(map);
     let (s, sn, e, en) = (plan.starts.as_ptr(), plan.starts.len(), plan.ends.as_ptr(), plan.ends.len());
     let (min, Lists { work, figures, present }) = (setting.min_periods, lists);
     let (w, wn) = (work.as_mut_ptr(), work.len());
@@ -264,12 +267,23 @@ pub fn plan_into(
 /// # Ok::<(), moments::Refusal>(())
 /// ```
 pub fn rolling(trace: &[f64], map: Option<&[u8]>, window: Window, setting: Setting) -> Result<Vec<Option<f64>>, Refusal> {
-    let mut room = Room::new(setting.work(window.size.min(trace.len())), trace.len());
-    rolling_into(trace, map, window, setting, room.lend())?;
+    let n = trace.len();
+    let mut room = Room::new(n, n, 0, setting.work(window.size.min(n)));
+    rolling_into(trace, map, window, setting, room.lend().1)?;
     Ok(room.answers())
 }
 
 /// [`rolling`] into lists that the caller lends.
+///
+/// ```
+/// use moments::{rolling_into, Lists, Setting, Window};
+/// let (setting, mut figures, mut present) = (Setting::var(0), [9.0; 4], [9; 4]);
+/// let mut work = vec![0.0; setting.work(2)];
+/// let lists = Lists { work: &mut work, figures: &mut figures, present: &mut present };
+/// rolling_into(&[2.0, 4.0, 8.0], None, Window::trailing(2), setting, lists)?;
+/// assert_eq!((figures, present), ([0.0, 1.0, 4.0, 9.0], [1, 1, 1, 9]));
+/// # Ok::<(), moments::Refusal>(())
+/// ```
 pub fn rolling_into(
     trace: &[f64],
     map: Option<&[u8]>,
@@ -277,7 +291,7 @@ pub fn rolling_into(
     setting: Setting,
     lists: Lists<'_>,
 ) -> Result<(), Refusal> {
-    let (t, n, has_map, m, mn) = parts(trace, map);
+    let (t, n, (has_map, m, mn)) = (trace.as_ptr(), trace.len(), map_parts(map));
     let (Window { size, center }, min, Lists { work, figures, present }) = (window, setting.min_periods, lists);
     let (w, wn) = (work.as_mut_ptr(), work.len());
     let (f, fl, p, pn) = (figures.as_mut_ptr(), figures.len(), present.as_mut_ptr(), present.len());
@@ -313,12 +327,23 @@ pub fn rolling_var_weights(
     min_periods: usize,
     weights: &[f64],
 ) -> Result<Vec<Option<f64>>, Refusal> {
-    let mut room = Room::new(0, trace.len());
+    let mut room = Room::new(trace.len(), trace.len(), 0, 0);
     rolling_var_weights_into(trace, map, window, min_periods, weights, &mut room.figures, &mut room.present)?;
     Ok(room.answers())
 }
 
 /// [`rolling_var_weights`] into lists that the caller lends.
+///
+/// ```
+/// use moments::{rolling_var_weights_into, Refusal, Window};
+/// let (mut figures, mut present) = ([0.0; 2], [0; 2]);
+/// let mut ask = |weights: &[f64]| {
+///     rolling_var_weights_into(&[1.0, 3.0], None, Window::trailing(2), 1, weights, &mut figures, &mut present)
+/// };
+/// assert_eq!(ask(&[1.0, -1.0]), Err(Refusal::WeightsSumToZero));
+/// assert_eq!(ask(&[1.0, 1.0]), Ok(()));
+/// assert_eq!((figures, present), ([0.0, 1.0], [1, 1]));
+/// ```
 pub fn rolling_var_weights_into(
     trace: &[f64],
     map: Option<&[u8]>,
@@ -328,7 +353,7 @@ pub fn rolling_var_weights_into(
     figures: &mut [f64],
     present: &mut [u8],
 ) -> Result<(), Refusal> {
-    let (t, n, has_map, m, mn) = parts(trace, map);
+    let (t, n, (has_map, m, mn)) = (trace.as_ptr(), trace.len(), map_parts(map));
     let Window { size, center } = window;
     let (w, wn) = (weights.as_ptr(), weights.len());
     let (f, fl, p, pn) = (figures.as_mut_ptr(), figures.len(), present.as_mut_ptr(), present.len());
@@ -337,4 +362,17 @@ pub fn rolling_var_weights_into(
         unsafe { abi::moments_rolling_var_weights(t, n, has_map, m, mn, size, min_periods, center, w, wn, f, fl, p, pn) };
     let given = Given { rows: n, figures: fl, present: pn, weights: wn, window_size: size, ..Given::trace(trace, map) };
     given.result(number)
+}
+
+#[cfg(test)]
+mod tests {
+    use super::*;
+
+    #[test]
+    fn nothing_is_allocated_for_what_is_too_long() {
+        let lengths = |room: Room| [room.readings.len(), room.work.len(), room.figures.len(), room.present.len()];
+        assert_eq!(lengths(Room::new(9, 3, 9, 24)), [9, 24, 3, 3]);
+        assert_eq!(lengths(Room::new(MOST + 1, 3, 9, 24)), [0; 4]);
+        assert_eq!(lengths(Room::new(9, MOST + 1, 9, 24)), [0; 4]);
+    }
 }

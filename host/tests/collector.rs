@@ -251,7 +251,7 @@ fn refusals_in_words() {
     assert_eq!(folder.message("t.csv --window 2 --weights 1,1"), with_map);
     let zero = "--weights: the weights add up to zero, so they cannot be divided by their sum";
     assert_eq!(folder.message("whole.csv --window 2 --weights 1,-1 --output old.txt"), zero);
-    let count = "--weights: a window of 3 places needs as many weights, but 2 are given";
+    let count = "--weights: a window of 3 places needs as many weights, but has 2";
     assert_eq!(folder.message("whole.csv --window 3 --weights 1,1"), count);
 }
 

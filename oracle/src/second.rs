@@ -101,7 +101,7 @@ mod ours {
         let said = match refusal {
             Refusal::StartAfterEnd { start, end, .. } => wide(&[start, end]),
             Refusal::EndPastTrace { end, readings, .. } => vec![end as usize, readings],
-            Refusal::BeforeLastRow { bounds, before, .. } => wide(&[bounds.0, bounds.1, before.0, before.1]),
+            Refusal::BelowRowBefore { bounds, before, .. } => wide(&[bounds.0, bounds.1, before.0, before.1]),
             _ => vec![],
         };
         Answer::Words { number: refusal.number(), row: refusal.row().map(|row| (row, said)) }

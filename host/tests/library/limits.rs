@@ -1,13 +1,35 @@
-//! 16,777,216 readings, and as many rows, are taken; one more is refused, before anything is allocated or written.
+//! 16,777,216 readings, and as many rows, are taken; one more is refused, and nothing is written.
+use crate::lists::{Guarded, Rng};
 use moments::*;
 
 fn over(readings: usize) -> Refusal {
     Refusal::TooManyReadings { readings }
 }
+/// 0 and 1 in turn, one more than are taken.
+fn one_more() -> Vec<f64> {
+    (0..=MOST).map(|i| (i % 2) as f64).collect()
+}
+/// Each figure of a window of 0 and 1.
+const FIGURES: [(Setting, f64); 3] = [
+    (Setting { figure: Figure::Var { ddof: 0 }, min_periods: 1 }, 0.25),
+    (Setting { figure: Figure::Skew { bias: true }, min_periods: 1 }, 0.0),
+    (Setting { figure: Figure::Kurtosis { fisher: true, bias: true }, min_periods: 1 }, -2.0),
+];
+/// The call on lists of any bits, none of which may change.
+fn kept(call: impl FnOnce(&mut [f64], Lists) -> Result<(), Refusal>) -> Result<(), Refusal> {
+    let mut rng = Rng(13);
+    let mut lists = [3, 24, 2].map(|length| Guarded::<f64>::any(&mut rng, length));
+    let mut present = Guarded::<u8>::any(&mut rng, 2);
+    let [readings, work, figures] = &mut lists;
+    let result = call(readings.lend(), Lists { work: work.lend(), figures: figures.lend(), present: present.lend() });
+    lists.iter().for_each(|list| list.check("a list", 0));
+    present.check("present", 0);
+    result
+}
 
 #[test]
 fn readings_of_arrays() {
-    let trace: Vec<f64> = (0..=MOST).map(|i| (i % 2) as f64).collect();
+    let trace = one_more();
     let (most, map) = (&trace[..MOST], vec![0xFF; MOST / 8]);
     let map = Some(&map[..]);
     assert_eq!(var(most, None).map(|s| (s.weight, s.finalize(0))), Ok((MOST as f64, Some(0.25))));
@@ -30,28 +52,31 @@ fn readings_of_arrays() {
 
 #[test]
 fn readings_of_fixed_windows() {
-    let trace: Vec<f64> = (0..=MOST).map(|i| (i % 2) as f64).collect();
-    for setting in [Setting::var(0), Setting::skew(true), Setting::kurtosis(true, true)] {
+    let trace = one_more();
+    for (setting, wanted) in FIGURES {
         let answers = rolling(&trace[..MOST], None, Window::trailing(2), setting).expect("as many as are taken");
-        let wanted = match setting.figure {
-            Figure::Var { .. } => 0.25,
-            Figure::Skew { .. } => 0.0,
-            Figure::Kurtosis { .. } => -2.0,
-        };
         assert_eq!((answers.len(), answers[1], answers[MOST - 1]), (MOST, Some(wanted), Some(wanted)));
         drop(answers);
         assert_eq!(rolling(&trace, None, Window::trailing(2), setting).map(drop), Err(over(MOST + 1)));
+        assert_eq!(kept(|_, lists| rolling_into(&trace, None, Window::trailing(2), setting, lists)), Err(over(MOST + 1)));
     }
     let answers = rolling_var_weights(&trace[..MOST], None, Window::trailing(2), 2, &[1.0, 1.0]).expect("as many as are taken");
     assert_eq!((answers[0], answers[MOST - 1]), (None, Some(0.25)));
     assert_eq!(rolling_var_weights(&trace, None, Window::trailing(2), 2, &[1.0]).map(drop), Err(over(MOST + 1)));
+    let result = kept(|_, Lists { figures, present, .. }| {
+        rolling_var_weights_into(&trace, None, Window::trailing(2), 2, &[1.0], figures, present)
+    });
+    assert_eq!(result, Err(over(MOST + 1)));
 }
 
 #[test]
 fn readings_of_plans() {
-    let trace: Vec<f64> = (0..=MOST).map(|i| (i % 2) as f64).collect();
+    let trace = one_more();
     let rows = Plan::new(&[0, MOST as u32 - 2], &[2, MOST as u32]);
-    for (setting, wanted) in [(Setting::var(0), 0.25), (Setting::skew(true), 0.0), (Setting::kurtosis(true, true), -2.0)] {
+    let bytes = vec![0; 8 * MOST + 8];
+    for (setting, wanted) in FIGURES {
+        let result = kept(|readings, lists| plan_into(&bytes, readings, None, Plan::new(&[3], &[2]), setting, lists));
+        assert_eq!(result, Err(over(MOST + 1)));
         assert_eq!(plan(&trace[..MOST], None, rows, setting), Ok(vec![Some(wanted); 2]));
         assert_eq!(plan(&trace, None, Plan::new(&[3], &[2]), setting), Err(over(MOST + 1)));
     }
@@ -63,14 +88,16 @@ fn readings_of_plans() {
 #[test]
 fn rows_of_plans() {
     let (mut starts, mut ends) = (vec![0; MOST], vec![2; MOST]);
-    for (setting, wanted) in [(Setting::var(0), 0.25), (Setting::skew(true), 0.0), (Setting::kurtosis(true, true), -2.0)] {
+    for (setting, wanted) in FIGURES {
         let answers = plan(&[0.0, 1.0], None, Plan::new(&starts, &ends), setting).expect("as many as are taken");
         assert_eq!((answers.len(), answers[0], answers[MOST - 1]), (MOST, Some(wanted), Some(wanted)));
     }
     starts.push(1);
     ends.push(1);
     let both = Refusal::PlanLengths { starts: MOST + 1, ends: MOST + 1 };
-    for setting in [Setting::var(0), Setting::skew(true), Setting::kurtosis(true, true)] {
-        assert_eq!(plan(&[0.0, 1.0], None, Plan::new(&starts, &ends), setting), Err(both));
+    for (setting, _) in FIGURES {
+        let rows = Plan::new(&starts, &ends);
+        assert_eq!(plan(&[0.0, 1.0], None, rows, setting), Err(both));
+        assert_eq!(kept(|readings, lists| plan_into(&[0; 16], readings, None, rows, setting, lists)), Err(both));
     }
 }

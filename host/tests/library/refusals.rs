@@ -13,7 +13,13 @@ const SETTINGS: [Setting; 3] = [
 /// A fault of a call, with the refusal it comes to.
 type Fault<C> = (fn(&mut C), Refusal);
 /// Each fault alone, and each together with all those after it, is refused by itself.
-fn try_each<C: Clone>(call: &C, faults: &[Fault<C>], run: impl Fn(&C) -> Result<(), Refusal>) {
+fn try_each<C: Clone + PartialEq>(call: &C, faults: &[Fault<C>], run: impl Fn(&C) -> Result<(), Refusal>) {
+    let run = |call: &C| {
+        let given = call.clone();
+        let result = run(call);
+        assert!(*std::hint::black_box(call) == given, "what was given has changed");
+        result
+    };
     assert_eq!(run(call), Ok(()));
     for (k, (fault, refusal)) in faults.iter().enumerate() {
         let mut alone = call.clone();
@@ -26,7 +32,7 @@ fn try_each<C: Clone>(call: &C, faults: &[Fault<C>], run: impl Fn(&C) -> Result<
 }
 
 /// Lengths of the lists that a call on windows is lent.
-#[derive(Clone)]
+#[derive(Clone, PartialEq)]
 struct Lengths {
     readings: usize,
     work: usize,
@@ -55,7 +61,7 @@ impl Lengths {
     }
 }
 
-#[derive(Clone)]
+#[derive(Clone, PartialEq)]
 struct PlanCall {
     setting: Setting,
     trace: Vec<u8>,
@@ -83,7 +89,7 @@ impl PlanCall {
 fn plans_are_refused_by_the_first_number_that_applies() {
     for setting in SETTINGS {
         let needed = setting.work(6);
-        let row = Refusal::BeforeLastRow { row: 2, bounds: (1, 9), before: (2, 6) };
+        let row = Refusal::BelowRowBefore { row: 2, bounds: (1, 9), before: (2, 6) };
         let faults: [Fault<PlanCall>; 10] = [
             (|c| c.trace.truncate(71), Refusal::TraceBytes { bytes: 71 }),
             (|c| c.map = Some(vec![0xFF; 3]), Refusal::MapLength { bytes: 3, readings: 9 }),
@@ -103,14 +109,14 @@ fn plans_are_refused_by_the_first_number_that_applies() {
         // rows are tested one after the other, not number by number
         let rows: [Fault<PlanCall>; 3] = [
             (|c| c.ends[0] = 10, Refusal::EndPastTrace { row: 0, end: 10, readings: 9 }),
-            (|c| c.ends[1] = 3, Refusal::BeforeLastRow { row: 1, bounds: (2, 3), before: (0, 4) }),
+            (|c| c.ends[1] = 3, Refusal::BelowRowBefore { row: 1, bounds: (2, 3), before: (0, 4) }),
             (|c| c.starts[2] = u32::MAX, Refusal::StartAfterEnd { row: 2, start: u32::MAX, end: 9 }),
         ];
         try_each(&PlanCall::new(setting), &rows, PlanCall::run);
     }
 }
 
-#[derive(Clone)]
+#[derive(Clone, PartialEq)]
 struct WindowCall {
     setting: Setting,
     window: Window,
@@ -257,27 +263,23 @@ fn each_refusal_is_a_sentence() {
             "row 52 ends at 8904, but the trace has 8760 readings, so a row can end at 8760 at most",
         ),
         (
-            Refusal::BeforeLastRow { row: 2, bounds: (10, 30), before: (12, 25) },
+            Refusal::BelowRowBefore { row: 2, bounds: (10, 30), before: (12, 25) },
             7,
             "row 2 starts at 10, before row 1, which starts at 12: starts must not fall",
         ),
         (
-            Refusal::BeforeLastRow { row: 2, bounds: (12, 24), before: (12, 25) },
+            Refusal::BelowRowBefore { row: 2, bounds: (12, 24), before: (12, 25) },
             7,
             "row 2 ends at 24, before row 1, which ends at 25: ends must not fall",
         ),
         (
-            Refusal::BeforeLastRow { row: 2, bounds: (10, 20), before: (12, 25) },
+            Refusal::BelowRowBefore { row: 2, bounds: (10, 20), before: (12, 25) },
             7,
             "row 2, from 10 to 20, goes back behind row 1, from 12 to 25: starts and ends must not fall",
         ),
         (Refusal::WeightsWithMap, 8, "weights were given for a trace with a map: a weighted window cannot have missing readings"),
         (Refusal::WeightsSumToZero, 9, "the weights add up to zero, so they cannot be divided by their sum"),
-        (
-            Refusal::WeightCount { weights: 3, window_size: 24 },
-            10,
-            "a window of 24 places needs as many weights, but 3 are given",
-        ),
+        (Refusal::WeightCount { weights: 3, window_size: 24 }, 10, "a window of 24 places needs as many weights, but has 3"),
         (
             Refusal::RangePastTrace { start: 7, length: 1, readings: 7 },
             11,
@@ -471,7 +473,6 @@ fn any_input_is_answered_or_refused_by_a_known_number() {
         ] {
             if let Err(refusal) = result {
                 assert!(!matches!(refusal, Refusal::Unknown { .. }), "{refusal}");
-                assert!(!refusal.to_string().is_empty());
                 refused[refusal.number() as usize] += 1;
             }
         }

@@ -2,23 +2,13 @@
 //! number; states, all NaNs alike; figures by their bits, a NaN being 7FF8000000000000; the present byte and the +0.0 of a missing
 //! figure; and that nothing else is written. An entry that is lent something to write to is called twice: by ../host's declaration,
 //! which shows what was written, and by its safe function. usage: face CALLS SEED
-use moments::{abi, CovState, KurtosisState, PearsonState, Refusal, SkewState, VarState};
+use moments::abi::{self, OfPair, OfRange, OfTrace};
+use moments::{CovState, KurtosisState, PearsonState, Refusal, SkewState, VarState};
 use oracle::record::*;
 use oracle::refusal::LIMIT;
 use oracle::rng::Rng;
 use oracle::{canon, refusal};
 use std::collections::BTreeMap;
-
-/// An entry that makes a state of a trace: trace, whether there is a map, map, state.
-type OfTrace<const N: usize> = unsafe extern "C" fn(*const f64, usize, bool, *const u8, usize, &mut [f64; N]) -> u32;
-/// Of two traces, each as above.
-#[rustfmt::skip]
-type OfPair<const N: usize> = unsafe extern "C" fn(
-    *const f64, usize, bool, *const u8, usize, *const f64, usize, bool, *const u8, usize, &mut [f64; N],
-) -> u32;
-/// Of a range: a trace as above, start, length, state.
-type OfRange<const N: usize> =
-    unsafe extern "C" fn(*const f64, usize, bool, *const u8, usize, usize, usize, &mut [f64; N]) -> u32;
 
 /// A map as it is lent. Without one, pointer and length may be anything that a slice may be, null too where it is empty.
 struct Lent<'a> {
