@@ -182,12 +182,17 @@ fn fixed_windows_agree_with_the_library() {
 #[test]
 fn bad_files_are_named_with_their_line() {
     let good: (&[u8], &[u8]) = (b"time,temperature\na,1\nb,2\nc,3\n", b"label,start,end\nx,0,2\n");
-    let traces: [(&[u8], &str); 12] = [
+    let traces: [(&[u8], &str); 14] = [
         (b"date,temp\na,1\n", "t.csv:1: \"temp\" is no number; a heading reads time,temperature"),
         (b"time,temperature\na,1\nb,warm\n", "t.csv:3: \"warm\" is no number"),
         (b"a,1\nb,1e999\n", "t.csv:2: \"1e999\" is too large for a 64-bit float"),
         (b"a,1\nb,2,3\n", "t.csv:2: a line has two fields, time and temperature, but this one has 3"),
-        (b"a,1\nb;2\n", "t.csv:2: a line has two fields, time and temperature, but this one has 1"),
+        (
+            b"a,1\nb;2\n",
+            "t.csv:2: fields are parted by commas and decimals by points, but a semicolon or a tab stands in the time",
+        ),
+        (b"a;-18,5\n", "t.csv:1: fields are parted by commas and decimals by points"),
+        (b"a,1\nb\t-18,5\n", "t.csv:2: fields are parted by commas and decimals by points"),
         (b"a,1\nb,-18,5\n", "t.csv:2: a line has two fields, time and temperature, but this one has 3"),
         (b"a,1\n\nb,2\n", "t.csv:2: the line is blank: a missing reading is written as its time and a comma, `time,`"),
         (b"\na,1\n", "t.csv:1: the line is blank"),
@@ -394,6 +399,8 @@ fn wrong_command_lines_get_a_hint() {
         ("t.csv --plan p.csv --output x --svg ./x", "--output and --svg name the same file"),
         ("t.csv --plan p.csv --output ./t.csv", "--output names the file of the trace"),
         ("t.csv --plan p.csv --svg p.csv", "--svg names the file of the plan"),
+        ("t.csv --plan p.csv --output p.csv", "--output names the file of the plan"),
+        ("t.csv --plan p.csv --svg t.csv", "--svg names the file of the trace"),
     ];
     for (line, wrong) in cases {
         assert_eq!(folder.message(line), format!("collector: {wrong}\n`collector --help` has the options"), "{line}");
@@ -435,10 +442,11 @@ fn files_are_written_whole_or_not_at_all() {
     }
 }
 
-/// Where there is such a device: standard output that takes nothing. The picture is then not there either.
+/// Standard output that takes nothing, by a device that Linux has. The picture is then not there either.
 #[test]
+#[cfg_attr(not(target_os = "linux"), ignore = "/dev/full is Linux's")]
 fn standard_output_that_cannot_be_written() {
-    let Ok(full) = fs::OpenOptions::new().write(true).open("/dev/full") else { return };
+    let full = fs::OpenOptions::new().write(true).open("/dev/full").expect("the device");
     let folder = Folder::with(&[("t.csv", b"a,1\nb,3\n"), ("p.csv", b"0,2\n"), ("old.svg", b"old")]);
     let before = folder.holds();
     let args = ["t.csv", "--plan", "p.csv", "--svg", "old.svg"];

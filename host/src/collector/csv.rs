@@ -29,7 +29,7 @@ impl From<Fault> for String {
     }
 }
 
-/// The lines of a file. Blank ones may stand at its end.
+/// The lines of a file. Blank ones may stand at its end, and those of commas alone, which some programs write there.
 pub struct Lines<'a> {
     input: &'a mut dyn BufRead,
     file: &'a str,
@@ -41,7 +41,7 @@ pub struct Lines<'a> {
 }
 impl<'a> Lines<'a> {
     pub fn new(input: &'a mut dyn BufRead, file: &'a str, if_blank: &'a str) -> Self {
-        Lines { input, file, if_blank, line: 0, blank: None, progress: Progress::new() }
+        Lines { input, file, if_blank, line: 0, blank: None, progress: Progress::new(true) }
     }
     /// The number of the line that was read last, from 1.
     pub fn line(&self) -> usize {
@@ -54,7 +54,7 @@ impl<'a> Lines<'a> {
     /// The next line, which the buffer then holds; none at the end.
     pub fn next<'b>(&mut self, buffer: &'b mut Vec<u8>) -> Result<Option<&'b str>, Fault> {
         while self.fill(buffer)? {
-            if !buffer.trim_ascii().is_empty() {
+            if !buffer.iter().all(|byte| byte.is_ascii_whitespace() || *byte == b',') {
                 if let Some(line) = self.blank {
                     return Err(Fault { line: Some(line), ..self.fault(self.if_blank) });
                 }
@@ -172,6 +172,8 @@ mod tests {
         assert_eq!(read(b"\xEF\xBB\xBFa\r\nb\n c\n \n\n").expect("lines"), ["a", "b", " c"]);
         assert_eq!(read(b"").expect("lines"), [""; 0]);
         assert_eq!(read(b"\n \r\n").expect("lines"), [""; 0]);
+        assert_eq!(read(b"a,b\n,\n , \n").expect("lines"), ["a,b"]);
+        assert_eq!(read(b"a,b\n,\na,b\n").expect_err("blank"), "f:2: blank");
         assert_eq!(read(b"a\n\n\nb").expect_err("blank"), "f:2: blank");
         assert_eq!(read(b"a\nb\xFF").expect_err("bytes"), "f:2: the line is not UTF-8 text");
         assert_eq!(read(&[b'a'; LONGEST]).expect("a long line").len(), 1);

@@ -22,7 +22,7 @@ PLAN.csv   a line for each window: start,end or label,start,end. Such a heading 
 windows
   --plan FILE        the windows of a plan
   --window SIZE      for each reading a window of SIZE places, its own the last; fewer at the trace's ends
-  --centered         its own place in the middle
+  --centered         its own place in the middle, of an even SIZE the first behind it
   --weights W,W,..   weighted variance, a weight for each place of a window; no reading may be missing
 
 figure
@@ -189,9 +189,15 @@ impl Given {
             }
         }
     }
+    /// Of weights whose sum is not finite the library makes zeros or NaN: a swing would read as none.
     fn weights(&self) -> Result<Option<Vec<f64>>, String> {
-        let weights = |text: String| text.split(',').map(|weight| double(weight.trim())).collect();
-        self.text("--weights").map(weights).transpose().map_err(|text: String| format!("--weights: {text}"))
+        let Some(text) = self.text("--weights") else { return Ok(None) };
+        let weights: Result<Vec<f64>, String> = text.split(',').map(|weight| double(weight.trim())).collect();
+        let weights = weights.map_err(|text| format!("--weights: {text}"))?;
+        match weights.iter().sum::<f64>().is_finite() {
+            true => Ok(Some(weights)),
+            false => Err("--weights takes finite numbers with a finite sum".to_string()),
+        }
     }
     fn setting(&self) -> Result<Setting, String> {
         let setting = match self.text("--figure").as_deref() {
@@ -272,6 +278,8 @@ mod tests {
             ("t --window 3.5", "--window takes a whole number from 0 to 18446744073709551615, not \"3.5\""),
             ("t --window -1", "--window takes a whole number from 0 to 18446744073709551615, not \"-1\""),
             ("t --window 2 --weights 1,x", "--weights: \"x\" is no number"),
+            ("t --window 2 --weights 1,nan", "--weights takes finite numbers with a finite sum"),
+            ("t --window 2 --weights 1e308,1e308", "--weights takes finite numbers with a finite sum"),
             ("t --window 2 --weights 1,1e999", "--weights: \"1e999\" is too large for a 64-bit float"),
             ("t --window 2 --weights 1,1 --ddof 0", "--ddof has no meaning for the weighted variance"),
             ("t --window 2 --weights 1,1 --figure skewness", "--weights has no meaning for the skewness"),

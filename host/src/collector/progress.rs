@@ -1,4 +1,4 @@
-//! One line on standard error that says how far a long read has come.
+//! One line on standard error that says how far a long read or write has come.
 use std::io::{self, IsTerminal, Write};
 use std::time::{Duration, Instant};
 
@@ -15,8 +15,9 @@ pub struct Progress {
     width: usize,
 }
 impl Progress {
-    pub fn new() -> Self {
-        Progress { terminal: io::stderr().is_terminal(), next: Instant::now() + PAUSE, steps: 0, width: 0 }
+    /// Shown at all only if it is wanted.
+    pub fn new(wanted: bool) -> Self {
+        Progress { terminal: wanted && io::stderr().is_terminal(), next: Instant::now() + PAUSE, steps: 0, width: 0 }
     }
     pub fn step(&mut self, text: impl FnOnce() -> String) {
         self.steps = self.steps.wrapping_add(1);

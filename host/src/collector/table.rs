@@ -1,10 +1,11 @@
 //! The table, as text and as CSV.
 use crate::number::six_digits;
+use crate::progress::Progress;
 use crate::report::{Report, Row};
 use crate::text::{capped, count, WIDEST};
 use std::borrow::Cow;
 use std::fmt::Display;
-use std::io::{self, Write};
+use std::io::{self, IsTerminal, Write};
 
 /// Columns of the text table: row, label, start, to, end, from, to, valid, figure.
 const COLUMNS: usize = 9;
@@ -54,6 +55,12 @@ fn raise<const N: usize>(largest: &mut [usize; N], by: [usize; N]) {
     largest.iter_mut().zip(by).for_each(|(largest, by)| *largest = by.max(*largest));
 }
 
+/// The rows with their numbers, telling how far they have come unless the terminal shows the table itself.
+fn numbered<'a>(report: &'a Report<'a>) -> impl Iterator<Item = (usize, Row<'a>)> {
+    let mut progress = Progress::new(report.options.output.is_some() || !io::stdout().is_terminal());
+    report.rows().enumerate().inspect(move |(number, _)| progress.step(|| format!("writing row {number}")))
+}
+
 fn figure(row: &Row<'_>) -> String {
     row.figure.map_or("-".to_string(), six_digits)
 }
@@ -67,7 +74,7 @@ pub fn text(report: &Report<'_>, out: &mut dyn Write) -> io::Result<()> {
     let rows = count(report.len(), "row");
     writeln!(out, "windows  {}: {rows}; places count from 0, a window's end is not in it\n", report.windows())?;
     layout.line(out, heading.each_ref().map(|name| name as &dyn Display), "")?;
-    for (number, row) in report.rows().enumerate() {
+    for (number, row) in numbered(report) {
         let [label, from, to] = [row.label, row.from, row.to].map(capped);
         let cells: Cells = [&number, &label, &row.start, &"to", &row.end, &from, &to, &row.valid, &figure(&row)];
         layout.line(out, cells, if row.is_marked() { " !" } else { "" })?;
@@ -95,7 +102,7 @@ fn legend(layout: &Layout, out: &mut dyn Write) -> io::Result<()> {
 /// The table for programs: figures in the fewest digits that give them back.
 pub fn csv(report: &Report<'_>, out: &mut dyn Write) -> io::Result<()> {
     writeln!(out, "row,label,start,end,from,to,valid,figure,mark")?;
-    for (number, row) in report.rows().enumerate() {
+    for (number, row) in numbered(report) {
         let Row { start, end, valid, .. } = row;
         let [label, from, to] = [row.label, row.from, row.to].map(field);
         let figure = row.figure.map_or("-".to_string(), |figure| format!("{figure:?}"));

@@ -54,7 +54,7 @@ const SETTINGS: [&str; 12] = [
     "t --window 4 --centered --figure kurtosis",
     "t --window 18446744073709551615 --centered --ddof 0",
     "t --window 2 --weights 1,0.5",
-    "t --window 2 --weights nan,inf --minimum 0",
+    "t --window 2 --weights 2,-1 --minimum 0",
     "t --window 1 --weights -1e308 --minimum 18446744073709551615",
 ];
 
@@ -182,4 +182,75 @@ fn bars_that_lie_apart_stand_on_the_axis() {
         svg.matches(picture::BELOW).count()
     };
     assert_eq!([bars("0,2\n2,4\n"), bars("0,2\n1,4\n"), bars("0,1\n3,4\n"), bars("")], [2, 0, 2, 0]);
+}
+
+/// The numbers after these attributes, of each element that is drawn in a colour.
+fn drawn<const N: usize>(svg: &str, element: &str, color: &str, attributes: [&str; N]) -> Vec<[f64; N]> {
+    let elements = svg.lines().filter(|line| line.starts_with(&format!("<{element} ")) && line.contains(color));
+    let number = |line: &str, name: &str| {
+        let (_, rest) = line.split_once(&format!(" {name}=\"")).expect("the attribute");
+        rest.split_once('"').expect("its end").0.parse().expect("a number")
+    };
+    elements.map(|line| attributes.map(|name| number(line, name))).collect()
+}
+/// The points of the first path in a colour.
+fn path(svg: &str, color: &str) -> Vec<(f64, f64)> {
+    let line = svg.lines().find(|line| line.starts_with("<path ") && line.contains(color)).expect("a path");
+    let (_, rest) = line.split_once("d=\"").expect("its points");
+    let numbers: Vec<f64> = rest
+        .split_once('"')
+        .expect("their end")
+        .0
+        .split(|c: char| !(c.is_ascii_digit() || ".-".contains(c)))
+        .filter(|text| !text.is_empty())
+        .map(|text| text.parse().expect("a number"))
+        .collect();
+    numbers.chunks(2).map(|pair| (pair[0], pair[1])).collect()
+}
+const ACROSS: (f64, f64) = (84.0, 1180.0);
+const FIGURES: (f64, f64) = (86.0, 312.0);
+const READINGS: (f64, f64) = (350.0, 566.0);
+/// Four places share the width.
+fn at(place: f64) -> f64 {
+    ACROSS.0 + (ACROSS.1 - ACROSS.0) * place / 4.0
+}
+fn near(a: f64, b: f64) -> bool {
+    (a - b).abs() < 0.11
+}
+
+#[test]
+fn bars_bands_and_marks_stand_where_their_windows_do() {
+    let [.., svg] = make(&options("t --plan p --ddof 0"), b"a,0\nb,10\nc,\nd,nan\n", b"0,2\n2,3\n3,4\n").expect("a report");
+    // the bar of row 0, its key behind it: over its two places, high above 0
+    let bars = drawn(&svg, "rect", "#b4500f", ["x", "width", "y"]);
+    assert!(near(bars[0][0], at(0.0)) && near(bars[0][1], at(2.0) - at(0.0)), "{bars:?}");
+    assert!(bars[0][2] > FIGURES.0 && bars[0][2] < (FIGURES.0 + FIGURES.1) / 2.0, "{bars:?}");
+    // row 1 is missing: at the base of its own place alone, and so is its reading over the whole panel
+    let missing = drawn(&svg, "rect", "#8c8c8c", ["x", "width", "y", "height"]);
+    assert!(near(missing[0][0], at(2.0)) && near(missing[0][0] + missing[0][1], at(3.0)), "{missing:?}");
+    assert!(near(missing[0][2] + missing[0][3], FIGURES.1) && missing.len() == 2, "one and its key: {missing:?}");
+    let gap = drawn(&svg, "rect", "#f3dfae", ["x", "width", "y", "height"]);
+    assert!(near(gap[0][0], at(2.0)) && near(gap[0][1], at(1.0) - at(0.0)), "{gap:?}");
+    assert!(near(gap[0][2], READINGS.0) && near(gap[0][3], READINGS.1 - READINGS.0) && gap.len() == 2, "{gap:?}");
+    // row 2 and its reading are not finite: at the top of either panel, with a key for both
+    let marks = drawn(&svg, "rect", "#d01c1c", ["x", "width", "y"]);
+    assert_eq!(marks.len(), 4);
+    for (mark, top) in marks.iter().zip([FIGURES.0, READINGS.0]) {
+        assert!(near(mark[0], at(3.0)) && near(mark[0] + mark[1], at(4.0)) && near(mark[2], top), "{marks:?}");
+    }
+    // readings stand at the middle of their places, the higher one above
+    let readings = path(&svg, "#1f5f99");
+    assert!(near(readings[0].0, at(0.5)) && near(readings[1].0, at(1.5)), "{readings:?}");
+    assert!(readings[1].1 < readings[0].1 && readings.iter().all(|(_, y)| (READINGS.0..=READINGS.1).contains(y)), "{readings:?}");
+}
+
+#[test]
+fn figures_of_fixed_windows_stand_at_their_own_places() {
+    let [.., svg] = make(&options("t --window 2 --ddof 0"), b"a,0\nb,2\nc,6\nd,6\n", b"").expect("a report");
+    let figures = path(&svg, "#b4500f");
+    assert_eq!(figures.len(), 4, "{figures:?}");
+    assert!(figures.iter().enumerate().all(|(row, (x, _))| near(*x, at(row as f64 + 0.5))), "{figures:?}");
+    // variances 0, 1, 4 and 0
+    let [zero, one, four, again] = [0, 1, 2, 3].map(|row| figures[row].1);
+    assert!(near(zero, again) && near(zero - four, 4.0 * (zero - one)) && one < zero, "{figures:?}");
 }

@@ -111,6 +111,10 @@ impl Reader<'_> {
 
 fn reading(fields: &Fields<'_>) -> Result<Option<f64>, String> {
     match &fields.first {
+        // A table with decimal commas and other separators would else give times and temperatures of another meaning.
+        [time, ..] if time.contains([';', '\t']) => {
+            Err("fields are parted by commas and decimals by points, but a semicolon or a tab stands in the time".to_string())
+        }
         [_, temperature, _] if fields.count == 2 => number::reading(temperature),
         _ => Err(format!("a line has two fields, time and temperature, but this one has {}", fields.count)),
     }
