@@ -1,13 +1,29 @@
 #!/usr/bin/env bash
-# The host's side: every test in Rust, and layout and lints where cargo has the tools for them. Random calls are compared with the Rust
-# where ORACLE_SRC names the folder of its sources, or a folder beside the repository has them.
+# The host's side: every test in Rust, with the compiler's checks of arithmetic and without; layout and lints where cargo has the tools for
+# them. Random calls are compared with the Rust, and the benchmark is built and run over a few readings, where ORACLE_SRC names the folder of
+# the Rust's sources, or a folder beside the repository has them.
 set -euo pipefail
-cd "$(dirname "$0")/../host"
-if [ -z "${ORACLE_SRC:-}" ] && [ -d ../../shared/docs/src ]; then
-  ORACLE_SRC=$(cd ../../shared/docs/src && pwd)
+cd "$(dirname "$0")/.."
+if [ -z "${ORACLE_SRC:-}" ] && [ -d ../shared/docs/src ]; then
+  ORACLE_SRC=$(cd ../shared/docs/src && pwd)
   export ORACLE_SRC
 fi
-if cargo fmt --version >/dev/null 2>&1; then cargo fmt --check; fi
-if cargo clippy --version >/dev/null 2>&1; then cargo clippy --offline --quiet --all-targets -- -D warnings; fi
+crates=(host)
+if [ -n "${ORACLE_SRC:-}" ]; then crates+=(bench); else echo "host.sh: ORACLE_SRC names no folder: no comparison with the Rust"; fi
+tool() {
+  if cargo "$1" --version >/dev/null 2>&1; then
+    for crate in "${crates[@]}"; do (cd "$crate" && cargo "$@"); done
+  else
+    echo "host.sh: cargo has no $1"
+  fi
+}
+tool fmt --check
+tool clippy --offline --quiet --all-targets -- -D warnings
+cd host
+cargo test --offline -- --skip limits --skip oracle --skip valgrind
 cargo test --release --offline
 cargo test --release --offline --test collector -- --ignored
+cd ..
+if [ -n "${ORACLE_SRC:-}" ]; then
+  cargo run --release --offline --quiet --manifest-path bench/Cargo.toml -- --n 1000,3000 --reps 3 --budget 0.01 2>/dev/null | tail -n 1
+fi

@@ -43,6 +43,10 @@ fn main() {
     let (mut into, mut command) = (None, String::from("bench"));
     let mut args = std::env::args().skip(1);
     while let Some(name) = args.next() {
+        if name == "--help" {
+            println!("{USAGE}");
+            return;
+        }
         let value = args.next().unwrap_or_else(|| fail(USAGE));
         match name.as_str() {
             "--n" => options.sizes = value.split(',').map(number).collect(),
@@ -63,6 +67,11 @@ fn main() {
         fail("the file has no marks");
     }
 
+    // the first line would else be measured while the processor is still waking up
+    let start = std::time::Instant::now();
+    while start.elapsed().as_secs() < 2 {
+        std::hint::black_box(moments::root(std::hint::black_box(2.0)));
+    }
     let mut bench = Bench::new(options);
     for n in bench.options.sizes.clone() {
         let input = input::Input::new(n);

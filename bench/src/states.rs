@@ -23,10 +23,20 @@ const TABLE: usize = 64;
 trait Answer: Copy {
     fn bits(self) -> u64;
     fn same(self, other: Self) -> bool;
+    /// As an entry gives it: the figure goes out by a pointer, and whether it is present by a byte.
+    fn put(self, figure: &mut f64) -> u8;
+    fn got(figure: f64, present: u8) -> Self;
 }
 impl Answer for f64 {
     fn bits(self) -> u64 {
         self.to_bits()
+    }
+    fn put(self, figure: &mut f64) -> u8 {
+        *figure = self;
+        1
+    }
+    fn got(figure: f64, _: u8) -> Self {
+        figure
     }
     fn same(self, other: Self) -> bool {
         oracle::same(self, other)
@@ -35,6 +45,13 @@ impl Answer for f64 {
 impl Answer for Option<f64> {
     fn bits(self) -> u64 {
         self.map_or(1, f64::to_bits)
+    }
+    fn put(self, figure: &mut f64) -> u8 {
+        *figure = self.unwrap_or(0.0);
+        self.is_some().into()
+    }
+    fn got(figure: f64, present: u8) -> Self {
+        (present == 1).then_some(figure)
     }
     fn same(self, other: Self) -> bool {
         oracle::same_row(self, other)
@@ -149,6 +166,12 @@ extern "C" fn combine_by_value<S: State>(mut state: S::Rust, other: S::Rust) -> 
     S::combine(&mut state, &other);
     state
 }
+#[allow(improper_ctypes_definitions)]
+#[inline(never)]
+extern "C" fn finalize_by_value<S: State>(state: S::Rust, setting: S::Setting, figure: &mut f64) -> u8 {
+    S::finalize(&state, setting).put(figure)
+}
+type FinalizeByValue<S> = extern "C" fn(<S as State>::Rust, <S as State>::Setting, &mut f64) -> u8;
 type InsertByValue<S> = extern "C" fn(<S as State>::Rust, <S as State>::Reading) -> <S as State>::Rust;
 type CombineByValue<S> = extern "C" fn(<S as State>::Rust, <S as State>::Rust) -> <S as State>::Rust;
 type Insert<S> = fn(&mut <S as State>::Rust, <S as State>::Reading);
@@ -306,6 +329,12 @@ fn of<S: State>(bench: &mut Bench, input: &Input) {
     );
 
     for (name, setting) in S::SETTINGS {
+        let ours = |(_, states): &mut Both<S>| {
+            black_box(states.iter().fold(0, |bits, state| bits ^ S::our_finalize(*state, *setting).bits()));
+        };
+        let compare = |(rust, ours): Both<S>| {
+            rust.into_iter().zip(ours).map(|(rust, ours)| S::finalize(&rust, *setting).same(S::our_finalize(ours, *setting)))
+        };
         bench.run(
             target(&format!("finalize{name}, independent")),
             many,
@@ -313,12 +342,23 @@ fn of<S: State>(bench: &mut Bench, input: &Input) {
                 let finalize = black_box(finalize::<S> as Finalize<S>);
                 black_box(states.iter().fold(0, |bits, state| bits ^ finalize(state, *setting).bits()));
             },
-            |(_, states)| {
-                black_box(states.iter().fold(0, |bits, state| bits ^ S::our_finalize(*state, *setting).bits()));
+            ours,
+            compare,
+        );
+        bench.run(
+            target(&format!("finalize{name}, independent, the Rust by value")),
+            many,
+            |(states, _): &mut Both<S>| {
+                let finalize = black_box(finalize_by_value::<S> as FinalizeByValue<S>);
+                let figure = |state: &S::Rust| {
+                    let mut figure = 0.0;
+                    let present = finalize(state.clone(), *setting, &mut figure);
+                    S::Answer::got(figure, present)
+                };
+                black_box(states.iter().fold(0, |bits, state| bits ^ figure(state).bits()));
             },
-            |(rust, ours)| {
-                rust.into_iter().zip(ours).map(|(rust, ours)| S::finalize(&rust, *setting).same(S::our_finalize(ours, *setting)))
-            },
+            ours,
+            compare,
         );
     }
 }
