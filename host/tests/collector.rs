@@ -442,6 +442,18 @@ fn files_are_written_whole_or_not_at_all() {
     }
 }
 
+#[cfg(unix)]
+#[test]
+fn a_file_that_is_replaced_keeps_its_permissions() {
+    use std::os::unix::fs::PermissionsExt;
+    let folder = Folder::with(&[("t.csv", b"a,1\nb,3\n"), ("old.txt", b"old")]);
+    let file = folder.0.join("old.txt");
+    fs::set_permissions(&file, fs::Permissions::from_mode(0o640)).expect("its permissions");
+    assert_eq!(folder.table("t.csv --window 2 --output old.txt"), "");
+    assert_ne!(fs::read(&file).expect("the table"), b"old");
+    assert_eq!(fs::metadata(&file).expect("the table").permissions().mode() & 0o777, 0o640);
+}
+
 /// Standard output that takes nothing, by a device that Linux has. The picture is then not there either.
 #[test]
 #[cfg_attr(not(target_os = "linux"), ignore = "/dev/full is Linux's")]
