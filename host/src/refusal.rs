@@ -164,14 +164,8 @@ impl Refusal {
 }
 
 /// A number and the thing that it counts.
-fn count(n: usize, one: &str, many: &str) -> String {
-    format!("{n} {}", if n == 1 { one } else { many })
-}
-fn readings(n: usize) -> String {
-    count(n, "reading", "readings")
-}
-fn doubles(n: usize) -> String {
-    count(n, "double", "doubles")
+fn count(n: usize, thing: &str) -> String {
+    format!("{n} {thing}{}", if n == 1 { "" } else { "s" })
 }
 
 impl fmt::Display for Refusal {
@@ -181,29 +175,26 @@ impl fmt::Display for Refusal {
                 write!(f, "a trace has {readings} readings, but {MOST} is the most that is taken")
             }
             Self::LengthsDiffer { first, second } => {
-                write!(f, "the two traces differ in length: the first has {}, the second {second}", readings(first))
+                write!(f, "the two traces differ in length: the first has {}, the second {second}", count(first, "reading"))
             }
             Self::MapLength { bytes, readings: n } => write!(
                 f,
                 "a map of {} has {}, but needs {}: one bit a reading, eight bits a byte",
-                readings(n),
-                count(bytes, "byte", "bytes"),
+                count(n, "reading"),
+                count(bytes, "byte"),
                 bytes_for(n),
             ),
             Self::PlanLengths { starts, ends } if starts == ends => {
                 write!(f, "the plan has {starts} rows, but {MOST} is the most that is taken")
             }
-            Self::PlanLengths { starts, ends } => write!(
-                f,
-                "the plan has {} and {}, but every row needs both",
-                count(starts, "start", "starts"),
-                count(ends, "end", "ends"),
-            ),
+            Self::PlanLengths { starts, ends } => {
+                write!(f, "the plan has {} and {}, but every row needs both", count(starts, "start"), count(ends, "end"),)
+            }
             Self::StartAfterEnd { row, start, end } => {
                 write!(f, "row {row} starts at {start}, after its end at {end}")
             }
             Self::EndPastTrace { row, end, readings: n } => {
-                write!(f, "row {row} ends at {end}, but the trace has {}, so a row can end at {n} at most", readings(n))
+                write!(f, "row {row} ends at {end}, but the trace has {}, so a row can end at {n} at most", count(n, "reading"))
             }
             Self::BelowRowBefore { row, bounds, before } => {
                 let last = row.saturating_sub(1);
@@ -225,14 +216,14 @@ impl fmt::Display for Refusal {
             }
             Self::WeightsSumToZero => write!(f, "the weights add up to zero, so they cannot be divided by their sum"),
             Self::WeightCount { weights, window_size } => {
-                let places = count(window_size, "place", "places");
+                let places = count(window_size, "place");
                 write!(f, "a window of {places} needs as many weights, but has {weights}")
             }
             Self::RangePastTrace { start, length, readings: n } => write!(
                 f,
                 "the range of {} from {start} reaches past the end of the trace, which has {}",
-                count(length, "place", "places"),
-                readings(n),
+                count(length, "place"),
+                count(n, "reading"),
             ),
             Self::ListTooShort { list, length, needed } => {
                 let (list, what) = match list {
@@ -240,14 +231,14 @@ impl fmt::Display for Refusal {
                     List::Present => ("present bytes", "row"),
                     List::Readings => ("readings", "reading"),
                 };
-                let places = count(length, "place", "places");
+                let places = count(length, "place");
                 write!(f, "the lent list of {list} has {places}, but needs {needed}, one for each {what}")
             }
             Self::WorkTooShort { length, needed } => {
-                write!(f, "the lent work slice has {}, but the widest window needs {needed}", doubles(length))
+                write!(f, "the lent work slice has {}, but the widest window needs {needed}", count(length, "double"))
             }
             Self::TraceBytes { bytes } => {
-                write!(f, "the trace has {}, which is no multiple of 8: a reading has 8", count(bytes, "byte", "bytes"))
+                write!(f, "the trace has {}, which is no multiple of 8: a reading has 8", count(bytes, "byte"))
             }
             Self::Unknown { number } => {
                 write!(f, "the library answered the number {number}, which this crate does not know: is the archive an older or a newer one?")
@@ -313,10 +304,10 @@ impl Given<'_> {
         })
     }
     fn bad_map(&self) -> Option<Refusal> {
-        let first = Some((self.readings, self.map));
-        let maps = [first, self.pair].into_iter().flatten().filter_map(|(readings, map)| Some((readings, map?)));
-        maps.map(|(readings, bytes)| Refusal::MapLength { bytes, readings })
-            .find(|refusal| matches!(refusal, Refusal::MapLength { bytes, readings } if *bytes != bytes_for(*readings)))
+        let traces = [Some((self.readings, self.map)), self.pair].into_iter().flatten();
+        let mut maps = traces.filter_map(|(readings, map)| Some((readings, map?)));
+        let (readings, bytes) = maps.find(|(readings, bytes)| *bytes != bytes_for(*readings))?;
+        Some(Refusal::MapLength { bytes, readings })
     }
     fn short_list(&self) -> Option<Refusal> {
         let decoded = self.decoded.map(|length| (List::Readings, length, self.readings));

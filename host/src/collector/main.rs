@@ -1,4 +1,5 @@
-//! `collector`: figures of a temperature trace by window, as a table and a picture.
+//! `collector` (document 01's word for the program that reaches the plan call from Rust): figures of a temperature trace by
+//! window, as a table and a picture.
 //!
 //! It reads a trace and a plan (or is told a window's size), has the library work out a figure for each row, and writes nothing
 //! unless all of that went well. `collector --help` is its manual.
