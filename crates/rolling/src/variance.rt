@@ -138,45 +138,8 @@ impl VarianceMoment {
         requires { ⌜ (w .start ≤ start) × (start ≤ length (now values)) × (w .end ≤ length (now values)) × Counted (series «has_map» (now map) (now values)) w ⌝ }
         ensures { λ q. ⌜ Leaves (series «has_map» (now (map .entry)) (now (values .entry))) w start (q .window) (q .flips) ⌝ }
     {
-        let end = w.end;
-        if end <= start {
-            return Left {
-                window: Window {
-                    start,
-                    end: start,
-                    split: start,
-                    front: 0,
-                    back: 0,
-                    nonfinite: 0,
-                },
-                flips: false,
-            };
-        }
-        let gone = leaving::gone(values, has_map, map, w.start, start, w.nonfinite);
-        if gone.valid <= w.front {
-            return Left {
-                window: Window {
-                    start,
-                    end,
-                    split: w.split,
-                    front: w.front - gone.valid,
-                    back: w.back,
-                    nonfinite: w.nonfinite - gone.nonfinite,
-                },
-                flips: false,
-            };
-        }
-        Left {
-            window: Window {
-                start,
-                end,
-                split: end,
-                front: w.front + w.back - gone.valid,
-                back: 0,
-                nonfinite: w.nonfinite - gone.nonfinite,
-            },
-            flips: true,
-        }
+        let gone = leaving::below(values, has_map, map, w, start);
+        leaving::without(w, start, gone)
     }
 
     // The window without the places below `start`.

@@ -1,55 +1,22 @@
--- By the three ends of the places that leave. Assumes nothing.
-use Prim.Native.Nat.{_+_, _≤_}
-use native.Mathlib.Omega.{arith}
+-- By the tally of what leaves. Assumes nothing.
+use Prim.Native.Nat.{_<_}
 use borrow.Author.Needs.{needs}
-use Rattle.window.specs.declared.Window.{Window}
-use Rattle.window.proofs.Moves.{leave-reset, leave-none, leave-fits, leave-stay, leave-flip}
+use Rattle.window.proofs.Moves.{leave-fits}
 use Rattle.rolling.proofs.variance.VarianceMoment.leave.Statement.{statement}
 use Rattle.rolling.proofs.variance.VarianceMoment.leave.Tie as tie
 
-returns : tie.Need-returns
-returns c = leave-reset _ _ _ (c .if1 .taken)
+below-requires : tie.Need-below-requires
+below-requires c κs = search needs
 
-gone-requires : tie.Need-gone-requires
-gone-requires c κs =
+without-requires : tie.Need-without-requires
+without-requires c κs =
     let s = c .before .before .before in
-    (search needs, leave-none _ _ _ (s .pre .3) (s .pre .0) (c .if1 .left))
+    λ h. let t = c .below .ensures h in leave-fits _ _ _ (s .pre .3) (s .pre .0) h _ _ (t .valid-is) (t .nonfinite-is)
 
-abbrev W : tie.After-gone → Window
-W a = a .before .before .before .before .args .w
-
--- what was counted is within the window
-fit : (a : tie.After-gone) → (a .gone .result .valid ≤ W a .front + W a .back) × (a .gone .result .nonfinite ≤ W a .nonfinite) × (W a .front + W a .back ≤ W a .end)
-fit a =
-    let s = a .before .before .before .before in
-    leave-fits _ _ _ (s .pre .3) (s .pre .0) (a .before .if1 .left) _ _ (a .gone .ensures .valid-is) (a .gone .ensures .nonfinite-is)
-
-sub-t11 : tie.Need-sub-t11
-sub-t11 c = fit (c .before .before .before .before .before .before .before) .1
-
-returns-2 : tie.Need-returns-2
-returns-2 c =
-    let a = c .before .before .before .before .before .before .before in
-    let s = a .before .before .before .before in
-    leave-stay _ _ _ (s .pre .3) (s .pre .0) (a .before .if1 .left) _ _ (a .gone .ensures .valid-is) (a .gone .ensures .nonfinite-is) (c .before .before .before .before .if2 .taken)
-
-add-t13 : tie.Need-add-t13
-add-t13 c =
-    let f = fit (c .before .before .before .before) in
-    omega (arith, c .before .before .before .before .before .before .before .before)
-
-sub-t14 : tie.Need-sub-t14
-sub-t14 c = fit (c .before .before .before .before .before) .0
-
-sub-t15 : tie.Need-sub-t15
-sub-t15 c = fit (c .before .before .before .before .before .before .before) .1
-
-returns-3 : tie.Need-returns-3
-returns-3 c =
-    let a = c .before .before .before .before .before .before .before in
-    let s = a .before .before .before .before in
-    leave-flip _ _ _ (s .pre .3) (s .pre .0) (a .before .if1 .left) _ _ (a .gone .ensures .valid-is) (a .gone .ensures .nonfinite-is) (c .before .before .before .before .if2 .left)
+returns : tie.Need-returns
+returns c =
+    let s = c .before .before .before .before in
+    c .without .ensures _ (s .pre .3) (s .pre .0) (c .before .below .ensures)
 
 pub leave-spec : {M : Type 1} → statement M
-leave-spec =
-    tie.close (tie.spec returns gone-requires sub-t11 returns-2 add-t13 sub-t14 sub-t15 returns-3)
+leave-spec = tie.close (tie.spec below-requires without-requires returns)
