@@ -6,11 +6,17 @@ use native.Mathlib.Omega.{arith}
 use mathlib.Core.Bool.{Bool, true, false, not, cond}
 use lib.IntN.{pos}
 use lib.Dec.{ltb, ltb→lt}
-use lib.Ieee.{Float, nan, inf, fin, binary64, up, down, round, sum, add, sub, neg, eq, ofBits}
+use lib.Ieee.{Float, nan, inf, fin, binary64, up, down, round, sum, add, sub, neg, eq, ne, ofBits}
+use lib.Ieee.Compare.{differs-from-itself}
 use lib.Ieee.Fits.{down-pos}
 use lib.Ieee.Scale.{round-same, finite}
 use Rattle.float.specs.Operators.{_⊖_, zero64}
 use Rattle.float.proofs.Booleans.{bool-same}
+
+-- only the NaN is not equal to itself
+pub not-itself : (x : Float) → eq x x ≡ false → x ≡ nan
+unfolding ne
+not-itself x e = differs-from-itself x (rw e tt)
 
 -- +0.0 as the logic writes it
 abbrev pub plus-zero : Float

@@ -1,8 +1,9 @@
 -- Document 01, Host call: "traces as little-endian bytes, eight a reading". Assumes nothing.
-use Prim.Native.Nat.{ℕ, _+_, _*_}
-use mathlib.Core.List.{List}
-use lib.ListN.{getD}
+use Prim.Native.Nat.{ℕ, _+_, _*_, _/_, min}
+use mathlib.Core.List.{List, _++_}
+use lib.ListN.{length, getD, drop}
 use lib.Ieee.{Float, binary64, ofBits}
+use Rattle.float.specs.Tables.{table}
 
 -- the number that the eight bytes from `at` on spell, the lowest first
 abbrev pub le64 : List ℕ → ℕ → ℕ
@@ -19,3 +20,11 @@ le64 bytes at =
 -- reading i of a trace that is lent as bytes
 abbrev pub readingAt : List ℕ → ℕ → Float
 readingAt bytes i = ofBits binary64 (le64 bytes (i * 8))
+
+-- A list of doubles after a trace is decoded into it, as many readings as both hold: "bits unchanged, into a lent list of doubles,
+-- whose places past n keep their contents"
+unfoldable pub decodedInto : List ℕ → List Float → List Float
+unfolding table
+decodedInto bytes readings =
+    let n = min (length bytes / 8) (length readings) in
+    table (readingAt bytes) n ++ drop n readings

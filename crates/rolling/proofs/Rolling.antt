@@ -8,13 +8,7 @@ use native.Mathlib.Omega.{arith}
 use mir.Val.{boolByte}
 use lib.ListN.{set}
 use lib.Seq.{sets}
-use lib.Ieee.{Float, nan, eq, ne}
-use lib.Ieee.Compare.{differs-from-itself}
-
--- only the NaN is not equal to itself
-pub not-itself : (x : Float) → eq x x ≡ false → x ≡ nan
-unfolding ne
-not-itself x e = differs-from-itself x (rw e tt)
+use lib.Ieee.{Float}
 
 pub bit-le : (t : Bool) → boolByte t ≤ 1
 bit-le true = omega arith

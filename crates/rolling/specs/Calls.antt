@@ -1,98 +1,88 @@
--- Document 01, "A plan call, from bytes to figures": what a call without weights is given, what it answers and what it leaves in
--- the lists that it is lent. The contract of each plan call of this crate is one of the records below. Assumes nothing.
-use Prim.Native.Nat.{ℕ, _/_, _%_}
+-- Document 01, "A plan call, from bytes to figures": what a call without weights is asked and given, what it answers and what it leaves
+-- in the lists that it is lent. The contract of each plan call of this crate is `Calls`. Assumes nothing.
+use Prim.Native.Nat.{ℕ}
 use mathlib.Core.Path.{_≡_}
-use mathlib.Core.Bool.{Bool, false, not}
-use mathlib.Core.List.{List}
-use lib.Dec.{eqb, ltb}
+use mathlib.Core.Bool.{Bool, false}
+use mathlib.Core.List.{List, [], _∷_}
 use lib.ListN.{length}
 use lib.Ieee.{Float}
-use Rattle.float.specs.Bytes.{readingAt}
-use Rattle.trace.specs.Refusals.{refusal, _orElse_}
-use Rattle.moment.specs.Figure.{doubleOf, byteOf}
+use Rattle.trace.specs.Slices.{Slice, entering, leaving}
 use Rattle.moment.specs.declared.Figure.{Figure}
+use Rattle.plan.specs.Plan.{Plan, rows, planning}
+use Rattle.plan.specs.Refusals.{needed, planRefusal}
 use Rattle.window.specs.Places.{Series}
-use Rattle.window.specs.Readings.{series}
-use Rattle.window.specs.Rows.{Plan, rows, answerAt, table}
-use Rattle.window.specs.Refusals.{planRefusal, needed, filled, kept}
-use Rattle.rolling.specs.Moments.{Asked, Variance, Skewness, Kurtosis, momentOf, finalOf}
+use Rattle.window.specs.Window.{Moment}
+use Rattle.window.specs.Given.{Given, seriesOf, placesOf, givenRefusal}
+use Rattle.window.specs.Rows.{answerAt}
+use Rattle.window.specs.Outputs.{Outputs, Lent, column, outputsOf, kept, answered, numbered, shortestOutput}
+use Rattle.rolling.specs.Moments.{Statistic, kindOf, momentOf, finalsOf, workWidth}
 
--- "A trace is n doubles", with its validity map "where one is lent"
-pub record Trace : Type 0 where
-  pub readings : List Float
-  pub mapped : Bool
-  pub map : List ℕ
-
--- a plan and a setting: "the minimum that Rows tests and what the figure's `finalize` takes beside the state"
-pub record Ask : Type 0 where
+-- a plan, which figure, and a setting: "the minimum that Rows tests and what the figure's `finalize` takes beside the state"
+pub record Query : Type 0 where
   pub plan : Plan
   pub minPeriods : ℕ
-  pub figure : Asked
+  pub statistic : Statistic
 
--- the lists that are lent, before or after a call
-pub record Lent : Type 0 where
-  pub figures : List Float
-  pub present : List ℕ
-  pub work : List Float
+-- a query of its parts
+abbrev pub query : Plan → ℕ → Statistic → Query
+query plan minPeriods statistic = record { plan = plan; minPeriods = minPeriods; statistic = statistic }
 
--- the records above, of their parts
-abbrev pub planOf : List ℕ → List ℕ → Plan
-planOf starts ends = record { starts = starts; ends = ends }
+-- what a call with this query is given
+abbrev pub GivenTo : Query → Type 0
+GivenTo q = Given (kindOf (q .statistic))
 
-abbrev pub askPlan : Plan → ℕ → Asked → Ask
-askPlan plan minPeriods figure = record { plan = plan; minPeriods = minPeriods; figure = figure }
+-- each figure's answers, row after row
+abbrev pub figuresBy : {A : Type 0} → (M : Moment A) → List (M .State → Figure) → Series A → ℕ → Plan → List (ℕ → Figure)
+figuresBy M [] t minPeriods p = []
+figuresBy M (final ∷ finals) t minPeriods p = (λ k. answerAt M final t minPeriods p k) ∷ figuresBy M finals t minPeriods p
 
-abbrev pub ask : List ℕ → List ℕ → ℕ → Asked → Ask
-ask starts ends minPeriods figure = askPlan (planOf starts ends) minPeriods figure
+-- a row's answers: what the split account yields of the plan, the map, the readings, the figure and the setting, "nothing else"
+abbrev pub yields : (q : Query) → GivenTo q → List (ℕ → Figure)
+yields q t = figuresBy (momentOf (q .statistic)) (finalsOf (q .statistic)) (seriesOf (kindOf (q .statistic)) t) (q .minPeriods) (q .plan)
 
-abbrev pub lent : List Float → List ℕ → List Float → Lent
-lent figures present work = record { figures = figures; present = present; work = work }
+-- a row's counts: no call gives any yet
+abbrev pub tallies : (q : Query) → GivenTo q → List (ℕ → ℕ)
+tallies q t = []
 
-abbrev pub traceOf : List Float → Bool → List ℕ → Trace
-traceOf readings has map = record { readings = readings; mapped = has; map = map }
+-- What a call that answers `number` leaves in its outputs: "places past the last row keep their contents"; a refusal changes no buffer
+pub record Written (q : Query) (t : GivenTo q) (l₀ l₁ : Outputs) (number : ℕ) : Type 0 where
+  pub answers-are : l₁ .answers ≡ answered number (rows (q .plan)) (yields q t) (l₀ .answers)
+  pub counts-are : l₁ .counts ≡ numbered number (rows (q .plan)) (tallies q t) (l₀ .counts)
 
--- Work slice: "for variance 4, skewness 5, kurtosis 6 doubles"
-abbrev pub each : Asked → ℕ
-each (Variance ddof) = 4
-each (Skewness bias) = 5
-each (Kurtosis fisher bias) = 6
+-- as many lists as figures and counts are given
+pub record Fits (q : Query) (t : GivenTo q) (l : Outputs) : Type 0 where
+  pub answers : length (l .answers) ≡ length (yields q t)
+  pub counts : length (l .counts) ≡ length (tallies q t)
 
--- a trace as the series of a window
-abbrev pub seriesOf : Trace → Series Float
-seriesOf t = series (t .mapped) (t .map) (t .readings)
+-- the first refusal of a call with the lists l; `short` says that a list of readings is lent that is too short
+abbrev pub refusalOf : (q : Query) → GivenTo q → Bool → Lent → ℕ
+refusalOf q t short l =
+    planRefusal (givenRefusal (kindOf (q .statistic)) t) (q .plan) (placesOf (kindOf (q .statistic)) t) short
+    (shortestOutput (l .outputs)) (workWidth (q .statistic)) (length (l .work))
 
--- row k's answer: what the split account yields of the plan, the map, the readings, the figure and the setting, "nothing else"
-abbrev pub yields : Ask → Trace → ℕ → Figure
-yields q t k = answerAt (momentOf (q .figure)) (finalOf (q .figure)) (seriesOf t) (q .minPeriods) (q .plan) k
+-- what a call that answers `number` leaves: of the work slice the part needed is the only freedom
+pub record Left (q : Query) (t : GivenTo q) (l₀ l₁ : Lent) (number : ℕ) : Type 0 where
+  pub fits : Fits q t (l₀ .outputs)
+  pub written : Written q t (l₀ .outputs) (l₁ .outputs) number
+  pub work-kept : kept number (needed (workWidth (q .statistic)) (q .plan)) (l₀ .work) (l₁ .work)
 
--- What a call that answers `number` leaves. "Output is one double and one byte (1 present, 0 missing) a row"; "places past the last
--- row keep their contents"; a refusal changes no buffer; of the work slice the part needed is the only freedom
-pub record Written (q : Ask) (t : Trace) (l₀ l₁ : Lent) (number : ℕ) : Type 0 where
-  pub figures-are : l₁ .figures ≡ filled number (λ k. doubleOf (yields q t k)) (rows (q .plan)) (l₀ .figures)
-  pub present-are : l₁ .present ≡ filled number (λ k. byteOf (yields q t k)) (rows (q .plan)) (l₀ .present)
-  pub work-kept : kept number (needed (each (q .figure)) (q .plan)) (l₀ .work) (l₁ .work)
+-- a plan call, the trace as doubles: its number, and what it leaves
+pub record Called (q : Query) (t : GivenTo q) (l₀ l₁ : Lent) (number : ℕ) : Type 0 where
+  pub number-is : number ≡ refusalOf q t false l₀
+  pub left : Left q t l₀ l₁ number
 
--- the first refusal of a call over n readings, with the lists l; `short` says that a list of readings is lent that is too short
-abbrev pub refusalOf : Ask → ℕ → Bool → List ℕ → Bool → Lent → ℕ
-refusalOf q n has map short l =
-    planRefusal (each (q .figure)) n has map (q .plan) short (length (l .figures)) (length (l .present)) (length (l .work))
+-- ---- the same, of a call's parameters
+-- the query
+abbrev pub querying : Slice ℕ → Slice ℕ → ℕ → Statistic → Query
+querying starts ends minPeriods statistic = query (planning starts ends) minPeriods statistic
 
--- a plan call, the trace as doubles
-pub record Called (q : Ask) (t : Trace) (l₀ l₁ : Lent) (number : ℕ) : Type 0 where
-  pub number-is : number ≡ refusalOf q (length (t .readings)) (t .mapped) (t .map) false l₀
-  pub written : Written q t l₀ l₁ number
+-- what is lent, before and after: the work slice, then the two lists of a figure
+abbrev pub lending : Slice Float → Slice Float → Slice ℕ → Lent × Lent
+lending work figures present = (
+  record { outputs = outputsOf (column (entering figures) (entering present) ∷ []) []; work = entering work },
+  record { outputs = outputsOf (column (leaving figures) (leaving present) ∷ []) []; work = leaving work },
+)
 
--- Host call: "traces as little-endian bytes, eight a reading"
-abbrev pub decoded : List ℕ → Bool → List ℕ → Trace
-decoded bytes has map = traceOf (table (readingAt bytes) (length bytes / 8)) has map
-
--- a plan call, the trace as bytes: "14 before all"; 12 also for "a reading list shorter than n". "An accepted call decodes the
--- readings, bits unchanged, into a lent list of doubles, whose places past n keep their contents.": but for a NaN's bits, since the
--- logic has one NaN (docs/DIFFERENCES.md)
-pub record CalledBytes (q : Ask) (bytes : List ℕ) (has : Bool) (map : List ℕ) (readings₀ readings₁ : List Float) (l₀ l₁ : Lent)
-    (number : ℕ) : Type 0 where
-  pub number-is : number
-      ≡ refusal 14 (not (eqb (length bytes % 8) 0))
-      orElse refusalOf q (length bytes / 8) has map (ltb (length readings₀) (length bytes / 8)) l₀
-  pub readings-are : readings₁ ≡ filled number (readingAt bytes) (length bytes / 8) readings₀
-  pub written : Written q (decoded bytes has map) l₀ l₁ number
+-- a plan call
+abbrev pub Calls : (q : Query) → GivenTo q → Lent × Lent → ℕ → Type 0
+Calls q t l number = Called q t (l .0) (l .1) number

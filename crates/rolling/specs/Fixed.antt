@@ -1,50 +1,26 @@
--- Document 01, "Fixed windows (006, 004, 005)": the bounds as a plan, and what a call with fixed windows answers and leaves. Assumes
--- nothing.
-use Prim.Native.Nat.{ℕ, _+_, _-_, _*_, _/_, min}
+-- Document 01, "Fixed windows (006, 004, 005)": what a call with fixed windows answers and leaves. The contract of each of these calls of
+-- this crate is `CallsFixed`. Assumes nothing.
+use Prim.Native.Nat.{ℕ}
 use mathlib.Core.Path.{_≡_}
-use mathlib.Core.Bool.{Bool, cond, _||_}
-use mathlib.Core.List.{List}
-use lib.Dec.{eqb, ltb}
+use mathlib.Core.Bool.{Bool}
 use lib.ListN.{length}
-use Rattle.trace.specs.Refusals.{refusal, _orElse_, arrayRefusal}
-use Rattle.window.specs.Rows.{Plan, table}
-use Rattle.rolling.specs.Moments.{Asked}
-use Rattle.rolling.specs.Calls.{Trace, Lent, planOf, askPlan, each, Called}
-
--- 006, `det_offsets`; "size 0 gives (i, i)"
-abbrev pub detOffsets : ℕ → ℕ → ℕ × ℕ
-detOffsets i windowSize = cond (eqb windowSize 0) (i, i) (i - (windowSize - 1), i + 1)
-
--- 006, `det_offsets_center`
-abbrev pub detOffsetsCenter : ℕ → ℕ → ℕ → ℕ × ℕ
-detOffsetsCenter i windowSize len =
-    let rightWindow = (windowSize + 1) / 2 in
-    cond (eqb windowSize 0) (i, i) (i - (windowSize - rightWindow), min len (i + rightWindow))
-
--- "Bounds by `det_offsets` and `det_offsets_center`": those of row i
-abbrev pub boundsAt : Bool → ℕ → ℕ → ℕ → ℕ × ℕ
-boundsAt center windowSize n i = cond center (detOffsetsCenter i windowSize n) (detOffsets i windowSize)
-
--- Not in document 01: the bounds of one row, for a caller who asks for them alone. Past the last row, where the source goes on
--- counting, the window is empty, at the end.
-abbrev pub offsetsAt : Bool → ℕ → ℕ → ℕ → ℕ × ℕ
-offsetsAt center windowSize n i = cond (ltb i n) (boundsAt center windowSize n i) (n, n)
+use Rattle.plan.specs.Bounds.{bounds}
+use Rattle.plan.specs.Refusals.{fixedRefusal}
+use Rattle.window.specs.Given.{Given, placesOf, givenRefusal}
+use Rattle.window.specs.Outputs.{Lent, shortestOutput}
+use Rattle.rolling.specs.Moments.{Statistic, kindOf, workWidth}
+use Rattle.rolling.specs.Calls.{Query, query, Called}
 
 -- "The n rows of these bounds are the call's plan."
-unfoldable pub bounds : Bool → ℕ → ℕ → Plan
-unfolding table
-bounds center windowSize n = planOf (table (λ i. boundsAt center windowSize n i .0) n) (table (λ i. boundsAt center windowSize n i .1) n)
-
--- "they refuse nothing more" than 1, 3, 12 and 13; "Widest window: the smaller of size and n."
-unfoldable pub fixedRefusal : ℕ → ℕ → Bool → List ℕ → ℕ → ℕ → ℕ → ℕ → ℕ
-unfolding refusal _orElse_
-fixedRefusal each n has map windowSize figures present work =
-    arrayRefusal n has map
-    orElse refusal 12 (ltb figures n || ltb present n)
-    orElse refusal 13 (ltb work (each * min windowSize n))
+abbrev pub fixedQuery : Bool → ℕ → ℕ → (a : Statistic) → Given (kindOf a) → Query
+fixedQuery center windowSize minPeriods a t = query (bounds center windowSize (placesOf (kindOf a) t)) minPeriods a
 
 -- a call with fixed windows: its number, and that in its number, its answers and what it leaves it is the plan call of its bounds
-pub record CalledFixed (center : Bool) (windowSize minPeriods : ℕ) (figure : Asked) (t : Trace) (l₀ l₁ : Lent) (number : ℕ) : Type 0 where
+pub record CalledFixed (center : Bool) (windowSize minPeriods : ℕ) (a : Statistic) (t : Given (kindOf a)) (l₀ l₁ : Lent) (number : ℕ) : Type 0 where
   pub number-is : number
-      ≡ fixedRefusal (each figure) (length (t .readings)) (t .mapped) (t .map) windowSize (length (l₀ .figures)) (length (l₀ .present)) (length (l₀ .work))
-  pub plan-call : Called (askPlan (bounds center windowSize (length (t .readings))) minPeriods figure) t l₀ l₁ number
+      ≡ fixedRefusal (givenRefusal (kindOf a) t) (placesOf (kindOf a) t) windowSize (shortestOutput (l₀ .outputs)) (workWidth a) (length (l₀ .work))
+  pub plan-call : Called (fixedQuery center windowSize minPeriods a t) t l₀ l₁ number
+
+-- the same, of a call's parameters
+abbrev pub CallsFixed : Bool → ℕ → ℕ → (a : Statistic) → Given (kindOf a) → Lent × Lent → ℕ → Type 0
+CallsFixed center windowSize minPeriods a t l number = CalledFixed center windowSize minPeriods a t (l .0) (l .1) number

@@ -1,9 +1,6 @@
--- In document 01's order: the three moments of windows, the plan calls, fixed windows, weights; last what the code keeps.
+-- In document 01's order: the three moments of windows and what may be asked of them, the plan calls, fixed windows; apart from them what
+-- only the code needs.
 pub mod Moments
 pub mod Calls
 pub mod Fixed
-pub mod Weights
-pub mod Reaching
-pub mod WeightedSums
-pub mod Weighed
-pub mod Slots
+pub mod Code

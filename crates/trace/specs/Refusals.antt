@@ -5,6 +5,7 @@ use mathlib.Core.Bool.{Bool, false, cond, not, _||_}
 use mathlib.Core.List.{List}
 use lib.Dec.{eqb, ltb}
 use lib.ListN.{length}
+use Rattle.trace.specs.Trace.{Trace}
 
 -- a number where its condition holds, else 0
 unfoldable pub refusal : ℕ → Bool → ℕ
@@ -26,6 +27,10 @@ wrongMap n has map = cond has (not (eqb (length map) ((n + 7) / 8))) false
 -- one trace: 1, 3
 abbrev pub arrayRefusal : ℕ → Bool → List ℕ → ℕ
 arrayRefusal n has map = refusal 1 (tooMany n) orElse refusal 3 (wrongMap n has map)
+
+-- the number of a trace
+abbrev pub traceRefusal : Trace → ℕ
+traceRefusal t = arrayRefusal (length (t .readings)) (t .mapped) (t .map)
 
 -- two traces: 1 for either, "2 paired traces differ in length", 3 for either
 abbrev pub pairRefusal : ℕ → Bool → List ℕ → ℕ → Bool → List ℕ → ℕ

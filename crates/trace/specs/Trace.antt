@@ -6,6 +6,21 @@ use mathlib.Core.List.{List, [], _∷_, zip}
 use lib.Dec.{eqb}
 use lib.ListN.{getD}
 use lib.Ieee.{Float}
+use Rattle.trace.specs.Slices.{Slice, entering}
+
+-- "A trace is n doubles", with its validity map "where one is lent"
+pub record Trace : Type 0 where
+  pub readings : List Float
+  pub mapped : Bool
+  pub map : List ℕ
+
+-- a trace of its parts
+abbrev pub traceOf : List Float → Bool → List ℕ → Trace
+traceOf readings has map = record { readings = readings; mapped = has; map = map }
+
+-- the trace that a call's parameters are
+abbrev pub tracing : Slice Float → Bool → Slice ℕ → Trace
+tracing values has map = traceOf (entering values) has (entering map)
 
 -- "A validity map, where one is lent, has one bit a place, lowest bit first, 1 for valid .. Without a map every place is valid"
 unfoldable pub validAt : Bool → List ℕ → ℕ → Bool

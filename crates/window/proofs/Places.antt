@@ -11,7 +11,8 @@ use lib.Dec.{leb}
 use lib.ListN.{length, drop, length-append, drop-of-length-le}
 use lib.Seq.{drop-at}
 use borrow.Author.Tests.{leb-true, leb-false}
-use Rattle.window.specs.Places.{entriesFrom, entries}
+use Rattle.float.proofs.Cases.{Or, here, there, order}
+use Rattle.window.specs.Places.{entriesFrom, entries, chosenCount}
 use Rattle.window.specs.Window.{splitAfter}
 
 keep-append : {A : Type 0} (b : Bool) (x : A) (p q : List A) → cond b (x ∷ (p ++ q)) (p ++ q) ≡ cond b (x ∷ p) p ++ q
@@ -21,21 +22,6 @@ keep-append false x p q = refl
 cond-same : (b : Bool) (x : ℕ) → cond b x x ≡ x
 cond-same true x = refl
 cond-same false x = refl
-
--- false is not true
-pub apart : {A : Type 0} → false ≡ true → A
-apart e = let z : _≡_ {A = ℕ} 0 1 = cc in absurd (omega arith)
-
-pub data Or (A B : Type 0) : Type 0 where
-  here : A → Or A B
-  there : B → Or A B
-
-pub order : (a b : ℕ) → Or (a ≤ b) (b < a)
-order a b = go (leb a b) refl
-  where
-    go : (t : Bool) → leb a b ≡ t → Or (a ≤ b) (b < a)
-    go true e = here (leb-true a b e)
-    go false e = there (leb-false a b e)
 
 module _ {A : Type 0} (v : ℕ → Bool) (r : ℕ → A) where
   pub from-add : (k m a : ℕ) → entriesFrom v r (k + m) a ≡ entriesFrom v r k a ++ entriesFrom v r m (a + k)
@@ -76,6 +62,21 @@ module _ {A : Type 0} (v : ℕ → Bool) (r : ℕ → A) where
   unfolding entriesFrom
   from-le zero i = omega arith
   from-le (suc k) i = keep-le (v i) (r i) (entriesFrom v r k (suc i)) k (from-le k (suc i))
+
+  from-many : (k i : ℕ) → length (entriesFrom v r k i) ≡ length (entriesFrom v (λ j. j) k i)
+  unfolding entriesFrom
+  from-many zero i = refl
+  from-many (suc k) i = go (v i) (from-many k (suc i))
+    where
+      go : (b : Bool) → length (entriesFrom v r k (suc i)) ≡ length (entriesFrom v (λ j. j) k (suc i))
+          → length (cond b (r i ∷ entriesFrom v r k (suc i)) (entriesFrom v r k (suc i)))
+          ≡ length (cond b (i ∷ entriesFrom v (λ j. j) k (suc i)) (entriesFrom v (λ j. j) k (suc i)))
+      go true e = ap suc e
+      go false e = e
+
+  -- a range has as many entries as chosen places, whatever is inserted there
+  pub many-chosen : (a b : ℕ) → length (entries v r a b) ≡ chosenCount v a b
+  many-chosen a b = from-many (b - a) a
 
   pub count-le : (a b : ℕ) → length (entries v r a b) ≤ b - a
   count-le a b = from-le (b - a) a

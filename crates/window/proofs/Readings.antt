@@ -1,7 +1,7 @@
 -- Moments whose entries are single readings: a reading in the back stack is one double, so the laws of the stacks are cited with the
 -- code's own reads, writes and tests. Assumes nothing.
 use Prim.Native.Nat.{ℕ, _+_, _-_, _*_, _≤_, _<_}
-use mathlib.Core.Path.{_≡_, refl, sym, ap, _∙_}
+use mathlib.Core.Path.{_≡_, refl, sym, ap, _∙_, subst}
 use mathlib.Core.Bool.{Bool, true, false, not}
 use mir.Val.{boolByte}
 use mathlib.Core.List.{List, [], _∷_, _++_}
@@ -14,12 +14,10 @@ use lib.Ieee.Scale.{finite}
 use Rattle.float.specs.Operators.{zero64}
 use Rattle.trace.specs.Trace.{validAt}
 use Rattle.window.specs.Places.{Series, validCount}
-use Rattle.window.specs.Window.{back}
-use Rattle.window.specs.Readings.{reading, series, ReadingMoment, ofReadings, readingOf, insertedAt, nonfiniteAt}
-use Rattle.window.specs.Stacks.{inMemory, frontStack, account, Leaves, Held, Pushed}
-use Rattle.window.specs.declared.Window.{Window}
-use Rattle.window.proofs.Moves.{out-flipped}
-use Rattle.window.proofs.Stacks.{Flip, flip-start, flip-turn, flip-done, Push, push-start, push-room, push-nonfinite-le, push-hit, push-miss, push-done}
+use Rattle.window.specs.Readings.{series, readingOf, insertedAt, nonfiniteAt}
+use Rattle.window.specs.Code.Memory.{ReadingStates, ofReadings, reading, inMemory}
+use Rattle.window.specs.Code.Stacks.{frontStack, Flippable, Flipped, Appendable, Appended}
+use Rattle.window.proofs.Stacks.{Flip, flip-start, flip-turn, flip-done, Append, append-start, append-room, append-nonfinite-le, append-hit, append-miss, append-done}
 
 -- readings in memory are themselves
 pub flat : (l : List Float) → inMemory reading l ≡ l
@@ -27,86 +25,79 @@ unfolding inMemory
 flat [] = refl
 flat (x ∷ l) = rw (flat l)
 
-module _ (m : ReadingMoment) (l₀ : List Float) (base n : ℕ) where
+module _ (m : ReadingStates) (l₀ : List Float) (base n : ℕ) where
   abbrev B : List Float
   B = take n (drop base l₀)
 
   -- a flip, of the n readings that stand from base on
-  abbrev pub Flipping : List Float → m .State → ℕ → ℕ → Type 0
+  abbrev pub Flipping : List Float → m .moment .State → ℕ → ℕ → Type 0
   Flipping l agg at j = Flip (ofReadings m) l₀ n B l agg at j
 
-  module _ (room : m .inFront .width * n ≤ base) (fits : base + n ≤ length l₀) where
-    many : length B ≡ n
-    many = rw (length-take, length-drop) (omega arith)
+  module _ (can : Flippable (ofReadings m) base n l₀) where
+    room : m .inFront .width * n ≤ base
+    room = can .front-room
 
     fits′ : base + 1 * n ≤ length l₀
-    fits′ = rw one-mul fits
+    fits′ = can .back-room
+
+    many : length B ≡ n
+    many = let h = fits′ in rw (length-take, length-drop) (omega arith)
 
     standing : take (1 * n) (drop base l₀) ≡ inMemory reading B
     standing = rw (one-mul, flat)
 
-    pub flipping-start : (agg : m .State) → agg ≡ m .empty → Flipping l₀ agg 0 n
+    pub flipping-start : (agg : m .moment .State) → agg ≡ m .moment .empty → Flipping l₀ agg 0 n
     flipping-start agg e = flip-start (ofReadings m) l₀ base n B many agg e
 
-    pub flipping-turn : {l : List Float} {agg agg' : m .State} {at j : ℕ} → Flipping l agg at j → 0 < j →
-        agg' ≡ m .insert agg (getD l (base + (j - 1)) nan) → Flipping (sets l at (m .inFront .store agg')) agg' (at + m .inFront .width) (j - 1)
+    pub flipping-turn : {l : List Float} {agg agg' : m .moment .State} {at j : ℕ} → Flipping l agg at j → 0 < j →
+        agg' ≡ m .moment .insert agg (getD l (base + (j - 1)) nan) → Flipping (sets l at (m .inFront .store agg')) agg' (at + m .inFront .width) (j - 1)
     flipping-turn {l} {agg} {agg'} {at} {j} f h e =
-        flip-turn (ofReadings m) l₀ base n B many room fits′ standing f h (e ∙ sym (ap (m .insert agg) (getD-drop (base + 1 * (j - 1)) l 0 nan ∙ rw (add-zero, one-mul))))
+        flip-turn (ofReadings m) l₀ base n B many room fits′ standing f h (e ∙ sym (ap (m .moment .insert agg) (getD-drop (base + 1 * (j - 1)) l 0 nan ∙ rw (add-zero, one-mul))))
 
-    pub flipping-done : {l : List Float} {agg : m .State} {at j : ℕ} → Flipping l agg at j → j ≤ 0 →
-        l ≡ inMemory (m .inFront) (frontStack (ofReadings m) B) ++ drop (m .inFront .width * n) l₀
-    flipping-done f h = flip-done (ofReadings m) l₀ base n B many room fits′ standing f h
+    pub flipping-done : {l : List Float} {agg : m .moment .State} {at j : ℕ} → Flipping l agg at j → j ≤ 0 → Flipped (ofReadings m) base n l₀ l
+    flipping-done {l} f h X e =
+        let x : B ≡ X = ap (λ (i : ℕ). take i (drop base l₀)) (sym (one-mul n)) ∙ e ∙ flat X in
+        subst (λ (Y : List Float). l ≡ inMemory (m .inFront) (frontStack (m .moment) Y) ++ drop (m .inFront .width * n) l₀) x
+        (flip-done (ofReadings m) l₀ base n B many room fits′ standing f h)
 
--- what a flip of the readings that stand in the back stack leaves of a window
-pub flipped-out : (m : ReadingMoment) (t : Series Float) (base s : ℕ) (w w' : Window) (flips : Bool) (agg : m .State) (work : List Float) →
-    Held (ofReadings m) t base w agg work → Leaves t w s w' flips → w .start ≤ s → m .inFront .width * w .back ≤ base → base + w .back ≤ length work →
-    flips ≡ true → (work' : List Float) →
-    work' ≡ inMemory (m .inFront) (frontStack (ofReadings m) (take (w .back) (drop base work))) ++ drop (m .inFront .width * w .back) work →
-    (agg' : m .State) → agg' ≡ m .empty → Held (ofReadings m) t base w' agg' work' × (drop base work' ≡ drop base work)
-flipped-out m t base s w w' flips agg work held gone h room fits z work' f agg' e =
-    let b : take (w .back) (drop base work) ≡ back t (account w) =
-    ap (λ (k : ℕ). take k (drop base work)) (sym (one-mul (w .back))) ∙ held .back-at ∙ flat (back t (account w)) in
-    let i : base + 1 * w .back ≤ length work = rw one-mul fits in
-    out-flipped (ofReadings m) t base s w w' flips agg work held gone h room i z work' (rw b at f) agg' e
+-- ---- readings appended
+module _ (m : ReadingStates) (has : Bool) (map : List ℕ) (values l₀ : List Float) (n nonfinite₀ : ℕ) (s₀ : m .moment .State) (a e : ℕ) where
+  abbrev pub Appending : List Float → ℕ → ℕ → m .moment .State → ℕ → Type 0
+  Appending l at nonfinite s i = Append (ofReadings m) (series has map values) l₀ n nonfinite₀ s₀ a e l at nonfinite s i
 
--- ---- readings pushed
-module _ (m : ReadingMoment) (has : Bool) (map : List ℕ) (values l₀ : List Float) (n nonfinite₀ : ℕ) (s₀ : m .State) (a e : ℕ) where
-  abbrev pub Pushing : List Float → ℕ → ℕ → m .State → ℕ → Type 0
-  Pushing l at nonfinite s i = Push (ofReadings m) (series has map values) l₀ n nonfinite₀ s₀ a e l at nonfinite s i
+  pub appending-start : a ≤ e → Appending l₀ n nonfinite₀ s₀ a
+  appending-start h = append-start (ofReadings m) (series has map values) l₀ n nonfinite₀ s₀ a e h
 
-  pub pushing-start : a ≤ e → Pushing l₀ n nonfinite₀ s₀ a
-  pushing-start h = push-start (ofReadings m) (series has map values) l₀ n nonfinite₀ s₀ a e h
-
-  module _ {l : List Float} {at nonfinite : ℕ} {s : m .State} {i : ℕ} (p : Pushing l at nonfinite s i) (more : i < e)
-      (room : 1 * (n + validCount (series has map values) a e) ≤ length l₀) where
-    pub pushing-room : validAt has map i ≡ true → at < length l
-    pushing-room v =
-        let h = push-room (ofReadings m) (series has map values) l₀ n nonfinite₀ s₀ a e p more room v in
+  module _ {l : List Float} {at nonfinite : ℕ} {s : m .moment .State} {i : ℕ} (p : Appending l at nonfinite s i) (more : i < e)
+      (room : 1 * (n + validCount (series has map values .places) a e) ≤ length l₀) where
+    pub appending-room : validAt has map i ≡ true → at < length l
+    appending-room v =
+        let h = append-room (ofReadings m) (series has map values) l₀ n nonfinite₀ s₀ a e p more room v in
         omega arith
 
-    pub pushing-nonfinite : nonfinite ≤ nonfinite₀ + (i - a)
-    pushing-nonfinite = push-nonfinite-le (ofReadings m) (series has map values) l₀ n nonfinite₀ s₀ a e p more room
+    pub appending-nonfinite : nonfinite ≤ nonfinite₀ + (i - a)
+    appending-nonfinite = append-nonfinite-le (ofReadings m) (series has map values) l₀ n nonfinite₀ s₀ a e p more room
 
-    hit : validAt has map i ≡ true → (x : Float) → x ≡ insertedAt values i → (u : m .State) → u ≡ m .insert s x → (b : Bool) → finite (readingOf values i) ≡ b →
-        (k : ℕ) → k ≡ nonfinite + boolByte (not b) → Pushing (set l at x) (at + 1) k u (i + 1)
+    hit : validAt has map i ≡ true → (x : Float) → x ≡ insertedAt values i → (u : m .moment .State) → u ≡ m .moment .insert s x → (b : Bool) → finite (readingOf values i) ≡ b →
+        (k : ℕ) → k ≡ nonfinite + boolByte (not b) → Appending (set l at x) (at + 1) k u (i + 1)
     unfolding nonfiniteAt
     hit v x f u g b c k d =
-        push-hit (ofReadings m) (series has map values) l₀ n nonfinite₀ s₀ a e p more room v at (sym (one-mul at)) x f u g (not b) (rw (v, c)) k d
+        append-hit (ofReadings m) (series has map values) l₀ n nonfinite₀ s₀ a e p more room v at (sym (one-mul at)) x f u g (not b) (rw (v, c)) k d
 
-    pub pushing-finite : validAt has map i ≡ true → finite (readingOf values i) ≡ true → (u : m .State) → u ≡ m .insert s (readingOf values i) →
-        Pushing (set l at (readingOf values i)) (at + 1) nonfinite u (i + 1)
+    pub appending-finite : validAt has map i ≡ true → finite (readingOf values i) ≡ true → (u : m .moment .State) → u ≡ m .moment .insert s (readingOf values i) →
+        Appending (set l at (readingOf values i)) (at + 1) nonfinite u (i + 1)
     unfolding insertedAt
-    pushing-finite v f u g = hit v (readingOf values i) (rw f) u g true f nonfinite (sym (add-zero nonfinite))
+    appending-finite v f u g = hit v (readingOf values i) (rw f) u g true f nonfinite (sym (add-zero nonfinite))
 
-    pub pushing-zero : validAt has map i ≡ true → finite (readingOf values i) ≡ false → (u : m .State) → u ≡ m .insert s zero64 →
-        Pushing (set l at zero64) (at + 1) (nonfinite + 1) u (i + 1)
+    pub appending-zero : validAt has map i ≡ true → finite (readingOf values i) ≡ false → (u : m .moment .State) → u ≡ m .moment .insert s zero64 →
+        Appending (set l at zero64) (at + 1) (nonfinite + 1) u (i + 1)
     unfolding insertedAt
-    pushing-zero v f u g = hit v zero64 (rw f) u g false f (nonfinite + 1) refl
+    appending-zero v f u g = hit v zero64 (rw f) u g false f (nonfinite + 1) refl
 
-    pub pushing-missing : validAt has map i ≡ false → Pushing l at nonfinite s (i + 1)
+    pub appending-missing : validAt has map i ≡ false → Appending l at nonfinite s (i + 1)
     unfolding nonfiniteAt
-    pushing-missing v = push-miss (ofReadings m) (series has map values) l₀ n nonfinite₀ s₀ a e p more room v (rw v)
+    appending-missing v = append-miss (ofReadings m) (series has map values) l₀ n nonfinite₀ s₀ a e p more room v (rw v)
 
-  pub pushing-done : {l : List Float} {at nonfinite : ℕ} {s : m .State} {i : ℕ} → Pushing l at nonfinite s i → e ≤ i →
-      Pushed (ofReadings m) (series has map values) l₀ n nonfinite₀ s₀ a e l at nonfinite s
-  pushing-done p h = push-done (ofReadings m) (series has map values) l₀ n nonfinite₀ s₀ a e p h
+  pub appending-done : {l : List Float} {at nonfinite : ℕ} {s : m .moment .State} {i : ℕ} → Appending l at nonfinite s i → e ≤ i →
+      Appended (ofReadings m) (series has map values) l₀ n nonfinite₀ s₀ a e l at nonfinite s
+  appending-done p h = append-done (ofReadings m) (series has map values) l₀ n nonfinite₀ s₀ a e p h

@@ -1,5 +1,5 @@
 -- The rows of a plan, for any moment: with the window of the account after k rows, the next row's step and figure are the
--- account's; so the outputs are its answers, row after row. Assumes nothing.
+-- account's. Assumes nothing.
 use Prim.Native.Nat.{ℕ, suc, _+_, _-_, _*_, _≤_, _<_}
 use mathlib.Core.Path.{_≡_, refl, sym, ap, _∙_, subst}
 use mathlib.Core.Bool.{Bool, true, false, cond, _||_}
@@ -9,81 +9,83 @@ use native.Mathlib.Numerals.{add-one}
 use native.Mathlib.Omega.{arith}
 use borrow.Author.Tests.{ne-eqb, le-leb, lt-leb}
 use lib.Dec.{eqb}
-use lib.ListN.{length, drop, set, length-set, take-append-drop}
+use lib.ListN.{length, drop, take-append-drop}
 use lib.Seq.{drop-at}
-use lib.Ieee.{Float}
-use Rattle.moment.specs.Figure.{doubleOf, byteOf}
+use Rattle.float.proofs.Cases.{apart}
 use Rattle.moment.specs.declared.Figure.{Figure}
+use Rattle.plan.specs.Plan.{Plan, rows, rowStart, rowEnd}
+use Rattle.plan.specs.Code.Accepted.{Planned}
 use Rattle.window.specs.Places.{Series, validCount}
-use Rattle.window.specs.Window.{Account, Moment, front, moved, falling, orNan, figureOf}
-use Rattle.window.specs.Rows.{Plan, rows, rowStart, rowEnd, moves, stepped, accountAt, counted, answerOf, answerAt, table}
-use Rattle.window.specs.Stacks.{inMemory, frontStack, account, Held, topOf, answerBy, Ready, Planned, Standing}
+use Rattle.window.specs.Window.{Account, front, moved, falling, orNan, figureOf}
+use Rattle.window.specs.Rows.{moves, stepped, accountAt, counted, answerOf, answerAt}
+use Rattle.window.specs.Code.Memory.{Stored, inMemory}
+use Rattle.window.specs.Code.Stacks.{frontStack, emptyAt, account, Held, topOf, answerBy, Ready, Standing, baseOf}
 use Rattle.window.specs.declared.Window.{Window}
-use Rattle.window.proofs.Places.{apart, two-counts, entries-self}
+use Rattle.window.proofs.Places.{two-counts, entries-self}
 use Rattle.window.proofs.Stacks.{memory-append, front-length}
-use Rattle.window.proofs.Moves.{held-counts}
-use Rattle.window.proofs.Tables.{table-more}
+use Rattle.window.proofs.Moves.{front-many, held-counts}
 
-module _ (M : Moment) where
+module _ {C A : Type 0} (M : Stored C A) where
   -- the state on the front stack's top
-  top-of : (l : List (M .Entry)) (rest : List Float) → topOf M (inMemory (M .inFront) (frontStack M l) ++ rest) (length l) ≡ falling M l
+  top-of : (l : List A) (rest : List C) → topOf M (inMemory (M .inFront) (frontStack (M .moment) l) ++ rest) (length l) ≡ falling (M .moment) l
   unfolding topOf frontStack inMemory
   top-of [] rest = refl
   top-of (x ∷ l) rest =
       let n : suc (length l) - 1 ≡ length l = omega arith in
-      let s = M .insert (falling M l) x in
+      let s = M .moment .insert (falling (M .moment) l) x in
       rw (
         ne-eqb (suc (length l)) 0 (λ z. omega arith),
         n,
-        memory-append (M .inFront) (frontStack M l) (s ∷ []),
+        memory-append (M .inFront) (frontStack (M .moment) l) (s ∷ []),
         append-assoc,
         append-assoc,
-        drop-at (inMemory (M .inFront) (frontStack M l)) (M .inFront .store s ++ ([] ++ rest)) (M .inFront .width * length l) (front-length M l),
+        drop-at (inMemory (M .inFront) (frontStack (M .moment) l)) (M .inFront .store s ++ ([] ++ rest)) (M .inFront .width * length l) (front-length M l),
       )
       (M .inFront .loaded s rest)
 
-  module _ (final : M .State → Figure) (t : Series (M .Entry)) (base : ℕ) (w : Window) (agg : M .State) (work : List Float) (held : Held M t base w agg work) where
-    pub top-is : topOf M work (w .front) ≡ falling M (front t (account w))
+  module _ (final : M .moment .State → Figure) (t : Series A) (base : ℕ) (w : Window) (agg : M .moment .State) (work : List C) (held : Held M t base w agg work) where
+    pub top-is : topOf M work (w .front) ≡ falling (M .moment) (front t (account w))
     top-is =
-        let p : work ≡ inMemory (M .inFront) (frontStack M (front t (account w))) ++ drop (M .inFront .width * w .front) work =
+        let p : work ≡ inMemory (M .inFront) (frontStack (M .moment) (front t (account w))) ++ drop (M .inFront .width * w .front) work =
         sym (take-append-drop (M .inFront .width * w .front) work)
-        ∙ ap (λ (y : List Float). y ++ drop (M .inFront .width * w .front) work) (held .front-at) in
-        ap (λ (y : List Float). topOf M y (w .front)) p
-        ∙ rw (held .numbers .front-is) (top-of (front t (account w)) (drop (M .inFront .width * length (front t (account w))) work))
+        ∙ ap (λ (y : List C). y ++ drop (M .inFront .width * w .front) work) (held .front-at) in
+        ap (λ (y : List C). topOf M y (w .front)) p
+        ∙ rw (front-many t w (held .numbers)) (top-of (front t (account w)) (drop (M .inFront .width * length (front t (account w))) work))
 
-    pub figure-is : orNan (w .nonfinite) (final (M .combine agg (topOf M work (w .front)))) ≡ figureOf M final t (account w)
+    pub figure-is : orNan (w .nonfinite) (final (M .moment .combine agg (topOf M work (w .front)))) ≡ figureOf (M .moment) final t (account w)
     unfolding figureOf
     figure-is = rw (top-is, held .numbers .nonfinite-is, held .agg-is)
 
     -- the answer, by the window's numbers
-    module _ (minPeriods s e : ℕ) (h : t .mapped ≡ true → (w .start ≡ s) × (w .end ≡ e)) where
-      counted-is : cond (t .mapped) (w .front + w .back) (e - s) ≡ counted t s e
-      counted-is = go (t .mapped) h
+    module _ (minPeriods s e : ℕ) (h : t .places .mapped ≡ true → (w .start ≡ s) × (w .end ≡ e)) where
+      counted-is : cond (t .places .mapped) (w .front + w .back) (e - s) ≡ counted (t .places) s e
+      counted-is = go (t .places .mapped) h
         where
-          go : (b : Bool) → (b ≡ true → (w .start ≡ s) × (w .end ≡ e)) → cond b (w .front + w .back) (e - s) ≡ cond b (validCount t s e) (e - s)
+          go : (b : Bool) → (b ≡ true → (w .start ≡ s) × (w .end ≡ e)) → cond b (w .front + w .back) (e - s) ≡ cond b (validCount (t .places) s e) (e - s)
           go false g = refl
           go true g =
               let c = held .numbers in
-              rw (← g refl .0, ← g refl .1, c .front-is, c .back-is) (two-counts (t .valid) (t .entry) (w .start) (w .split) (w .end) (c .start-le) (c .split-le))
+              rw (← g refl .0, ← g refl .1, c .front-is, c .back-is) (two-counts (t .places .valid) (λ j. j) (w .start) (w .split) (w .end) (c .start-le) (c .split-le))
 
-      pub answer-is : answerBy M final (t .mapped) minPeriods s e w agg work ≡ answerOf M final t minPeriods s e (account w)
+      pub answer-is : answerBy M final (t .places .mapped) minPeriods s e w agg work ≡ answerOf (M .moment) final t minPeriods s e (account w)
       unfolding answerOf
       answer-is = rw (counted-is, figure-is)
 
 -- ---- the rows of a plan: the turns of the loop
-module _ (M : Moment) (t : Series (M .Entry)) (minPeriods n widest : ℕ) (p : Plan) where
-  abbrev Stands : Window → M .State → List Float → ℕ → Type 0
+module _ {C A : Type 0} (M : Stored C A) (t : Series A) (minPeriods n widest : ℕ) (p : Plan) where
+  abbrev Stands : Window → M .moment .State → List C → ℕ → Type 0
   Stands w agg work k = Standing M t minPeriods n widest p w agg work k
 
-  stand-start : (agg : M .State) → agg ≡ M .empty → (work : List Float) → Stands (record { start = 0; end = 0; split = 0; front = 0; back = 0; nonfinite = 0 }) agg work 0
+  pub stand-start : (agg : M .moment .State) → agg ≡ M .moment .empty → (work : List C) → Stands (emptyAt 0) agg work 0
   unfolding accountAt inMemory frontStack
   stand-start agg e work =
-      let z = entries-self (t .valid) (t .entry) 0 in
-      let y = entries-self (t .nonfinite) (t .entry) 0 in
+      let z = entries-self (t .places .valid) (t .entry) 0 in
+      let x = entries-self (t .places .valid) (λ j. j) 0 in
+      let y = entries-self (t .places .nonfinite) (λ j. j) 0 in
       record {
         upto = omega arith;
         held = record {
-          numbers = record { start-le = omega arith; split-le = omega arith; front-is = rw z; back-is = rw z; nonfinite-is = rw y };
+          numbers = record { start-le = omega arith; split-le = omega arith; front-is = rw x; back-is = rw x; nonfinite-is = rw y };
           agg-is = rw z e;
           front-at = rw (mul-zero, z);
           back-at = rw (mul-zero, z);
@@ -95,13 +97,13 @@ module _ (M : Moment) (t : Series (M .Entry)) (minPeriods n widest : ℕ) (p : P
       }
 
   -- what is known of the window after row k's step
-  pub record Stepped (w : Window) (k : ℕ) : Type 0 where
+  pub record Beyond (w : Window) (k : ℕ) : Type 0 where
     pub wide : w .end ≤ w .start + widest
     pub inside : w .end ≤ n
     pub ahead : (j : ℕ) → k + 1 ≤ j → j < rows p → (w .start ≤ rowStart p j) × (w .end ≤ rowEnd p j)
-    pub mapped : t .mapped ≡ true → (w .start ≡ rowStart p k) × (w .end ≡ rowEnd p k)
+    pub mapped : t .places .mapped ≡ true → (w .start ≡ rowStart p k) × (w .end ≡ rowEnd p k)
 
-  module _ (plan : Planned n widest p) {work : List Float} {w : Window} {agg : M .State} {k : ℕ}
+  module _ (plan : Planned n widest p) {work : List C} {w : Window} {agg : M .moment .State} {k : ℕ}
       (row : Stands w agg work k) (more : k < rows p) (s e : ℕ) (s-is : s ≡ rowStart p k) (e-is : e ≡ rowEnd p k) where
     pub row-ready : Ready w s e n widest
     row-ready =
@@ -113,15 +115,15 @@ module _ (M : Moment) (t : Series (M .Entry)) (minPeriods n widest : ℕ) (p : P
 
     -- the account after the row's step
     abbrev Moved : Window → ℕ → ℕ → Type 0
-    Moved w' x y = account w' ≡ stepped (t .valid) (t .mapped) minPeriods k x y (account w)
+    Moved w' x y = account w' ≡ stepped (t .places .valid) (t .places .mapped) minPeriods k x y (account w)
 
     as-listed : (w' : Window) → Moved w' s e → Moved w' (rowStart p k) (rowEnd p k)
     as-listed w' f = subst (λ (y : ℕ). Moved w' (rowStart p k) y) e-is (subst (λ (x : ℕ). Moved w' x e) s-is f)
 
-    row-stepped : (w' : Window) → Moved w' s e → Stepped w' k
-    row-stepped w' f = go (moves (t .mapped) minPeriods k (rowStart p k) (rowEnd p k)) refl
+    row-stepped : (w' : Window) → Moved w' s e → Beyond w' k
+    row-stepped w' f = go (moves (t .places .mapped) minPeriods k (rowStart p k) (rowEnd p k)) refl
       where
-        here-now : account w' ≡ moved (t .valid) (account w) (rowStart p k) (rowEnd p k) → Stepped w' k
+        here-now : account w' ≡ moved (t .places .valid) (account w) (rowStart p k) (rowEnd p k) → Beyond w' k
         here-now g =
             let x : w' .start ≡ rowStart p k = ap (λ (a : Account). a .start) g in
             let y : w' .end ≡ rowEnd p k = ap (λ (a : Account). a .end) g in
@@ -133,7 +135,7 @@ module _ (M : Moment) (t : Series (M .Entry)) (minPeriods n widest : ℕ) (p : P
               mapped = λ _. (x, y);
             }
 
-        as-before : account w' ≡ account w → (t .mapped ≡ true → ⊥) → Stepped w' k
+        as-before : account w' ≡ account w → (t .places .mapped ≡ true → ⊥) → Beyond w' k
         as-before g q =
             let x : w' .start ≡ w .start = ap (λ (a : Account). a .start) g in
             let y : w' .end ≡ w .end = ap (λ (a : Account). a .end) g in
@@ -150,12 +152,12 @@ module _ (M : Moment) (t : Series (M .Entry)) (minPeriods n widest : ℕ) (p : P
         no-map true u f q = apart (sym f)
         no-map false u f q = apart q
 
-        go : (u : Bool) → moves (t .mapped) minPeriods k (rowStart p k) (rowEnd p k) ≡ u → Stepped w' k
+        go : (u : Bool) → moves (t .places .mapped) minPeriods k (rowStart p k) (rowEnd p k) ≡ u → Beyond w' k
         go true u = here-now (as-listed w' f ∙ rw u)
-        go false u = as-before (as-listed w' f ∙ rw u) (no-map (t .mapped) _ u)
+        go false u = as-before (as-listed w' f ∙ rw u) (no-map (t .places .mapped) _ u)
 
     -- the window after the step lies in the work slice
-    pub row-fits : (w' : Window) (agg' : M .State) (work' : List Float) → Moved w' s e → Held M t (M .inFront .width * widest) w' agg' work' →
+    pub row-fits : (w' : Window) (agg' : M .moment .State) (work' : List C) → Moved w' s e → Held M t (M .inFront .width * widest) w' agg' work' →
         M .inFront .width * widest ≤ length work' → (M .inFront .width * w' .front ≤ length work') × (w' .front + w' .back ≤ w' .end) × (s ≤ e)
     row-fits w' agg' work' y held room =
         let c = held-counts M t (M .inFront .width * widest) w' agg' work' held in
@@ -168,21 +170,21 @@ module _ (M : Moment) (t : Series (M .Entry)) (minPeriods n widest : ℕ) (p : P
     row-inside w' y = row-stepped w' y .inside
 
     -- the row's figure is its answer
-    pub row-answer : (final : M .State → Figure) {w' : Window} {agg' : M .State} {work' : List Float} {f : Figure} →
-        Moved w' s e → Held M t (M .inFront .width * widest) w' agg' work' → f ≡ answerBy M final (t .mapped) minPeriods s e w' agg' work' → f ≡ answerAt M final t minPeriods p k
+    pub row-answer : (final : M .moment .State → Figure) {w' : Window} {agg' : M .moment .State} {work' : List C} {f : Figure} →
+        Moved w' s e → Held M t (M .inFront .width * widest) w' agg' work' → f ≡ answerBy M final (t .places .mapped) minPeriods s e w' agg' work' → f ≡ answerAt (M .moment) final t minPeriods p k
     unfolding accountAt answerAt
     row-answer final {w'} {agg'} {work'} {f} y held g =
         let u = row-stepped w' y in
-        let a : account w' ≡ accountAt (t .valid) (t .mapped) minPeriods p (suc k) = as-listed w' y ∙ rw (row .at) in
-        let m : t .mapped ≡ true → (w' .start ≡ s) × (w' .end ≡ e) = λ z. (u .mapped z .0 ∙ sym s-is, u .mapped z .1 ∙ sym e-is) in
+        let a : account w' ≡ accountAt (t .places .valid) (t .places .mapped) minPeriods p (suc k) = as-listed w' y ∙ rw (row .at) in
+        let m : t .places .mapped ≡ true → (w' .start ≡ s) × (w' .end ≡ e) = λ z. (u .mapped z .0 ∙ sym s-is, u .mapped z .1 ∙ sym e-is) in
         g ∙ answer-is M final t (M .inFront .width * widest) w' agg' work' held minPeriods s e m
-        ∙ rw (s-is, e-is) (ap (answerOf M final t minPeriods (rowStart p k) (rowEnd p k)) a)
+        ∙ rw (s-is, e-is) (ap (answerOf (M .moment) final t minPeriods (rowStart p k) (rowEnd p k)) a)
 
-    pub stand-next : {w' : Window} {agg' : M .State} {work' : List Float} → Moved w' s e → Held M t (M .inFront .width * widest) w' agg' work' → Stands w' agg' work' (k + 1)
+    pub stand-next : {w' : Window} {agg' : M .moment .State} {work' : List C} → Moved w' s e → Held M t (M .inFront .width * widest) w' agg' work' → Stands w' agg' work' (k + 1)
     unfolding accountAt
     stand-next {w'} {agg'} {work'} y held =
         let u = row-stepped w' y in
-        let a : account w' ≡ accountAt (t .valid) (t .mapped) minPeriods p (suc k) = as-listed w' y ∙ rw (row .at) in
+        let a : account w' ≡ accountAt (t .places .valid) (t .places .mapped) minPeriods p (suc k) = as-listed w' y ∙ rw (row .at) in
         record {
           upto = omega arith;
           held = held;
@@ -191,52 +193,6 @@ module _ (M : Moment) (t : Series (M .Entry)) (minPeriods n widest : ℕ) (p : P
           inside = u .inside;
           ahead = u .ahead;
         }
-
-module _ (M : Moment) (final : M .State → Figure) (t : Series (M .Entry)) (minPeriods n widest : ℕ) (p : Plan) where
-  abbrev Answer : ℕ → Figure
-  Answer k = answerAt M final t minPeriods p k
-
-  -- with the window, out and pr are the outputs; work₀, out₀ and pr₀ are where the loop began, and of the work slice the first `need`
-  -- doubles are its own
-  pub record Row (work₀ out₀ : List Float) (pr₀ : List ℕ) (need : ℕ) (work out : List Float) (pr : List ℕ) (w : Window) (agg : M .State) (k : ℕ) : Type 0 where
-    pub standing : Standing M t minPeriods n widest p w agg work k
-    pub work-same : length work ≡ length work₀
-    pub work-rest : drop need work ≡ drop need work₀
-    pub out-same : length out ≡ length out₀
-    pub out-is : out ≡ table (λ j. doubleOf (Answer j)) k ++ drop k out₀
-    pub pr-same : length pr ≡ length pr₀
-    pub pr-is : pr ≡ table (λ j. byteOf (Answer j)) k ++ drop k pr₀
-
-  pub row-start : (work₀ out₀ : List Float) (pr₀ : List ℕ) (need : ℕ) (agg : M .State) → agg ≡ M .empty →
-      Row work₀ out₀ pr₀ need work₀ out₀ pr₀ (record { start = 0; end = 0; split = 0; front = 0; back = 0; nonfinite = 0 }) agg 0
-  unfolding table
-  row-start work₀ out₀ pr₀ need agg e =
-      record { standing = stand-start M t minPeriods n widest p agg e work₀; work-same = refl; work-rest = refl; out-same = refl; out-is = refl; pr-same = refl; pr-is = refl }
-
-  module _ (plan : Planned n widest p) {work₀ out₀ : List Float} {pr₀ : List ℕ} {need : ℕ} {work out : List Float} {pr : List ℕ} {w : Window} {agg : M .State} {k : ℕ}
-      (row : Row work₀ out₀ pr₀ need work out pr w agg k) (more : k < rows p) (s e : ℕ) (s-is : s ≡ rowStart p k) (e-is : e ≡ rowEnd p k) where
-    pub row-next : {w' : Window} {agg' : M .State} {work' out' : List Float} {pr' : List ℕ} {f : Figure} →
-        account w' ≡ stepped (t .valid) (t .mapped) minPeriods k s e (account w) → Held M t (M .inFront .width * widest) w' agg' work' →
-        length work' ≡ length work → drop need work' ≡ drop need work → f ≡ answerBy M final (t .mapped) minPeriods s e w' agg' work' →
-        rows p ≤ length out₀ → rows p ≤ length pr₀ → out' ≡ set out k (doubleOf f) → pr' ≡ set pr k (byteOf f) →
-        Row work₀ out₀ pr₀ need work' out' pr' w' agg' (k + 1)
-    row-next {w'} {agg'} {work'} {out'} {pr'} {f} y held len rest g ho hp o q =
-        let h : f ≡ Answer k = row-answer M t minPeriods n widest p plan (row .standing) more s e s-is e-is final y held g in
-        record {
-          standing = stand-next M t minPeriods n widest p plan (row .standing) more s e s-is e-is y held;
-          work-same = len ∙ row .work-same;
-          work-rest = rest ∙ row .work-rest;
-          out-same = ap length o ∙ simp length-set (row .out-same);
-          out-is = o ∙ rw (row .out-is) (table-more (λ j. doubleOf (Answer j)) out₀ k (doubleOf f) (ap doubleOf h) (omega arith));
-          pr-same = ap length q ∙ simp length-set (row .pr-same);
-          pr-is = q ∙ rw (row .pr-is) (table-more (λ j. byteOf (Answer j)) pr₀ k (byteOf f) (ap byteOf h) (omega arith));
-        }
-
-  pub row-done : {work₀ out₀ : List Float} {pr₀ : List ℕ} {need : ℕ} {work out : List Float} {pr : List ℕ} {w : Window} {agg : M .State} {k : ℕ} →
-      Row work₀ out₀ pr₀ need work out pr w agg k → rows p ≤ k →
-      (out ≡ table (λ j. doubleOf (Answer j)) (rows p) ++ drop (rows p) out₀)
-      × (pr ≡ table (λ j. byteOf (Answer j)) (rows p) ++ drop (rows p) pr₀) × (drop need work ≡ drop need work₀)
-  row-done {k = k} row h = let u = row .standing .upto in let e : k ≡ rows p = omega arith in rw (← e) (row .out-is, row .pr-is, row .work-rest)
 
 -- whether a row moves the window, by the tests in the code's order
 pub moves-long : (mapped : Bool) (minPeriods k s e : ℕ) → minPeriods ≤ e - s → true ≡ moves mapped minPeriods k s e

@@ -1,8 +1,9 @@
--- In document 01's order: places, the window over any moment, readings, rows, refusals; last what the code's own invariants say of
--- memory.
+-- In document 01's order: places, the window over any moment, readings and what else a call may be given, rows, the lists that a call is
+-- lent; apart from them what only the code needs.
 pub mod Places
 pub mod Window
 pub mod Readings
+pub mod Given
 pub mod Rows
-pub mod Refusals
-pub mod Stacks
+pub mod Outputs
+pub mod Code

@@ -1,31 +1,12 @@
--- Document 01, Rows (002, 003): which rows move the window, and each row's answer. A row is the paper's term for one window of a
--- plan, a plan for the list of windows. Assumes nothing.
+-- Document 01, Rows (002, 003): which rows move the window, and each row's answer. Assumes nothing.
 use Prim.Native.Nat.{ℕ, zero, suc, _-_}
 use mathlib.Core.Bool.{Bool, cond, _||_}
-use mathlib.Core.List.{List, [], _∷_, _++_}
 use lib.Dec.{leb, eqb}
-use lib.ListN.{length, getD}
 use Rattle.moment.specs.declared.Figure.{Figure}
 use Rattle.moment.specs.declared.Figure.the-variants.{Missing}
-use Rattle.window.specs.Places.{Series, validCount}
+use Rattle.plan.specs.Plan.{Plan, rowStart, rowEnd}
+use Rattle.window.specs.Places.{Places, Series, validCount}
 use Rattle.window.specs.Window.{Account, fresh, moved, Moment, figureOf}
-
--- "A plan is two lists of equal length, starts and ends"
-pub record Plan : Type 0 where
-  pub starts : List ℕ
-  pub ends : List ℕ
-
--- how many rows a plan has
-abbrev pub rows : Plan → ℕ
-rows p = length (p .starts)
-
--- "a row's window holds places start .."
-abbrev pub rowStart : Plan → ℕ → ℕ
-rowStart p k = getD (p .starts) k 0
-
--- ".. up to but not including end"
-abbrev pub rowEnd : Plan → ℕ → ℕ
-rowEnd p k = getD (p .ends) k 0
 
 -- Whether row k, from s up to e, moves the window. "With a map, every row moves the window .. Without one, a row shorter than the
 -- minimum .. doesn't move the window, except that row 0 always has."
@@ -42,21 +23,16 @@ accountAt valid mapped minPeriods p zero = fresh
 accountAt valid mapped minPeriods p (suc k) = stepped valid mapped minPeriods k (rowStart p k) (rowEnd p k) (accountAt valid mapped minPeriods p k)
 
 -- what the minimum is compared with: with a map the valid count, without one the row's length
-abbrev pub counted : {A : Type 0} → Series A → ℕ → ℕ → ℕ
+abbrev pub counted : Places → ℕ → ℕ → ℕ
 counted t s e = cond (t .mapped) (validCount t s e) (e - s)
 
 -- the answer of a row from s up to e, with the account after its move
-unfoldable pub answerOf : (M : Moment) → (M .State → Figure) → Series (M .Entry) → ℕ → ℕ → ℕ → Account → Figure
+unfoldable pub answerOf : {A : Type 0} → (M : Moment A) → (M .State → Figure) → Series A → ℕ → ℕ → ℕ → Account → Figure
 unfolding figureOf
-answerOf M final t minPeriods s e a = cond (leb minPeriods (counted t s e)) (figureOf M final t a) Missing
+answerOf M final t minPeriods s e a = cond (leb minPeriods (counted (t .places) s e)) (figureOf M final t a) Missing
 
 -- row k's answer: "The account yields this figure, or missing where `finalize` or Rows says so."
-unfoldable pub answerAt : (M : Moment) → (M .State → Figure) → Series (M .Entry) → ℕ → Plan → ℕ → Figure
+unfoldable pub answerAt : {A : Type 0} → (M : Moment A) → (M .State → Figure) → Series A → ℕ → Plan → ℕ → Figure
 unfolding answerOf accountAt
 answerAt M final t minPeriods p k =
-    answerOf M final t minPeriods (rowStart p k) (rowEnd p k) (accountAt (t .valid) (t .mapped) minPeriods p (suc k))
-
--- the first n values of f
-unfoldable pub table : {A : Type 0} → (ℕ → A) → ℕ → List A
-table f zero = []
-table f (suc n) = table f n ++ (f n ∷ [])
+    answerOf M final t minPeriods (rowStart p k) (rowEnd p k) (accountAt (t .places .valid) (t .places .mapped) minPeriods p (suc k))

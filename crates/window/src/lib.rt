@@ -2,7 +2,8 @@
 // proofs/), and the leaves that every moment shares. Every function is total, so that the crates above share them.
 ghost use mathlib.Core.Path.{_≡_};
 ghost use Rattle.window.specs.Window.{orNan};
-ghost use Rattle.window.specs.Refusals.{rowRefusal};
+ghost use Rattle.window.specs.Code.Stacks.{emptyAt, grown};
+ghost use Rattle.window.specs.Code.Filling.{Writes};
 use moment::Figure;
 
 // The split account (start, end, split), with how many entries stand in each stack and how many in the window are not finite.
@@ -13,6 +14,36 @@ pub struct Window {
     pub front: usize,
     pub back: usize,
     pub nonfinite: usize,
+}
+
+impl Window {
+    // An empty window that starts at a place; fresh at 0.
+    pub fn empty_at(start: usize) -> Window
+        ensures { λ r. ⌜ r ≡ emptyAt start ⌝ }
+    {
+        Window {
+            start,
+            end: start,
+            split: start,
+            front: 0,
+            back: 0,
+            nonfinite: 0,
+        }
+    }
+
+    // The window that ends later, with so many entries in its back stack, and so many in it that are not finite.
+    pub fn extended(self, end: usize, back: usize, nonfinite: usize) -> Window
+        ensures { λ r. ⌜ r ≡ grown self end back nonfinite ⌝ }
+    {
+        Window {
+            start: self.start,
+            end,
+            split: self.split,
+            front: self.front,
+            back,
+            nonfinite,
+        }
+    }
 }
 
 // NaN for a present figure where the window holds what is not finite.
@@ -28,27 +59,23 @@ pub fn or_nan(figure: Figure, nonfinite: usize) -> Figure
     Figure::Present(0.0 / 0.0)
 }
 
-// What refuses a row of a plan over n places after the row before: 5, 6, 7, or 0.
-pub fn row_refusal(
-    n: usize,
-    before_start: usize,
-    before_end: usize,
-    start: usize,
-    end: usize,
-) -> u32
-    ensures { λ r. ⌜ r ≡ rowRefusal n «before_start» «before_end» start end ⌝ }
+// A row's answer, where both lists have the row. A NaN is written as the one pattern 7FF8000000000000, in a branch of its own: a chosen
+// value costs more here than the branch.
+pub fn write(figures: &mut [f64], present: &mut [u8], row: usize, figure: Figure)
+    ensures { λ _. ⌜ Writes row figure figures present ⌝ }
 {
-    if start > end {
-        return 5;
+    if plan::shorter(figures.len(), present.len()) <= row {
+        return;
     }
-    if end > n {
-        return 6;
+    let Figure::Present(x) = figure else {
+        figures[row] = 0.0;
+        present[row] = 0;
+        return;
+    };
+    present[row] = 1;
+    if x == x {
+        figures[row] = x;
+        return;
     }
-    if start < before_start {
-        return 7;
-    }
-    if end < before_end {
-        return 7;
-    }
-    0
+    figures[row] = 0.0 / 0.0;
 }

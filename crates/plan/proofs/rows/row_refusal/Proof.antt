@@ -1,0 +1,30 @@
+-- By the tests in their order. Assumes nothing.
+use borrow.Author.Tests.{lt-ltb, le-ltb}
+use Rattle.plan.specs.Refusals.{rowRefusal}
+use Rattle.plan.proofs.rows.row_refusal.Statement.{statement}
+use Rattle.plan.proofs.rows.row_refusal.Tie as tie
+
+returns : tie.Need-returns
+unfolding rowRefusal
+returns c = rw (lt-ltb _ _ (c .if1 .taken))
+
+returns-2 : tie.Need-returns-2
+unfolding rowRefusal
+returns-2 c = rw (le-ltb _ _ (c .before .if1 .left), lt-ltb _ _ (c .if2 .taken))
+
+returns-3 : tie.Need-returns-3
+unfolding rowRefusal
+returns-3 c = rw (le-ltb _ _ (c .before .before .if1 .left), le-ltb _ _ (c .before .if2 .left), lt-ltb _ _ (c .if3 .taken))
+
+returns-4 : tie.Need-returns-4
+unfolding rowRefusal
+returns-4 c =
+    rw (le-ltb _ _ (c .before .before .before .if1 .left), le-ltb _ _ (c .before .before .if2 .left), le-ltb _ _ (c .before .if3 .left), lt-ltb _ _ (c .if4 .taken))
+
+returns-5 : tie.Need-returns-5
+unfolding rowRefusal
+returns-5 c =
+    rw (le-ltb _ _ (c .before .before .before .if1 .left), le-ltb _ _ (c .before .before .if2 .left), le-ltb _ _ (c .before .if3 .left), le-ltb _ _ (c .if4 .left))
+
+pub row-refusal-spec : {M : Type 1} → statement M
+row-refusal-spec = tie.close (tie.spec returns returns-2 returns-3 returns-4 returns-5)

@@ -1,0 +1,43 @@
+-- What the code knows of a plan that is accepted. Assumes nothing.
+use Prim.Native.Nat.{ℕ, _+_, _*_, _≤_, _<_}
+use mathlib.Core.Path.{_≡_}
+use mathlib.Core.Bool.{Bool, false}
+use lib.ListN.{length}
+use Rattle.plan.specs.Plan.{Plan, rows, rowStart, rowEnd}
+use Rattle.plan.specs.Bounds.{bounds}
+use Rattle.plan.specs.Refusals.{rowsRefusal, widest, planRefusal, fixedRefusal}
+
+-- an accepted plan over n places, with no window wider than `wide`
+pub record Planned (n wide : ℕ) (p : Plan) : Type 0 where
+  pub same : length (p .starts) ≡ length (p .ends)
+  pub row : (k : ℕ) → k < rows p → (rowStart p k ≤ rowEnd p k) × (rowEnd p k ≤ n) × (rowEnd p k ≤ rowStart p k + wide)
+  pub rising : (j k : ℕ) → j ≤ k → k < rows p → (rowStart p j ≤ rowStart p k) × (rowEnd p j ≤ rowEnd p k)
+
+-- a call that is accepted, whose widest window has `wide` places
+pub record Accepted (given : ℕ) (p : Plan) (n : ℕ) (short : Bool) (outputs width work wide : ℕ) : Type 0 where
+  pub given-is : given ≡ 0
+  pub plan : Planned n wide p
+  pub wide-is : wide ≡ widest p (rows p)
+  pub narrow : wide ≤ n
+  pub readings-fit : short ≡ false
+  pub outputs-fit : rows p ≤ outputs
+  pub work-fits : width * wide ≤ work
+
+-- what a check of a call answers: its number, and where that is 0 the widest window
+pub record Checks (given : ℕ) (p : Plan) (n : ℕ) (short : Bool) (outputs width work number wide : ℕ) : Type 0 where
+  pub number-is : number ≡ planRefusal given p n short outputs width work
+  pub accepted : number ≡ 0 → Accepted given p n short outputs width work wide
+
+-- the same for fixed windows, trailing and centred
+pub record ChecksFixed (given n size outputs width work number wide : ℕ) : Type 0 where
+  pub number-is : number ≡ fixedRefusal given n size outputs width work
+  pub accepted : number ≡ 0 → (center : Bool) → Accepted given (bounds center size n) n false outputs width work wide
+
+-- what a scan of a plan's rows answers: their number, and where that is 0 the widest window
+pub record Scans (n : ℕ) (p : Plan) (number wide : ℕ) : Type 0 where
+  pub number-is : number ≡ rowsRefusal n p (rows p)
+  pub wide-is : number ≡ 0 → wide ≡ widest p (rows p)
+
+-- what the tests of all rows answer: where none fails, none is refused, and the widest window
+pub record Tests (n : ℕ) (p : Plan) (refused : Bool) (wide : ℕ) : Type 0 where
+  pub passed : refused ≡ false → (rowsRefusal n p (rows p) ≡ 0) × (wide ≡ widest p (rows p))

@@ -1,0 +1,5 @@
+-- What only the code needs of the three moments: its contracts cite it, and no promise rests on it.
+pub mod Layouts
+pub mod Weighed
+pub mod Rows
+pub mod Slots

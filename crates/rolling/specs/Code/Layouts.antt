@@ -1,0 +1,59 @@
+-- How the states of the three moments lie on the front stack: their members in the source's order. Assumes nothing.
+use mathlib.Core.Path.{refl}
+use mathlib.Core.List.{[], _∷_}
+use lib.ListN.{getD}
+use lib.Ieee.{Float, nan}
+use Rattle.moment.specs.declared.var_state.VarState.{VarState}
+use Rattle.moment.specs.declared.skew_state.SkewState.{SkewState}
+use Rattle.moment.specs.declared.kurtosis_state.KurtosisState.{KurtosisState}
+use Rattle.window.specs.Code.Memory.{Layout, Stored, ReadingStates, ofReadings}
+use Rattle.rolling.specs.Moments.{variance, skewness, kurtosis}
+
+abbrev pub varLayout : Layout Float VarState
+varLayout =
+    record {
+      width = 3;
+      store = λ s. s .weight ∷ s .mean ∷ s .dp ∷ [];
+      load = λ l. record { weight = getD l 0 nan; mean = getD l 1 nan; dp = getD l 2 nan };
+      stored = λ s. refl;
+      loaded = λ s rest. refl;
+    }
+
+abbrev pub skewLayout : Layout Float SkewState
+skewLayout =
+    record {
+      width = 4;
+      store = λ s. s .weight ∷ s .mean ∷ s .m2 ∷ s .m3 ∷ [];
+      load = λ l. record { weight = getD l 0 nan; mean = getD l 1 nan; m2 = getD l 2 nan; m3 = getD l 3 nan };
+      stored = λ s. refl;
+      loaded = λ s rest. refl;
+    }
+
+abbrev pub kurtosisLayout : Layout Float KurtosisState
+kurtosisLayout =
+    record {
+      width = 5;
+      store = λ s. s .weight ∷ s .mean ∷ s .m2 ∷ s .m3 ∷ s .m4 ∷ [];
+      load = λ l. record { weight = getD l 0 nan; mean = getD l 1 nan; m2 = getD l 2 nan; m3 = getD l 3 nan; m4 = getD l 4 nan };
+      stored = λ s. refl;
+      loaded = λ s rest. refl;
+    }
+
+abbrev pub varStates : ReadingStates
+varStates = record { moment = variance; inFront = varLayout }
+
+abbrev pub skewStates : ReadingStates
+skewStates = record { moment = skewness; inFront = skewLayout }
+
+abbrev pub kurtosisStates : ReadingStates
+kurtosisStates = record { moment = kurtosis; inFront = kurtosisLayout }
+
+-- each with readings on the back stack
+abbrev pub varStored : Stored Float Float
+varStored = ofReadings varStates
+
+abbrev pub skewStored : Stored Float Float
+skewStored = ofReadings skewStates
+
+abbrev pub kurtosisStored : Stored Float Float
+kurtosisStored = ofReadings kurtosisStates

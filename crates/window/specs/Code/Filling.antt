@@ -1,0 +1,29 @@
+-- A list that is filled row by row, as the loops over rows keep it. Assumes nothing.
+use Prim.Native.Nat.{ℕ, _≤_, min}
+use mathlib.Core.Path.{_≡_}
+use mathlib.Core.Bool.{Bool, cond}
+use mathlib.Core.List.{List, _++_}
+use lib.Dec.{ltb}
+use lib.ListN.{length, drop, set}
+use lib.Ieee.{Float}
+use Rattle.float.specs.Tables.{table}
+use Rattle.trace.specs.Slices.{Slice, entering, leaving}
+use Rattle.moment.specs.Figure.{doubleOf, byteOf}
+use Rattle.moment.specs.declared.Figure.{Figure}
+
+-- filled up to row k, over what it held
+pub record Upto {A : Type 0} (f : ℕ → A) (l₀ l : List A) (k : ℕ) : Type 0 where
+  pub long : length l ≡ length l₀
+  pub is : l ≡ table f k ++ drop k l₀
+
+-- rows from `first` up to `until` are written: where those before `first` are, over any list, those before `until` are
+abbrev pub Fills : {A : Type 0} → (ℕ → A) → ℕ → ℕ → List A → List A → Type 0
+Fills {A} f first until l₀ l₁ = (l : List A) → until ≤ length l → Upto f l l₀ first → Upto f l l₁ until
+
+-- a row's answer in two lists, where both have the row
+pub record Wrote (row : ℕ) (f : Figure) (figures₀ figures : List Float) (present₀ present : List ℕ) : Type 0 where
+  pub figures-are : figures ≡ cond (ltb row (min (length figures₀) (length present₀))) (set figures₀ row (doubleOf f)) figures₀
+  pub present-are : present ≡ cond (ltb row (min (length figures₀) (length present₀))) (set present₀ row (byteOf f)) present₀
+
+abbrev pub Writes : ℕ → Figure → Slice Float → Slice ℕ → Type 0
+Writes row f figures present = Wrote row f (entering figures) (leaving figures) (entering present) (leaving present)
