@@ -1,7 +1,7 @@
 -- The rows of a plan of skewness, a block at a time: the window goes from row to row, bytes are written, and the rows' slots come to
 -- the doubles of their answers. Assumes nothing.
-use Prim.Native.Nat.{ℕ, _+_, _-_, _*_, _≤_, _<_}
-use mathlib.Core.Path.{_≡_, refl, sym, ap, _∙_}
+use Prim.Native.Nat.{ℕ, _+_, _-_, _*_, _^_, _≤_, _<_}
+use mathlib.Core.Path.{_≡_, refl, sym, ap, _∙_, subst}
 use mathlib.Core.Bool.{Bool, true, false, cond}
 use mathlib.Core.List.{List, _++_}
 use native.Mathlib.Omega.{arith}
@@ -9,122 +9,207 @@ use borrow.Author.Tests.{eqb-true, eqb-false}
 use lib.Dec.{eqb}
 use lib.ListN.{length, set, take, drop, getD, length-set, length-append, length-take, length-drop}
 use lib.Ieee.{Float, nan}
+use Rattle.float.specs.Tables.{table}
+use Rattle.float.proofs.Tables.{table-length}
 use Rattle.root.specs.Root.{root}
 use Rattle.moment.specs.Figure.{doubleOf, byteOf}
 use Rattle.moment.specs.declared.Figure.{Figure}
 use Rattle.moment.specs.declared.skew_state.SkewState.{SkewState}
 use Rattle.moment.specs.Skew.{skewFinalize}
+use Rattle.plan.specs.Plan.{Plan, rows}
 use Rattle.window.specs.Places.{Series}
-use Rattle.window.specs.Rows.{Plan, rows, table}
-use Rattle.window.specs.Readings.{ofReadings}
-use Rattle.window.specs.Stacks.{Standing}
+use Rattle.window.specs.Readings.{series}
+use Rattle.window.specs.Code.Stacks.{emptyAt, answerBy, Movable, Stepped}
+use Rattle.window.specs.Code.Filling.{Fills}
 use Rattle.window.specs.declared.Window.{Window}
-use Rattle.window.proofs.Rows.{Row}
-use Rattle.window.proofs.Tables.{table-length, table-more, table-part}
-use Rattle.rolling.specs.Moments.{skewness}
-use Rattle.rolling.specs.Slots.{Corrections, estimate, doubleAt, Waits, rowAnswer, BlockFilled}
+use Rattle.window.proofs.Outputs.{fills-none, fills-next, fills-both, fills-part}
+use Rattle.window.proofs.Steps.{Working, work-starts, work-done, work-listed, work-movable, work-fits, work-next, work-answer}
+use Rattle.rolling.specs.Code.Layouts.{skewStored}
+use Rattle.rolling.specs.Code.Rows.{planBy, RowIn, RowBounds, Driven, rowAnswer, HasWorked, Works}
+use Rattle.rolling.specs.Code.Slots.{Corrections, estimate, doubleAt, SlotFree, SlotHolds, Slots, CanFill, BlockFilled}
+use Rattle.rolling.specs.declared.row.Rows.{Rows}
 use Rattle.rolling.proofs.Slots.{set-at}
+use Rattle.rolling.proofs.RowLoops.{rows-can}
 
-module _ (bias : Bool) (t : Series Float) (minPeriods n widest : ℕ) (p : Plan) where
+module _ (bias has : Bool) (map : List ℕ) (values : List Float) (r : Rows) (starts ends : List ℕ) where
+  abbrev t : Series Float
+  t = series has map values
+
+  abbrev p : Plan
+  p = planBy r (length values) starts ends
+
   abbrev Answer : ℕ → Figure
-  Answer k = rowAnswer bias t minPeriods p k
+  Answer k = rowAnswer skewStored (λ z. skewFinalize z bias) has map values r starts ends k
 
-  -- before the block's first row
-  pub filled-start : {first : ℕ} {work : List Float} {present : List ℕ} {w : Window} {agg : SkewState} {counts : List ℕ} {corrections m2s m3s factors : List Float} →
-      Standing (ofReadings skewness) t minPeriods n widest p w agg work first → Corrections counts corrections → length m2s ≡ 32 → length m3s ≡ 32 → length factors ≡ 32 →
-      BlockFilled bias t minPeriods n widest p first work work present present w agg counts corrections m2s m3s factors first
-  filled-start stand c x y z =
-      record {
-        standing = stand;
-        work-same = refl;
-        work-rest = refl;
-        present-same = refl;
-        bytes = λ l h e. e;
-        kept = c;
-        m2s-long = x;
-        m3s-long = y;
-        factors-long = z;
-        slots = λ j g h. absurd (omega arith);
-      }
+  -- ---- the turns of a block
+  module _ (first until : ℕ) (work₀ : List Float) (present₀ : List ℕ) where
+    -- where the rows from `first` up to row k are worked, their bytes written and their slots held
+    pub record BlockTurn (w : Window) (agg : SkewState) (work : List Float) (present counts : List ℕ) (corrections m2s m3s factors : List Float) (k : ℕ) : Type 0 where
+      pub working : Working skewStored t (r .«min_periods») (length values) (r .widest) p first until work₀ w agg work k
+      pub present-same : length present ≡ length present₀
+      pub bytes : Fills (λ j. byteOf (Answer j)) first k present₀ present
+      pub slots : Slots counts corrections m2s m3s factors
+      pub doubles : (j : ℕ) → first ≤ j → j < k → doubleAt bias m2s m3s factors (j - first) ≡ doubleOf (Answer j)
 
-  -- one row more: the window after its step, its byte and its slot
-  pub filled-next : {first k byte : ℕ} {work₀ work work' : List Float} {present₀ present : List ℕ} {w w' : Window} {agg agg' : SkewState} {counts counts' : List ℕ}
-      {corrections corrections' m2s m3s factors m2s' m3s' factors' : List Float} {f : Figure} →
-      BlockFilled bias t minPeriods n widest p first work₀ work present₀ present w agg counts corrections m2s m3s factors k → first ≤ k → k - first < 32 → k < rows p →
-      Standing (ofReadings skewness) t minPeriods n widest p w' agg' work' (k + 1) → length work' ≡ length work → drop (5 * widest) work' ≡ drop (5 * widest) work →
-      Waits bias f (k - first) byte m2s m3s factors m2s' m3s' factors' → f ≡ Answer k → Corrections counts' corrections' →
-      BlockFilled bias t minPeriods n widest p first work₀ work' present₀ (set present k byte) w' agg' counts' corrections' m2s' m3s' factors' (k + 1)
-  filled-next {first} {k} {byte} {present = present} {m2s = m2s} {m3s = m3s} {factors = factors} {m2s' = m2s'} {m3s' = m3s'} {factors' = factors'} {f = f} v g h more stand len rest q e c =
-      record {
-        standing = stand;
-        work-same = len ∙ v .work-same;
-        work-rest = rest ∙ v .work-rest;
-        present-same = simp length-set (v .present-same);
-        bytes = λ l fits old. rw (v .bytes l fits old) (table-more (λ j. byteOf (Answer j)) l k byte (q .byte-is ∙ ap byteOf e) (omega arith));
-        kept = c;
-        m2s-long = ap length (q .m2-at) ∙ simp length-set (v .m2s-long);
-        m3s-long = ap length (q .m3-at) ∙ simp length-set (v .m3s-long);
-        factors-long = ap length (q .factor-at) ∙ simp length-set (v .factors-long);
-        slots = λ j i l.
-            let x = v .m2s-long in
-            let y = v .m3s-long in
-            let z = v .factors-long in
-            rw (
-              q .m2-at,
-              q .m3-at,
-              q .factor-at,
-              set-at m2s (k - first) (j - first) (q .m2) nan (omega arith),
-              set-at m3s (k - first) (j - first) (q .m3) nan (omega arith),
-              set-at factors (k - first) (j - first) (q .factor) nan (omega arith),
-            )
-            (at j i l (eqb (j - first) (k - first)) refl);
-      }
-    where
-      at : (j : ℕ) → first ≤ j → j < k + 1 → (b : Bool) → eqb (j - first) (k - first) ≡ b →
-          estimate bias (cond b (q .m2) (getD m2s (j - first) nan)) (cond b (q .m3) (getD m3s (j - first) nan)) (cond b (q .factor) (getD factors (j - first) nan)) (root (cond b (q .m2) (getD m2s (j - first) nan))) ≡ doubleOf (Answer j)
-      at j i l true y =
-          let o = eqb-true (j - first) (k - first) y in
-          let z : j ≡ k = omega arith in
-          rw z (q .double-is ∙ ap doubleOf e)
-      at j i l false y =
-          let o = eqb-false (j - first) (k - first) y in
-          let z : j ≡ k → ⊥ = λ x. o (ap (λ (m : ℕ). m - first) x) in
-          v .slots j i (omega arith)
+    module _ {w₀ : Window} {agg₀ : SkewState} {outputs : ℕ} {counts₀ : List ℕ} {corrections₀ m2s₀ m3s₀ factors₀ : List Float}
+        (can : CanFill has map values r starts ends outputs first until w₀ agg₀ work₀ counts₀ corrections₀ m2s₀ m3s₀ factors₀) where
+      pub block-starts : BlockTurn w₀ agg₀ work₀ present₀ counts₀ corrections₀ m2s₀ m3s₀ factors₀ first
+      block-starts =
+          record {
+            working = work-starts skewStored t (can .can);
+            present-same = refl;
+            bytes = fills-none (λ j. byteOf (Answer j)) first present₀;
+            slots = can .slots;
+            doubles = λ j g h. absurd (omega arith);
+          }
 
-  -- the doubles of a block's slots, written behind those of the rows before it
-  written : (out₀ out₁ out r m2s m3s factors : List Float) (first until : ℕ) → first ≤ until → until ≤ rows p → rows p ≤ length out₀ →
-      out₁ ≡ table (λ j. doubleOf (Answer j)) first ++ drop first out₀ →
-      ((j : ℕ) → first ≤ j → j < until → doubleAt bias m2s m3s factors (j - first) ≡ doubleOf (Answer j)) →
-      r ≡ table (doubleAt bias m2s m3s factors) (until - first) → out ≡ take first out₁ ++ (r ++ drop (until - first) (drop first out₁)) →
-      out ≡ table (λ j. doubleOf (Answer j)) until ++ drop until out₀
-  written out₀ out₁ out r m2s m3s factors first until a b h e slots g o =
-      o
-      ∙ table-part (λ j. doubleOf (Answer j)) (doubleAt bias m2s m3s factors) out₀ out₁ r first until a e
-      (λ i k.
-      let z : first + i - first ≡ i = omega arith in
-      ap (doubleAt bias m2s m3s factors) (sym z) ∙ slots (first + i) (omega arith) (omega arith))
-      g
+      module _ {w : Window} {agg : SkewState} {work : List Float} {present counts : List ℕ} {corrections m2s m3s factors : List Float} {k : ℕ}
+          (v : BlockTurn w agg work present counts corrections m2s m3s factors k) where
+        pub block-done : until ≤ k → BlockFilled bias has map values r starts ends first until work₀ present₀ w agg work present counts corrections m2s m3s factors
+        block-done h =
+            let u = v .working .high in
+            let e : k ≡ until = omega arith in
+            subst (λ (i : ℕ). BlockFilled bias has map values r starts ends first i work₀ present₀ w agg work present counts corrections m2s m3s factors) e
+            (record { worked = v .working .worked; bytes = v .bytes; slots = v .slots; doubles = v .doubles })
 
-  abbrev RowOf : (work₀ out₀ : List Float) (pr₀ : List ℕ) (work out : List Float) (pr : List ℕ) (w : Window) (agg : SkewState) (k : ℕ) → Type 0
-  RowOf work₀ out₀ pr₀ work out pr w agg k =
-      Row (ofReadings skewness) (λ z. skewFinalize z bias) t minPeriods n widest p work₀ out₀ pr₀ (5 * widest) work out pr w agg k
+        module _ (more : k < until) where
+          pub block-row : RowIn r (length values) starts ends k
+          block-row = record { same = can .can .plan .same; listed = work-listed skewStored t (can .can) (v .working) more }
 
-  -- a block done, and its doubles written
-  pub block-next : {work₀ work₁ work out₀ out₁ out r corrections m2s m3s factors : List Float} {pr₀ pr₁ pr counts : List ℕ} {v w : Window} {a agg : SkewState} {first until : ℕ} →
-      RowOf work₀ out₀ pr₀ work₁ out₁ pr₁ v a first → BlockFilled bias t minPeriods n widest p first work₁ work pr₁ pr w agg counts corrections m2s m3s factors until → first ≤ until →
-      rows p ≤ length out₀ → rows p ≤ length pr₀ → r ≡ table (doubleAt bias m2s m3s factors) (length (take (until - first) (drop first out₁))) →
-      out ≡ take first out₁ ++ (r ++ drop (until - first) (drop first out₁)) → RowOf work₀ out₀ pr₀ work out pr w agg until
-  block-next {out₀ = out₀} {out₁ = out₁} {out = out} {r = r} {m2s = m2s} {m3s = m3s} {factors = factors} {pr₀ = pr₀} {first = first} {until = until} o f h ho hp g e =
-      let u = f .standing .upto in
-      let q = o .out-same in
-      let m : length (take (until - first) (drop first out₁)) ≡ until - first = rw (length-take, length-drop) (omega arith) in
-      let d = written out₀ out₁ out r m2s m3s factors first until h u ho (o .out-is) (f .slots) (g ∙ ap (table (doubleAt bias m2s m3s factors)) m) e in
-      record {
-        standing = f .standing;
-        work-same = f .work-same ∙ o .work-same;
-        work-rest = f .work-rest ∙ o .work-rest;
-        out-same = ap length d ∙ simp (length-append, length-drop) (omega (arith, table-length (λ j. doubleOf (Answer j)) until));
-        out-is = d;
-        pr-same = f .present-same ∙ o .pr-same;
-        pr-is = f .bytes pr₀ hp (o .pr-is);
-      }
+          pub block-slot : SlotFree (k - first) m2s m3s factors
+          block-slot =
+              let s = can .short in
+              let l = v .working .low in
+              let x = v .slots .m2s-long in
+              let y = v .slots .m3s-long in
+              let z = v .slots .factors-long in
+              record { m2-in = omega arith; m3-in = omega arith; factor-in = omega arith }
+
+          module _ {s e : ℕ} (b : RowBounds p k s e) where
+            pub block-movable : Movable skewStored t s e (length values) (r .widest) w agg work
+            block-movable = work-movable skewStored t (can .can) (v .working) more (b .start-is) (b .end-is)
+
+            module _ {w' : Window} {agg' : SkewState} {work' : List Float}
+                (q : Stepped skewStored t (r .widest) (r .«min_periods») k s e w work w' agg' work') (same : length work' ≡ length work) where
+              pub block-fits : (4 * w' .front ≤ length work') × (w' .front + w' .back ≤ 2 ^ 53) × (s ≤ e)
+              block-fits = work-fits skewStored t (can .can) (v .working) more (b .start-is) (b .end-is) q same
+
+              pub block-next : {byte : ℕ} {counts' : List ℕ} {corrections' m2s' m3s' factors' : List Float}
+                  → SlotHolds bias (answerBy skewStored (λ z. skewFinalize z bias) has (r .«min_periods») s e w' agg' work') (k - first) byte m2s m3s factors m2s' m3s' factors'
+                  → Corrections counts' corrections' → BlockTurn w' agg' work' (set present k byte) counts' corrections' m2s' m3s' factors' (k + 1)
+              block-next {byte} {m2s' = m2s'} {m3s' = m3s'} {factors' = factors'} o c =
+                  let a = work-answer skewStored t (can .can) (v .working) more (b .start-is) (b .end-is) q same (λ z. skewFinalize z bias) refl in
+                  let l = v .working .low in
+                  let f = block-slot in
+                  record {
+                    working = work-next skewStored t (can .can) (v .working) more (b .start-is) (b .end-is) q same;
+                    present-same = length-set present k byte ∙ v .present-same;
+                    bytes = fills-next (λ j. byteOf (Answer j)) first k present₀ present (set present k byte) byte (v .bytes) (o .byte-is ∙ ap byteOf a) refl;
+                    slots = record {
+                      kept = c;
+                      m2s-long = ap length (o .m2-at) ∙ length-set m2s (k - first) (o .m2) ∙ v .slots .m2s-long;
+                      m3s-long = ap length (o .m3-at) ∙ length-set m3s (k - first) (o .m3) ∙ v .slots .m3s-long;
+                      factors-long = ap length (o .factor-at) ∙ length-set factors (k - first) (o .factor) ∙ v .slots .factors-long;
+                    };
+                    doubles = λ j i h.
+                        rw (
+                          o .m2-at,
+                          o .m3-at,
+                          o .factor-at,
+                          set-at m2s (k - first) (j - first) (o .m2) nan (f .m2-in),
+                          set-at m3s (k - first) (j - first) (o .m3) nan (f .m3-in),
+                          set-at factors (k - first) (j - first) (o .factor) nan (f .factor-in),
+                        )
+                        (at j i h (eqb (j - first) (k - first)) refl a);
+                  }
+                where
+                  at : (j : ℕ) → first ≤ j → j < k + 1 → (b : Bool) → eqb (j - first) (k - first) ≡ b
+                      → answerBy skewStored (λ z. skewFinalize z bias) has (r .«min_periods») s e w' agg' work' ≡ Answer k
+                      → estimate bias (cond b (o .m2) (getD m2s (j - first) nan)) (cond b (o .m3) (getD m3s (j - first) nan)) (cond b (o .factor) (getD factors (j - first) nan))
+                      (root (cond b (o .m2) (getD m2s (j - first) nan))) ≡ doubleOf (Answer j)
+                  at j i h true y a =
+                      let low = v .working .low in
+                      let n = eqb-true (j - first) (k - first) y in
+                      let z : j ≡ k = omega arith in
+                      rw z (o .double-is ∙ ap doubleOf a)
+                  at j i h false y a =
+                      let n = eqb-false (j - first) (k - first) y in
+                      let z : j ≡ k → ⊥ = λ x. n (ap (λ (m : ℕ). m - first) x) in
+                      v .doubles j i (omega arith)
+
+  -- ---- block after block
+  module _ (work₀ figures₀ : List Float) (present₀ : List ℕ) where
+    -- where the rows before `first` are worked and their answers written
+    pub record Blocks (w : Window) (agg : SkewState) (work figures : List Float) (present counts : List ℕ) (corrections m2s m3s factors roots : List Float) (first : ℕ) : Type 0 where
+      pub work-same : length work ≡ length work₀
+      pub figures-same : length figures ≡ length figures₀
+      pub present-same : length present ≡ length present₀
+      pub works : Works skewStored (λ z. skewFinalize z bias) has map values r starts ends 0 first work₀ figures₀ present₀ w agg work figures present
+      pub slots : Slots counts corrections m2s m3s factors
+      pub roots-long : length roots ≡ 32
+
+    module _ {outputs : ℕ} (d : Driven r (length values) starts ends outputs 5 (length work₀)) where
+      pub blocks-start : {w : Window} {agg : SkewState} → w ≡ emptyAt 0 → agg ≡ skewStored .moment .empty → {counts : List ℕ} {corrections m2s m3s factors roots : List Float}
+          → Slots counts corrections m2s m3s factors → length roots ≡ 32 → Blocks w agg work₀ figures₀ present₀ counts corrections m2s m3s factors roots 0
+      blocks-start g e s l =
+          record {
+            work-same = refl;
+            figures-same = refl;
+            present-same = refl;
+            works = record {
+              worked = record { standing = rows-can skewStored has map values r starts ends d g e refl .standing; rest = refl };
+              figures-are = fills-none (λ j. doubleOf (Answer j)) 0 figures₀;
+              present-are = fills-none (λ j. byteOf (Answer j)) 0 present₀;
+            };
+            slots = s;
+            roots-long = l;
+          }
+
+      module _ {w : Window} {agg : SkewState} {work figures : List Float} {present counts : List ℕ} {corrections m2s m3s factors roots : List Float} {first : ℕ}
+          (v : Blocks w agg work figures present counts corrections m2s m3s factors roots first) (until : ℕ) (rises : first ≤ until) (short : until ≤ first + 32) (listed : until ≤ rows p) where
+        pub blocks-can : {held : ℕ} → outputs ≤ held → CanFill has map values r starts ends held first until w agg work counts corrections m2s m3s factors
+        blocks-can h =
+            let o = d .outputs-fit in
+            let z = d .few in
+            let s = v .work-same in
+            let y = d .work-fits in
+            record {
+              can = record {
+                plan = d .plan;
+                standing = v .works .worked .standing;
+                rises = rises;
+                listed = listed;
+                outputs-fit = omega arith;
+                room = rw s y;
+                few = omega arith;
+              };
+              short = short;
+              slots = v .slots;
+            }
+
+        pub blocks-next : outputs ≤ length figures₀ → {w' : Window} {agg' : SkewState} {work' figures' out : List Float} {present' counts' : List ℕ} {corrections' m2s' m3s' factors' roots' : List Float}
+            → BlockFilled bias has map values r starts ends first until work present w' agg' work' present' counts' corrections' m2s' m3s' factors'
+            → length work' ≡ length work → length present' ≡ length present → length roots' ≡ length roots
+            → out ≡ table (doubleAt bias m2s' m3s' factors') (length (take (until - first) (drop first figures)))
+            → figures' ≡ take first figures ++ (out ++ drop (until - first) (drop first figures))
+            → Blocks w' agg' work' figures' present' counts' corrections' m2s' m3s' factors' roots' until
+        blocks-next fit {figures' = figures'} {out = out} {present' = present'} {m2s' = m2s'} {m3s' = m3s'} {factors' = factors'} f x y z g e =
+            let o = d .outputs-fit in
+            let q = v .figures-same in
+            let m : length (take (until - first) (drop first figures)) ≡ until - first = rw (length-take, length-drop) (omega arith) in
+            record {
+              work-same = x ∙ v .work-same;
+              figures-same = ap length e ∙ rw (length-append, length-append, g, m, table-length, length-take, length-drop, length-drop) (omega arith);
+              present-same = y ∙ v .present-same;
+              works = record {
+                worked = record { standing = f .worked .standing; rest = f .worked .rest ∙ v .works .worked .rest };
+                figures-are = fills-part (λ j. doubleOf (Answer j)) (doubleAt bias m2s' m3s' factors') 0 first until figures₀ figures figures' out rises (v .works .figures-are)
+                    (λ i k.
+                    let n : first + i - first ≡ i = omega arith in
+                    ap (doubleAt bias m2s' m3s' factors') (sym n) ∙ f .doubles (first + i) (omega arith) (omega arith))
+                    (g ∙ ap (table (doubleAt bias m2s' m3s' factors')) m) e;
+                present-are = fills-both (λ j. byteOf (Answer j)) 0 first until present₀ present present' rises (v .works .present-are) (f .bytes);
+              };
+              slots = f .slots;
+              roots-long = z ∙ v .roots-long;
+            }

@@ -1,51 +1,94 @@
--- The ends of a call: a refusal leaves every list as it was, and what is decoded is the trace. Assumes nothing.
-use Prim.Native.Nat.{ℕ, _≤_}
-use mathlib.Core.Path.{_≡_, sym, ap, _∙_, subst}
-use mathlib.Core.Bool.{Bool, false, not}
-use mathlib.Core.List.{List, _++_}
-use borrow.Author.Tests.{eq-eqb, ne-eqb, ltb-false}
-use lib.Dec.{eqb, ltb}
-use lib.ListN.{length, take}
-use lib.Seq.{length-take-le, take-at}
-use lib.Ieee.{Float}
-use Rattle.trace.specs.Refusals.{refusal, _orElse_}
-use Rattle.window.specs.Rows.{Plan, table}
-use Rattle.window.specs.Refusals.{filled, kept}
-use Rattle.window.specs.Stacks.{Accepted}
-use Rattle.window.proofs.Tables.{table-length}
-use Rattle.rolling.specs.Calls.{Trace, Ask, Lent, traceOf, Written}
+-- The ends of a call: a refusal leaves every list as it was, and an accepted call's rows are those of its plan. Assumes nothing.
+use Prim.Native.Nat.{ℕ, _-_, _*_, _≤_}
+use mathlib.Core.Path.{_≡_, refl, sym, ap, _∙_, subst}
+use mathlib.Core.Bool.{Bool, true, false}
+use mathlib.Core.List.{List}
+use borrow.Author.Tests.{ltb-false}
+use lib.Dec.{lit≤}
+use lib.ListN.{length}
+use Rattle.trace.specs.Trace.{Trace}
+use Rattle.trace.specs.Refusals.{traceRefusal}
+use Rattle.trace.proofs.Accepted.{none-of, not-refused}
+use Rattle.plan.specs.Plan.{Plan, rows}
+use Rattle.plan.specs.Bounds.{bounds}
+use Rattle.plan.specs.Refusals.{needed, planRefusal, fixedRefusal}
+use Rattle.plan.specs.Code.Accepted.{Accepted}
+use Rattle.plan.specs.Code.Reaching.{rightOf, reaching}
+use Rattle.plan.proofs.FixedWindows.{fixed-refusal, bounds-by}
+use Rattle.window.specs.Given.{Kind, Readings, Given, placesOf, givenRefusal}
+use Rattle.window.specs.Outputs.{Lent, shortestOutput}
+use Rattle.window.proofs.Outputs.{answered-refused, numbered-refused, work-refused}
+use Rattle.rolling.specs.Moments.{Statistic, kindOf, workWidth}
+use Rattle.rolling.specs.Calls.{Query, query, GivenTo, Fits, Left, Called, refusalOf, yields, tallies}
+use Rattle.rolling.specs.Fixed.{fixedQuery, CalledFixed}
+use Rattle.rolling.specs.Code.Rows.{planBy, Driven}
+use Rattle.rolling.specs.declared.row.Rows.{Rows}
 
-pub refused : (q : Ask) (t : Trace) (l : Lent) (number : ℕ) → (number ≡ 0 → ⊥) → Written q t l l number
-unfolding filled kept
-refused q t l number h =
-    record { figures-are = rw (ne-eqb number 0 h); present-are = rw (ne-eqb number 0 h); work-kept = rw (ne-eqb number 0 h) }
+-- what is given has no more places than a plan may have rows
+pub few-places : (kind : Kind) (t : Given kind) → givenRefusal kind t ≡ 0 → placesOf kind t ≤ 16777216
+few-places Readings t z = ltb-false _ _ (not-refused 1 _ (lit≤ tt) (none-of _ _ z .0))
 
-pub unfilled : {A : Type 0} (number : ℕ) (f : ℕ → A) (n : ℕ) (l : List A) → (number ≡ 0 → ⊥) → l ≡ filled number f n l
-unfolding filled
-unfilled number f n l h = rw (ne-eqb number 0 h)
+pub refused-left : (q : Query) (t : GivenTo q) (l : Lent) (number : ℕ) → Fits q t (l .outputs) → (number ≡ 0 → ⊥) → Left q t l l number
+refused-left q t l number f h =
+    record {
+      fits = f;
+      written = record { answers-are = answered-refused number (rows (q .plan)) (yields q t) (l .outputs .answers) h; counts-are = numbered-refused number (rows (q .plan)) (tallies q t) (l .outputs .counts) h };
+      work-kept = work-refused number (needed (workWidth (q .statistic)) (q .plan)) (l .work) h;
+    }
 
--- 14 before all
-pub odd-bytes : (rest b : ℕ) → (rest ≡ 0 → ⊥) → 14 ≡ refusal 14 (not (eqb rest 0)) orElse b
-unfolding refusal _orElse_
-odd-bytes rest b h = rw (ne-eqb rest 0 h)
+-- an accepted call drives its rows
+pub driven : (r : Rows) (t : Trace) (starts ends : List ℕ) {given outputs outputs′ width work : ℕ} → given ≡ traceRefusal t → outputs ≡ outputs′
+    → Accepted given (planBy r (length (t .readings)) starts ends) (length (t .readings)) false outputs width work (r .widest)
+    → Driven r (length (t .readings)) starts ends outputs′ width work
+driven r t starts ends g o a =
+    record {
+      plan = a .plan;
+      wide-is = a .wide-is;
+      outputs-fit = subst (λ (k : ℕ). rows (planBy r (length (t .readings)) starts ends) ≤ k) o (a .outputs-fit);
+      work-fits = a .work-fits;
+      few = few-places Readings t (sym g ∙ a .given-is);
+    }
 
-pub whole-bytes : (rest b : ℕ) → rest ≡ 0 → b ≡ refusal 14 (not (eqb rest 0)) orElse b
-unfolding refusal _orElse_
-whole-bytes rest b h = rw (eq-eqb rest 0 h)
+-- ---- a plan call, whose check is put together of its own numbers
+module _ (q : Query) (t : GivenTo q) (l : Lent) {number given outputs : ℕ} (given-is : given ≡ givenRefusal (kindOf (q .statistic)) t)
+    (outputs-is : outputs ≡ shortestOutput (l .outputs))
+    (number-is : number ≡ planRefusal given (q .plan) (placesOf (kindOf (q .statistic)) t) false outputs (workWidth (q .statistic)) (length (l .work))) where
+  checked : number ≡ refusalOf q t false l
+  checked = number-is ∙ rw (given-is, outputs-is)
 
--- ---- a trace that is decoded: the list m begins with its n readings
-module _ {each n : ℕ} {p : Plan} {room figures present work wide : ℕ} (a : Accepted each n p (ltb room n) figures present work wide) where
-  pub readings-room : n ≤ room
-  readings-room = ltb-false room n (a .readings-fit)
+  pub plan-refused : Fits q t (l .outputs) → (number ≡ 0 → ⊥) → Called q t l l number
+  plan-refused f h = record { number-is = checked; left = refused-left q t l number f h }
 
-  pub rows-accepted : (m : List Float) → length m ≡ room → Accepted each (length (take n m)) p false figures present work wide
-  rows-accepted m e =
-      let h = readings-room in
-      let o : n ≤ length m = rw e h in
-      subst (λ (k : ℕ). Accepted each k p false figures present work wide) (sym (length-take-le n m o))
-      (subst (λ (b : Bool). Accepted each n p b figures present work wide) (a .readings-fit) a)
+  pub plan-called : {l₁ : Lent} → number ≡ 0 → Left q t l l₁ 0 → Called q t l l₁ 0
+  plan-called z w = record { number-is = sym z ∙ checked; left = w }
 
-pub decoded-written : (q : Ask) (has : Bool) (map : List ℕ) (l₀ l₁ : Lent) (f : ℕ → Float) (n : ℕ) (rest m : List Float) → m ≡ table f n ++ rest →
-    Written q (traceOf (take n m) has map) l₀ l₁ 0 → Written q (traceOf (table f n) has map) l₀ l₁ 0
-decoded-written q has map l₀ l₁ f n rest m e w =
-    subst (λ (l : List Float). Written q (traceOf l has map) l₀ l₁ 0) (ap (take n) e ∙ take-at (table f n) rest n (table-length f n)) w
+-- ---- a call with fixed windows
+module _ (center : Bool) (size minPeriods : ℕ) (a : Statistic) (t : Given (kindOf a)) (l : Lent) where
+  abbrev n : ℕ
+  n = placesOf (kindOf a) t
+
+  abbrev Number : ℕ
+  Number = fixedRefusal (givenRefusal (kindOf a) t) n size (shortestOutput (l .outputs)) (workWidth a) (length (l .work))
+
+  abbrev as-plan : Number ≡ refusalOf (fixedQuery center size minPeriods a t) t false l
+  as-plan = fixed-refusal center size n (givenRefusal (kindOf a) t) (shortestOutput (l .outputs)) (workWidth a) (length (l .work)) (few-places (kindOf a) t)
+
+  module _ {number given outputs : ℕ} (given-is : given ≡ givenRefusal (kindOf a) t) (outputs-is : outputs ≡ shortestOutput (l .outputs))
+      (number-is : number ≡ fixedRefusal given n size outputs (workWidth a) (length (l .work))) where
+    told : number ≡ Number
+    told = number-is ∙ rw (given-is, outputs-is)
+
+    pub fixed-refused : Fits (fixedQuery center size minPeriods a t) t (l .outputs) → (number ≡ 0 → ⊥) → CalledFixed center size minPeriods a t l l number
+    fixed-refused f h =
+        record { number-is = told; plan-call = record { number-is = told ∙ as-plan; left = refused-left (fixedQuery center size minPeriods a t) t l number f h } }
+
+    pub fixed-called : (right : ℕ) (l₁ : Lent) → right ≡ rightOf center size → number ≡ 0
+        → Left (query (reaching (size - right) right n) minPeriods a) t l l₁ 0 → CalledFixed center size minPeriods a t l l₁ 0
+    fixed-called right l₁ r z w =
+        record {
+          number-is = sym z ∙ told;
+          plan-call = record {
+            number-is = sym z ∙ told ∙ as-plan;
+            left = subst (λ (p : Plan). Left (query p minPeriods a) t l l₁ 0) (sym (bounds-by center size n right r)) w;
+          };
+        }

@@ -1,7 +1,7 @@
+-- Laws of the rows of a call, of what counts a window's readings, of the slots of skewness, and of the ends of a call.
 pub mod Rolling
-pub mod Calls
-pub mod Fixed
-pub mod Blocks
+pub mod RowLoops
 pub mod Weighed
 pub mod Slots
-pub mod WeightedSums
+pub mod Blocks
+pub mod Calls

@@ -11,7 +11,9 @@ use lib.ListN.{length, take, drop, set, getD, length-take, length-set, length-ma
 use lib.Seq.{getD-set-same, getD-set-other, getD-take}
 use lib.Ieee.{Float, nan, inf, fin, mul, div, ofBits}
 use Rattle.float.specs.Operators.{_⊗_, _⊘_, zero64, one64, count}
+use Rattle.float.specs.Tables.{table}
 use Rattle.float.proofs.Counts.{zero-is}
+use Rattle.float.proofs.Tables.{table-same}
 use Rattle.root.specs.Root.{root, rootsInto}
 use Rattle.moment.specs.Figure.{doubleOf, byteOf}
 use Rattle.moment.specs.declared.skew_state.SkewState.{SkewState}
@@ -21,20 +23,17 @@ use Rattle.moment.specs.Skew.{skewCombine, isZero, skewBiased, skewCorrection, 
 use Rattle.moment.proofs.Weights.{skew-combine-count}
 use Rattle.moment.proofs.Figures.{skew-biased-missing, skew-unbiased-missing}
 use Rattle.window.specs.Window.{orNan}
-use Rattle.window.specs.Readings.{ofReadings}
-use Rattle.window.specs.Rows.{table}
-use Rattle.window.specs.Stacks.{topOf, answerBy}
+use Rattle.window.specs.Code.Stacks.{topOf, answerBy}
 use Rattle.window.specs.declared.Window.{Window}
-use Rattle.window.proofs.Tables.{table-same}
-use Rattle.rolling.specs.Moments.{skewness}
+use Rattle.rolling.specs.Code.Layouts.{skewStates, skewStored}
 use Rattle.rolling.specs.declared.skew.SkewPending.{SkewPending}
 use Rattle.rolling.specs.declared.skew.SkewPending.the-variants.{Missing, State}
-use Rattle.rolling.specs.Weighed.{skewWeight, Weighed}
-use Rattle.rolling.specs.Slots.{Corrections, m2Of, m3Of, leastOf, estimate, doubleAt, pendingOf, Waits}
+use Rattle.rolling.specs.Code.Weighed.{skewWeight, Weighed}
+use Rattle.rolling.specs.Code.Slots.{Corrections, m2Of, m3Of, leastOf, estimate, doubleAt, pendingOf, SlotHolds}
 
 -- the weight of a window's two states combined
-pub total-weight : (w : Window) (agg : SkewState) (work : List Float) → Weighed skewness skewWeight w agg work →
-    skewCombine agg (topOf (ofReadings skewness) work (w .front)) .weight ≡ count (w .front + w .back)
+pub total-weight : (w : Window) (agg : SkewState) (work : List Float) → Weighed skewStates skewWeight w agg work →
+    skewCombine agg (topOf skewStored work (w .front)) .weight ≡ count (w .front + w .back)
 total-weight w agg work q =
     let h = q .few in
     let k : w .back + w .front ≡ w .front + w .back = omega arith in
@@ -119,16 +118,16 @@ module _ (bias mapped : Bool) (minPeriods s e : ℕ) (w : Window) (agg : SkewSta
   N = w .front + w .back
 
   abbrev S : SkewState
-  S = skewCombine agg (topOf (ofReadings skewness) work (w .front))
+  S = skewCombine agg (topOf skewStored work (w .front))
 
   -- a row without a state is missing
-  pub none-pending : Weighed skewness skewWeight w agg work → pendingOf bias mapped minPeriods s e w S ≡ Missing →
-      answerBy (ofReadings skewness) (λ z. skewFinalize z bias) mapped minPeriods s e w agg work ≡ Figure·Missing
+  pub none-pending : Weighed skewStates skewWeight w agg work → pendingOf bias mapped minPeriods s e w S ≡ Missing →
+      answerBy skewStored (λ z. skewFinalize z bias) mapped minPeriods s e w agg work ≡ Figure·Missing
   unfolding pendingOf
   none-pending q h = go (leb minPeriods (cond mapped N (e - s))) refl (leb (leastOf bias) N) refl h
     where
       go : (a : Bool) → leb minPeriods (cond mapped N (e - s)) ≡ a → (b : Bool) → leb (leastOf bias) N ≡ b → cond a (cond b (State S) Missing) Missing ≡ Missing →
-          answerBy (ofReadings skewness) (λ z. skewFinalize z bias) mapped minPeriods s e w agg work ≡ Figure·Missing
+          answerBy skewStored (λ z. skewFinalize z bias) mapped minPeriods s e w agg work ≡ Figure·Missing
       go true x true y z = absurd (let t : _≡_ {A = ℕ} 1 0 = ap tag z in omega arith)
       go true x false y z = rw x (too-few S bias N (w .nonfinite) (q .few) (total-weight w agg work q) y)
       go false x b y z = rw x
@@ -146,7 +145,7 @@ module _ (bias mapped : Bool) (minPeriods s e : ℕ) (w : Window) (agg : SkewSta
       go false x b y z = absurd (let t : _≡_ {A = ℕ} 0 1 = ap tag z in omega arith)
 
 pub missing-waits : (bias : Bool) (answer : Figure) → answer ≡ Figure·Missing → (k : ℕ) (m2s m3s factors : List Float) →
-    Waits bias answer k 0 m2s m3s factors (set m2s k one64) (set m3s k zero64) (set factors k zero64)
+    SlotHolds bias answer k 0 m2s m3s factors (set m2s k one64) (set m3s k zero64) (set factors k zero64)
 missing-waits bias answer e k m2s m3s factors =
     record {
       m2 = one64;
@@ -162,7 +161,7 @@ missing-waits bias answer e k m2s m3s factors =
 pub present-waits : (bias : Bool) (s : SkewState) (n nonfinite : ℕ) → n ≤ 2 ^ 53 → s .weight ≡ count n → leb (leastOf bias) n ≡ true →
     (factor : Float) → (bias ≡ false → factor ≡ skewCorrection (count n)) → (answer : Figure) → answer ≡ orNan nonfinite (skewFinalize s bias) →
     (k : ℕ) (m2s m3s factors m2s' m3s' factors' : List Float) → m2s' ≡ set m2s k (m2Of s) → m3s' ≡ set m3s k (m3Of s nonfinite) → factors' ≡ set factors k factor →
-    Waits bias answer k 1 m2s m3s factors m2s' m3s' factors'
+    SlotHolds bias answer k 1 m2s m3s factors m2s' m3s' factors'
 present-waits bias s n nonfinite h e f factor c answer a k m2s m3s factors m2s' m3s' factors' x y z =
     record {
       m2 = m2Of s;

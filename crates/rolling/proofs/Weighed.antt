@@ -1,6 +1,6 @@
 -- A window's weights count its readings, and so does the weight of every state on the way: an insert then clears nothing. One law over
 -- the moment; variance and skewness cite it. Assumes nothing.
-use Prim.Native.Nat.{ℕ, _+_, _-_, _^_, _≤_, _<_}
+use Prim.Native.Nat.{ℕ, _+_, _-_, _*_, _^_, _≤_, _<_}
 use mathlib.Core.Path.{_≡_, sym, ap, _∙_}
 use mathlib.Core.Bool.{Bool}
 use mathlib.Core.List.{List}
@@ -15,65 +15,72 @@ use Rattle.moment.specs.Skew.{skewInserted}
 use Rattle.moment.proofs.Weights.{inserts-count, falls-count, var-raises, var-inserted, skew-raises, skew-inserted}
 use Rattle.window.specs.Places.{Series, entries}
 use Rattle.window.specs.Window.{front, back}
-use Rattle.window.specs.Readings.{ReadingMoment, series, ofReadings}
-use Rattle.window.specs.Stacks.{account, Held}
+use Rattle.window.specs.Readings.{series}
+use Rattle.window.specs.Code.Memory.{ReadingStates, ofReadings}
+use Rattle.window.specs.Code.Stacks.{account, Held, Flippable, Appendable}
 use Rattle.window.specs.declared.Window.{Window}
 use Rattle.window.proofs.Places.{count-le}
-use Rattle.window.proofs.Readings.{Flipping, Pushing}
+use Rattle.window.proofs.Moves.{front-many, back-many}
+use Rattle.window.proofs.Readings.{Flipping, Appending}
 use Rattle.window.proofs.Rows.{top-is}
-use Rattle.rolling.specs.Moments.{variance, skewness}
-use Rattle.rolling.specs.Weighed.{varWeight, skewWeight, Weighed}
+use Rattle.rolling.specs.Code.Layouts.{varStates, skewStates}
+use Rattle.rolling.specs.Code.Weighed.{varWeight, skewWeight, Weighed}
 
 -- a moment whose states have a weight that an insert raises by one, with an insert that clears nothing
-pub record Weighs (m : ReadingMoment) : Type 0 where
-  pub weight : m .State → Float
-  pub none : weight (m .empty) ≡ count 0
-  pub raises : (s : m .State) (x : Float) → weight (m .insert s x) ≡ weight s ⊕ one64
-  pub inserted : m .State → Float → m .State
-  pub plain : (s : m .State) (x : Float) (n : ℕ) → n < 2 ^ 53 → weight s ≡ count n → inserted s x ≡ m .insert s x
+pub record Weighs (m : ReadingStates) : Type 0 where
+  pub weight : m .moment .State → Float
+  pub none : weight (m .moment .empty) ≡ count 0
+  pub raises : (s : m .moment .State) (x : Float) → weight (m .moment .insert s x) ≡ weight s ⊕ one64
+  pub inserted : m .moment .State → Float → m .moment .State
+  pub plain : (s : m .moment .State) (x : Float) (n : ℕ) → n < 2 ^ 53 → weight s ≡ count n → inserted s x ≡ m .moment .insert s x
 
-abbrev pub var-weighs : Weighs variance
+abbrev pub var-weighs : Weighs varStates
 var-weighs = record { weight = varWeight; none = zero-is; raises = var-raises; inserted = varInserted; plain = var-inserted }
 
-abbrev pub skew-weighs : Weighs skewness
+abbrev pub skew-weighs : Weighs skewStates
 skew-weighs = record { weight = skewWeight; none = zero-is; raises = skew-raises; inserted = skewInserted; plain = skew-inserted }
 
-module _ (m : ReadingMoment) (q : Weighs m) where
+module _ (m : ReadingStates) (q : Weighs m) where
   -- the weight of a window's back state, and of both its states
-  pub rising-weight : (t : Series Float) (base : ℕ) (w : Window) (agg : m .State) (work : List Float) → Held (ofReadings m) t base w agg work → w .back ≤ 2 ^ 53 →
+  pub rising-weight : (t : Series Float) (base : ℕ) (w : Window) (agg : m .moment .State) (work : List Float) → Held (ofReadings m) t base w agg work → w .back ≤ 2 ^ 53 →
       q .weight agg ≡ count (w .back)
   rising-weight t base w agg work held h =
-      let b = held .numbers .back-is in
+      let b = back-many t w (held .numbers) in
       let k : 0 + length (back t (account w)) ≡ w .back = omega arith in
-      ap (q .weight) (held .agg-is) ∙ inserts-count (q .weight) (m .insert) (q .raises) (back t (account w)) (m .empty) 0 (q .none) (omega arith) ∙ ap count k
+      ap (q .weight) (held .agg-is) ∙ inserts-count (q .weight) (m .moment .insert) (q .raises) (back t (account w)) (m .moment .empty) 0 (q .none) (omega arith) ∙ ap count k
 
-  pub weighed : (t : Series Float) (base : ℕ) (w : Window) (agg : m .State) (work : List Float) → Held (ofReadings m) t base w agg work →
-      w .front + w .back ≤ 2 ^ 53 → Weighed m (q .weight) w agg work
-  weighed t base w agg work held h =
-      let f = held .numbers .front-is in
+  pub weighed : (t : Series Float) (base : ℕ) (w : Window) (agg : m .moment .State) (work : List Float) → Held (ofReadings m) t base w agg work →
+      m .inFront .width * w .front ≤ length work → w .front + w .back ≤ 2 ^ 53 → Weighed m (q .weight) w agg work
+  weighed t base w agg work held o h =
+      let f = front-many t w (held .numbers) in
       record {
+        front-in = o;
         few = h;
         back-is = rising-weight t base w agg work held (omega arith);
         front-is = ap (q .weight) (top-is (ofReadings m) (λ z. Missing) t base w agg work held)
-            ∙ falls-count (q .weight) (m .insert) (q .raises) (front t (account w)) (m .empty) (q .none) (omega arith) ∙ ap count (sym f);
+            ∙ falls-count (q .weight) (m .moment .insert) (q .raises) (front t (account w)) (m .moment .empty) (q .none) (omega arith) ∙ ap count (sym f);
       }
 
   -- a turn of a flip inserts and clears nothing
-  pub flip-inserted : (l₀ : List Float) (base n : ℕ) → base + n ≤ length l₀ → n ≤ 2 ^ 53 → {l : List Float} {agg : m .State} {at j : ℕ} → Flipping m l₀ base n l agg at j → 0 < j →
-      (x : Float) → q .inserted agg x ≡ m .insert agg x
-  flip-inserted l₀ base n fits h {l} {agg} {at} {j} f g x =
+  pub flip-inserted : (l₀ : List Float) (base n : ℕ) → Flippable (ofReadings m) base n l₀ → {l : List Float} {agg : m .moment .State} {at j : ℕ} → Flipping m l₀ base n l agg at j → 0 < j →
+      (x : Float) → q .inserted agg x ≡ m .moment .insert agg x
+  flip-inserted l₀ base n can {l} {agg} {at} {j} f g x =
       let B = take n (drop base l₀) in
+      let fits = can .back-room in
+      let h = can .few in
       let k : length (drop j B) ≡ n - j = rw (length-drop, length-take, length-drop) (omega arith) in
       let low = f .low in
-      q .plain agg x (length (drop j B)) (omega arith) (ap (q .weight) (f .agg-is) ∙ falls-count (q .weight) (m .insert) (q .raises) (drop j B) (m .empty) (q .none) (omega arith))
+      q .plain agg x (length (drop j B)) (omega arith) (ap (q .weight) (f .agg-is) ∙ falls-count (q .weight) (m .moment .insert) (q .raises) (drop j B) (m .moment .empty) (q .none) (omega arith))
 
-  -- nor does a turn of a push
-  pub push-inserted : (has : Bool) (map : List ℕ) (values l₀ : List Float) (n nonfinite₀ : ℕ) (s₀ : m .State) (a e : ℕ) {l : List Float} {many nonfinite : ℕ} {s : m .State} {i : ℕ} →
-      Pushing m has map values l₀ n nonfinite₀ s₀ a e l many nonfinite s i → i < e → e ≤ 2 ^ 53 → n ≤ a → q .weight s₀ ≡ count n →
-      (x : Float) → q .inserted s x ≡ m .insert s x
-  push-inserted has map values l₀ n nonfinite₀ s₀ a e {s = s} {i = i} f more h g w x =
+  -- nor does a turn of an append
+  pub append-inserted : (has : Bool) (map : List ℕ) (values l₀ : List Float) (n nonfinite₀ : ℕ) (s₀ : m .moment .State) (a e : ℕ) {l : List Float} {many nonfinite : ℕ} {s : m .moment .State} {i : ℕ} →
+      Appending m has map values l₀ n nonfinite₀ s₀ a e l many nonfinite s i → i < e → Appendable (ofReadings m) (series has map values) a e (length values) n nonfinite₀ l₀ → q .weight s₀ ≡ count n →
+      (x : Float) → q .inserted s x ≡ m .moment .insert s x
+  append-inserted has map values l₀ n nonfinite₀ s₀ a e {s = s} {i = i} f more can w x =
       let t = series has map values in
-      let l = entries (t .valid) (t .entry) a i in
-      let k = count-le (t .valid) (t .entry) a i in
+      let l = entries (t .places .valid) (t .entry) a i in
+      let k = count-le (t .places .valid) (t .entry) a i in
+      let h = can .few in
+      let g = can .many-le in
       let low = f .low in
-      q .plain s x (n + length l) (omega arith) (ap (q .weight) (f .now .agg-is) ∙ inserts-count (q .weight) (m .insert) (q .raises) l s₀ n w (omega arith))
+      q .plain s x (n + length l) (omega arith) (ap (q .weight) (f .now .agg-is) ∙ inserts-count (q .weight) (m .moment .insert) (q .raises) l s₀ n w (omega arith))

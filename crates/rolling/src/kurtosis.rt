@@ -1,24 +1,24 @@
 // Kurtosis over moving windows: 001's `KurtosisMoment` and `MomentWindow` over it. The two stacks lie in the work slice, states
 // of the front stack from its beginning, readings of the back stack from `base` on.
 ghost use mathlib.Core.Path.{_≡_};
-ghost use mathlib.Core.Bool.{false};
-ghost use mathlib.Core.List.{_++_};
-ghost use Prim.Native.Nat.{_+_, _*_, _≤_, _<_};
-ghost use lib.ListN.{length, take, drop};
+ghost use Prim.Native.Nat.{_+_, _*_, _^_, _≤_, min};
+ghost use lib.ListN.{length};
+ghost use Rattle.trace.specs.Trace.{tracing};
 ghost use Rattle.moment.specs.Kurtosis.{kurtosisEmpty, kurtosisCombine, kurtosisFinalize};
-ghost use Rattle.trace.specs.Trace.{validAt};
-ghost use Rattle.window.specs.Places.{validCount};
-ghost use Rattle.window.specs.Window.{restarted, left, entered, moved, orNan};
-ghost use Rattle.window.specs.Readings.{series, ofReadings};
-ghost use Rattle.window.specs.Rows.{stepped};
-ghost use Rattle.window.specs.Stacks.{inMemory, frontStack, account, Counted, Leaves, Held, Pushed, topOf, answerBy, Movable, Moves, Accepted};
-ghost use Rattle.rolling.specs.Moments.{Kurtosis, kurtosisLayout, kurtosis};
-ghost use Rattle.rolling.specs.Calls.{askPlan, lent, traceOf, Written};
-ghost use Rattle.rolling.specs.Reaching.{rowsOf};
-use crate::bounds;
+ghost use Rattle.window.specs.Window.{orNan};
+ghost use Rattle.window.specs.Code.Stacks.{answerBy};
+ghost use Rattle.trace.specs.Slices.{entering, leaving};
+ghost use Rattle.window.specs.Readings.{series};
+ghost use Rattle.window.specs.Code.Stacks.{Flippable, Flipped, Appendable, Appended, topOf};
+ghost use Rattle.window.specs.Code.Stacks.{Trimmable, Trimmed, Extendable, Extended, Movable, Updated, Stepped};
+ghost use Rattle.rolling.specs.Moments.{Kurtosis};
+ghost use Rattle.rolling.specs.Calls.{querying, lending, Calls};
+ghost use Rattle.rolling.specs.Fixed.{CallsFixed};
+ghost use Rattle.rolling.specs.Code.Layouts.{kurtosisStored};
+ghost use Rattle.rolling.specs.Code.Rows.{seriesIn, drivenQuery, Leaves, Driven, CanWork, Works, Answerable};
 use crate::leaving;
-use crate::leaving::Left;
 use crate::row;
+use crate::row::Rows;
 use moment::Figure;
 use moment::KurtosisState;
 use window::Window;
@@ -35,7 +35,7 @@ pub struct KurtosisWindow {
 }
 
 // The back stack grown: how many readings stand in it, how many in the window are not finite, and its state.
-pub struct KurtosisPushed {
+pub struct KurtosisAppended {
     pub back: usize,
     pub nonfinite: usize,
     pub agg_back: KurtosisState,
@@ -57,8 +57,8 @@ impl KurtosisMoment {
 
     // The n readings of the back stack become the front stack, the last of them at its bottom.
     fn flip(work: &mut [f64], base: usize, n: usize)
-        requires { ⌜ (5 * n ≤ base) × (base + n ≤ length (now work)) ⌝ }
-        ensures { λ _. ⌜ now (work .exit) ≡ inMemory kurtosisLayout (frontStack (ofReadings kurtosis) (take n (drop base (now (work .entry))))) ++ drop (5 * n) (now (work .entry)) ⌝ }
+        requires { ⌜ Flippable kurtosisStored base n (now work) ⌝ }
+        ensures { λ _. ⌜ Flipped kurtosisStored base n (entering work) (leaving work) ⌝ }
     {
         let mut agg = KurtosisMoment::empty();
         let mut at: usize = 0;
@@ -75,8 +75,8 @@ impl KurtosisMoment {
         }
     }
 
-    // The readings of the valid places from a up to b, pushed on the n that stand in the back stack.
-    fn push(
+    // The readings of the valid places from a up to b, appended to the n that stand in the back stack.
+    fn append(
         back: &mut [f64],
         n: usize,
         values: &[f64],
@@ -86,10 +86,10 @@ impl KurtosisMoment {
         b: usize,
         nonfinite: usize,
         agg_back: KurtosisState,
-    ) -> KurtosisPushed
-        requires { ⌜ (a ≤ b) × (b ≤ length (now values)) × (1 * (n + validCount (series «has_map» (now map) (now values)) a b) ≤ length (now back)) × (nonfinite ≤ a) ⌝ }
-        ensures { λ q. ⌜ Pushed (ofReadings kurtosis) (series «has_map» (now (map .entry)) (now (values .entry))) (now (back .entry)) n nonfinite «agg_back» a b
-            (now (back .exit)) (q .back) (q .nonfinite) (q .«agg_back») ⌝ }
+    ) -> KurtosisAppended
+        requires { ⌜ Appendable kurtosisStored (series «has_map» (now map) (now values)) a b (length (now values)) n nonfinite (now back) ⌝ }
+        ensures { λ q. ⌜ Appended kurtosisStored (seriesIn «has_map» map values) (entering back) n nonfinite «agg_back» a b
+            (leaving back) (q .back) (q .nonfinite) (q .«agg_back») ⌝ }
     {
         let mut state = agg_back;
         let mut at = n;
@@ -110,7 +110,7 @@ impl KurtosisMoment {
             }
             i += 1;
         }
-        KurtosisPushed {
+        KurtosisAppended {
             back: at,
             nonfinite: count,
             agg_back: state,
@@ -120,7 +120,7 @@ impl KurtosisMoment {
     // The state on the top of the front stack's n, or the empty one.
     fn last(work: &[f64], n: usize) -> KurtosisState
         requires { ⌜ 5 * n ≤ length (now work) ⌝ }
-        ensures { λ r. ⌜ r ≡ topOf (ofReadings kurtosis) (now (work .entry)) n ⌝ }
+        ensures { λ r. ⌜ r ≡ topOf kurtosisStored (entering work) n ⌝ }
     {
         if n == 0 {
             return KurtosisMoment::empty();
@@ -135,17 +135,8 @@ impl KurtosisMoment {
         }
     }
 
-    // One for each moment, so that each has one call site (the row loop stays free of calls).
-    fn leave(values: &[f64], has_map: bool, map: &[u8], w: Window, start: usize) -> Left
-        requires { ⌜ (w .start ≤ start) × (start ≤ length (now values)) × (w .end ≤ length (now values)) × Counted (series «has_map» (now map) (now values)) w ⌝ }
-        ensures { λ q. ⌜ Leaves (series «has_map» (now (map .entry)) (now (values .entry))) w start (q .window) (q .flips) ⌝ }
-    {
-        let gone = leaving::below(values, has_map, map, w, start);
-        leaving::without(w, start, gone)
-    }
-
     // The window without the places below `start`.
-    fn pop(
+    fn trim(
         work: &mut [f64],
         base: usize,
         values: &[f64],
@@ -154,15 +145,17 @@ impl KurtosisMoment {
         w: KurtosisWindow,
         start: usize,
     ) -> KurtosisWindow
-        requires { ⌜ Held (ofReadings kurtosis) (series «has_map» (now map) (now values)) base (w .window) (w .«agg_back») (now work) × (w .window .start ≤ start)
-            × (start ≤ length (now values)) × (w .window .end ≤ length (now values)) × (5 * w .window .back ≤ base) × (base + w .window .back ≤ length (now work)) ⌝ }
-        ensures { λ q. ⌜ Moves (ofReadings kurtosis) (series «has_map» (now (map .entry)) (now (values .entry))) base base (left (validAt «has_map» (now (map .entry))) (restarted (account (w .window)) start) start) (now (work .entry)) (q .window) (q .«agg_back») (now (work .exit)) ⌝ }
+        requires { ⌜ Trimmable kurtosisStored (series «has_map» (now map) (now values)) base start (length (now values))
+            (w .window) (w .«agg_back») (now work) ⌝ }
+        ensures { λ q. ⌜ Trimmed kurtosisStored (seriesIn «has_map» map values) base start (w .window) (entering work)
+            (q .window) (q .«agg_back») (leaving work) ⌝ }
     {
         let window = w.window;
         let agg_back = w.agg_back;
-        let left = KurtosisMoment::leave(values, has_map, map, window, start);
-        let kept = left.window;
-        if left.flips {
+        let leaving = leaving::tally_below(values, has_map, map, window, start);
+        let trim = leaving::trimmed(window, start, leaving);
+        let kept = trim.window;
+        if trim.flips {
             KurtosisMoment::flip(work, base, window.back);
             return KurtosisWindow {
                 window: kept,
@@ -193,13 +186,14 @@ impl KurtosisMoment {
         w: KurtosisWindow,
         end: usize,
     ) -> KurtosisWindow
-        requires { ⌜ Held (ofReadings kurtosis) (series «has_map» (now map) (now values)) base (w .window) (w .«agg_back») (now work) × (w .window .end ≤ end)
-            × (end ≤ length (now values)) × (end ≤ w .window .start + widest) × (5 * widest ≤ base) × (base + 1 * widest ≤ length (now work)) ⌝ }
-        ensures { λ q. ⌜ Moves (ofReadings kurtosis) (series «has_map» (now (map .entry)) (now (values .entry))) base (base + 1 * widest) (entered (account (w .window)) end) (now (work .entry)) (q .window) (q .«agg_back») (now (work .exit)) ⌝ }
+        requires { ⌜ Extendable kurtosisStored (series «has_map» (now map) (now values)) base widest end (length (now values))
+            (w .window) (w .«agg_back») (now work) ⌝ }
+        ensures { λ q. ⌜ Extended kurtosisStored (seriesIn «has_map» map values) base widest end (w .window) (entering work)
+            (q .window) (q .«agg_back») (leaving work) ⌝ }
     {
         let window = w.window;
         let agg_back = w.agg_back;
-        let pushed = KurtosisMoment::push(
+        let appended = KurtosisMoment::append(
             &mut work[base..],
             window.back,
             values,
@@ -210,16 +204,9 @@ impl KurtosisMoment {
             window.nonfinite,
             agg_back,
         );
-        let grown = pushed.agg_back;
+        let grown = appended.agg_back;
         KurtosisWindow {
-            window: Window {
-                start: window.start,
-                end,
-                split: window.split,
-                front: window.front,
-                back: pushed.back,
-                nonfinite: pushed.nonfinite,
-            },
+            window: window.extended(end, appended.back, appended.nonfinite),
             agg_back: grown,
         }
     }
@@ -235,42 +222,45 @@ impl KurtosisMoment {
         start: usize,
         end: usize,
     ) -> KurtosisWindow
-        requires { ⌜ Movable (ofReadings kurtosis) (series «has_map» (now map) (now values)) 6 start end (length (now values)) widest (w .window) (w .«agg_back») (now work) ⌝ }
-        ensures { λ q. ⌜ Moves (ofReadings kurtosis) (series «has_map» (now (map .entry)) (now (values .entry))) (5 * widest) (6 * widest) (moved (validAt «has_map» (now (map .entry))) (account (w .window)) start end)
-            (now (work .entry)) (q .window) (q .«agg_back») (now (work .exit)) ⌝ }
+        requires { ⌜ Movable kurtosisStored (series «has_map» (now map) (now values)) start end (length (now values)) widest
+            (w .window) (w .«agg_back») (now work) ⌝ }
+        ensures { λ q. ⌜ Updated kurtosisStored (seriesIn «has_map» map values) widest start end (w .window) (entering work)
+            (q .window) (q .«agg_back») (leaving work) ⌝ }
     {
         let base = KurtosisMoment::STATE * widest;
-        let popped = KurtosisMoment::pop(work, base, values, has_map, map, w, start);
-        KurtosisMoment::extend(work, base, widest, values, has_map, map, popped, end)
+        let trimmed = KurtosisMoment::trim(work, base, values, has_map, map, w, start);
+        KurtosisMoment::extend(work, base, widest, values, has_map, map, trimmed, end)
     }
 
     // The window after a row's part in it: a row is one step, so that two plans can be driven in turn.
     fn step(
         work: &mut [f64],
-        widest: usize,
+        rows: Rows,
         values: &[f64],
         has_map: bool,
         map: &[u8],
         w: KurtosisWindow,
-        min_periods: usize,
         row: usize,
         start: usize,
         end: usize,
     ) -> KurtosisWindow
-        requires { ⌜ Movable (ofReadings kurtosis) (series «has_map» (now map) (now values)) 6 start end (length (now values)) widest (w .window) (w .«agg_back») (now work) ⌝ }
-        ensures { λ q. ⌜ Moves (ofReadings kurtosis) (series «has_map» (now (map .entry)) (now (values .entry))) (5 * widest) (6 * widest) (stepped (validAt «has_map» (now (map .entry))) «has_map» «min_periods» row start end (account (w .window)))
-            (now (work .entry)) (q .window) (q .«agg_back») (now (work .exit)) ⌝ }
+        requires { ⌜ Movable kurtosisStored (series «has_map» (now map) (now values)) start end (length (now values)) (rows .widest)
+            (w .window) (w .«agg_back») (now work) ⌝ }
+        ensures { λ q. ⌜ Stepped kurtosisStored (seriesIn «has_map» map values) (rows .widest) (rows .«min_periods») row start end
+            (w .window) (entering work) (q .window) (q .«agg_back») (leaving work) ⌝ }
     {
-        if row::moves(has_map, min_periods, row, start, end) {
-            return KurtosisMoment::update(work, widest, values, has_map, map, w, start, end);
+        if row::moves(has_map, rows.min_periods, row, start, end) {
+            return KurtosisMoment::update(work, rows.widest, values, has_map, map, w, start, end);
         }
         w
     }
 
-    // 001's `get_moment`.
+    // 001's `get_moment`: the back state combined with the front state, finalised.
     fn get_moment(self, work: &[f64], w: KurtosisWindow) -> Figure
         requires { ⌜ 5 * w .window .front ≤ length (now work) ⌝ }
-        ensures { λ r. ⌜ r ≡ orNan (w .window .nonfinite) (kurtosisFinalize (kurtosisCombine (w .«agg_back») (topOf (ofReadings kurtosis) (now (work .entry)) (w .window .front))) (self .fisher) (self .bias)) ⌝ }
+        ensures { λ r. ⌜ r ≡ orNan (w .window .nonfinite)
+            (kurtosisFinalize (kurtosisCombine (w .«agg_back») (topOf kurtosisStored (entering work) (w .window .front)))
+            (self .fisher) (self .bias)) ⌝ }
     {
         let agg_back = w.agg_back;
         let state = agg_back.combine(KurtosisMoment::last(work, w.window.front));
@@ -287,8 +277,9 @@ impl KurtosisMoment {
         start: usize,
         end: usize,
     ) -> Figure
-        requires { ⌜ (5 * w .window .front ≤ length (now work)) × (w .window .front + w .window .back ≤ w .window .end) × (start ≤ end) ⌝ }
-        ensures { λ r. ⌜ r ≡ answerBy (ofReadings kurtosis) (λ z. kurtosisFinalize z (self .fisher) (self .bias)) «has_map» «min_periods» start end (w .window) (w .«agg_back») (now (work .entry)) ⌝ }
+        requires { ⌜ Answerable 5 (w .window) (length (now work)) start end ⌝ }
+        ensures { λ r. ⌜ r ≡ answerBy kurtosisStored (λ z. kurtosisFinalize z (self .fisher) (self .bias)) «has_map» «min_periods»
+            start end (w .window) (w .«agg_back») (entering work) ⌝ }
     {
         let valid = w.window.front + w.window.back;
         if row::is_valid(has_map, min_periods, valid, start, end) {
@@ -297,59 +288,182 @@ impl KurtosisMoment {
         Figure::Missing
     }
 
-    // Every row of an accepted plan, or of fixed windows.
-    pub(crate) fn rows(
+    // The rows from `first` up to `until`, from the window that stands before them; the window after them.
+    fn block(
         self,
+        rows: Rows,
         values: &[f64],
         has_map: bool,
         map: &[u8],
-        fixed: bool,
-        left: usize,
-        right: usize,
         starts: &[u32],
         ends: &[u32],
-        min_periods: usize,
-        widest: usize,
+        work: &mut [f64],
+        figures: &mut [f64],
+        present: &mut [u8],
+        opening: KurtosisWindow,
+        first: usize,
+        until: usize,
+    ) -> KurtosisWindow
+        requires { ⌜ CanWork kurtosisStored «has_map» (now map) (now values) rows (now starts) (now ends) (min (length (now figures)) (length (now present)))
+            first until (opening .window) (opening .«agg_back») (now work) ⌝ }
+        ensures { λ q. ⌜ Works kurtosisStored (λ z. kurtosisFinalize z (self .fisher) (self .bias)) «has_map» (entering map) (entering values) rows (entering starts) (entering ends)
+            first until (entering work) (entering figures) (entering present)
+            (q .window) (q .«agg_back») (leaving work) (leaving figures) (leaving present) ⌝ }
+    {
+        let mut w = opening;
+        let mut row = first;
+        while row < until {
+            let at = row::offsets(rows, values.len(), starts, ends, row);
+            w = KurtosisMoment::step(work, rows, values, has_map, map, w, row, at.start, at.end);
+            let figure = self.answer(work, w, has_map, rows.min_periods, at.start, at.end);
+            window::write(figures, present, row, figure);
+            row += 1;
+        }
+        w
+    }
+
+    // Every row of an accepted plan, or of fixed windows.
+    pub(crate) fn rows(
+        self,
+        rows: Rows,
+        values: &[f64],
+        has_map: bool,
+        map: &[u8],
+        starts: &[u32],
+        ends: &[u32],
         work: &mut [f64],
         figures: &mut [f64],
         present: &mut [u8],
     )
-        requires { ⌜ Accepted 6 (length (now values)) (rowsOf fixed left right (length (now values)) (now starts) (now ends)) false (length (now figures)) (length (now present)) (length (now work)) widest ⌝ }
-        ensures { λ _. ⌜ Written (askPlan (rowsOf fixed left right (length (now (values .entry))) (now (starts .entry)) (now (ends .entry))) «min_periods» (Kurtosis (self .fisher) (self .bias))) (traceOf (now (values .entry)) «has_map» (now (map .entry)))
-            (lent (now (figures .entry)) (now (present .entry)) (now (work .entry))) (lent (now (figures .exit)) (now (present .exit)) (now (work .exit))) 0 ⌝ }
+        requires { ⌜ Driven rows (length (now values)) (now starts) (now ends) (min (length (now figures)) (length (now present)))
+            6 (length (now work)) ⌝ }
+        ensures { λ _. ⌜ Leaves (drivenQuery rows values starts ends (Kurtosis (self .fisher) (self .bias))) (tracing values «has_map» map)
+            (lending work figures present) ⌝ }
     {
-        let mut w = KurtosisWindow {
-            window: Window {
-                start: 0,
-                end: 0,
-                split: 0,
-                front: 0,
-                back: 0,
-                nonfinite: 0,
-            },
+        let opening = KurtosisWindow {
+            window: Window::empty_at(0),
             agg_back: KurtosisMoment::empty(),
         };
-        let n = values.len();
-        let rows = bounds::rows(fixed, n, starts.len());
-        let mut row = 0;
-        while row < rows {
-            let start = bounds::row_start(fixed, left, starts, row);
-            let end = bounds::row_end(fixed, right, n, ends, row);
-            w = KurtosisMoment::step(
-                work,
-                widest,
-                values,
-                has_map,
-                map,
-                w,
-                min_periods,
-                row,
-                start,
-                end,
-            );
-            let figure = self.answer(work, w, has_map, min_periods, start, end);
-            row::write(figures, present, row, figure);
-            row += 1;
-        }
+        let until = row::how_many(rows, values.len(), starts.len());
+        self.block(
+            rows,
+            values,
+            has_map,
+            map,
+            starts,
+            ends,
+            work,
+            figures,
+            present,
+            opening,
+            0,
+            until,
+        );
     }
+}
+
+// Rolling kurtosis over a plan.
+pub fn plan_kurtosis(
+    values: &[f64],
+    has_map: bool,
+    map: &[u8],
+    starts: &[u32],
+    ends: &[u32],
+    min_periods: usize,
+    fisher: bool,
+    bias: bool,
+    work: &mut [f64],
+    figures: &mut [f64],
+    present: &mut [u8],
+) -> u32
+    ensures { λ r. ⌜ Calls (querying starts ends «min_periods» (Kurtosis fisher bias)) (tracing values «has_map» map)
+        (lending work figures present) r ⌝ }
+{
+    let checked = plan::plan_refusal(
+        trace::array_refusal(values.len(), has_map, map),
+        starts,
+        ends,
+        values.len(),
+        false,
+        plan::shorter(figures.len(), present.len()),
+        KurtosisMoment::PLACE,
+        work.len(),
+    );
+    if checked.number != 0 {
+        return checked.number;
+    }
+    let rows = Rows {
+        fixed: false,
+        left: 0,
+        right: 0,
+        min_periods,
+        widest: checked.widest,
+    };
+    let moment = KurtosisMoment { fisher, bias };
+    moment.rows(
+        rows,
+        values,
+        has_map,
+        map,
+        starts,
+        ends,
+        work,
+        figures,
+        present,
+    );
+    0
+}
+
+// Rolling kurtosis over fixed windows: 004's and 005's `rolling_kurtosis`.
+pub fn rolling_kurtosis(
+    values: &[f64],
+    has_map: bool,
+    map: &[u8],
+    window_size: usize,
+    min_periods: usize,
+    center: bool,
+    fisher: bool,
+    bias: bool,
+    work: &mut [f64],
+    figures: &mut [f64],
+    present: &mut [u8],
+) -> u32
+    ensures { λ r. ⌜ CallsFixed center «window_size» «min_periods» (Kurtosis fisher bias) (tracing values «has_map» map)
+        (lending work figures present) r ⌝ }
+{
+    let checked = plan::fixed_refusal(
+        trace::array_refusal(values.len(), has_map, map),
+        values.len(),
+        window_size,
+        plan::shorter(figures.len(), present.len()),
+        KurtosisMoment::PLACE,
+        work.len(),
+    );
+    if checked.number != 0 {
+        return checked.number;
+    }
+    let right = plan::right_window(center, window_size);
+    let left = window_size - right;
+    let rows = Rows {
+        fixed: true,
+        left,
+        right,
+        min_periods,
+        widest: checked.widest,
+    };
+    // no row of fixed windows reads a list
+    let none = [0u32; 1];
+    let moment = KurtosisMoment { fisher, bias };
+    moment.rows(
+        rows,
+        values,
+        has_map,
+        map,
+        &none,
+        &none,
+        work,
+        figures,
+        present,
+    );
+    0
 }

@@ -1,16 +1,17 @@
-// The places that leave a window, counted: what every moment shares of it.
+// The places that leave a window, tallied, and the window without them: what every moment shares of it.
 ghost use mathlib.Core.Path.{_≡_};
-ghost use Prim.Native.Nat.{ℕ, _+_, _≤_, _<_};
+ghost use Prim.Native.Nat.{_≤_, _<_};
 ghost use lib.ListN.{length};
-ghost use lib.Ieee.{Float};
+ghost use Rattle.trace.specs.Slices.{entering};
 ghost use Rattle.trace.specs.Trace.{validAt};
-ghost use Rattle.window.specs.Places.{Series, entries, nonfiniteCount};
-ghost use Rattle.window.specs.Stacks.{Tallied, Counted, Leaves};
-ghost use Rattle.window.specs.Readings.{series, nonfiniteAt};
+ghost use Rattle.window.specs.Places.{chosenCount};
+ghost use Rattle.window.specs.Readings.{placesBy, nonfiniteAt};
+ghost use Rattle.window.specs.Code.Stacks.{Tallied, TallyFits, TrimsBy};
+ghost use Rattle.rolling.specs.Code.Rows.{Range, LeavingRange, Below, TalliesBelow, placesIn};
 use window::Window;
 
-// A window whose leaving places are gone, and whether the back stack goes to the front stack first.
-pub struct Left {
+// A window without the places that leave, and whether the back stack goes to the front stack first.
+pub struct Trim {
     pub window: Window,
     pub flips: bool,
 }
@@ -23,7 +24,7 @@ pub struct Tally {
 
 fn is_nonfinite(values: &[f64], has_map: bool, map: &[u8], i: usize) -> bool
     requires { ⌜ i < length (now values) ⌝ }
-    ensures { λ r. ⌜ r ≡ nonfiniteAt «has_map» (now (map .entry)) (now (values .entry)) i ⌝ }
+    ensures { λ r. ⌜ r ≡ nonfiniteAt «has_map» (entering map) (entering values) i ⌝ }
 {
     if trace::valid(has_map, map, i) {
         return !float::is_finite(values[i]);
@@ -31,9 +32,9 @@ fn is_nonfinite(values: &[f64], has_map: bool, map: &[u8], i: usize) -> bool
     false
 }
 
-fn count(values: &[f64], has_map: bool, map: &[u8], a: usize, b: usize) -> Tally
-    requires { ⌜ (a ≤ b) × (b ≤ length (now values)) ⌝ }
-    ensures { λ r. ⌜ Tallied (series «has_map» (now (map .entry)) (now (values .entry))) a b (r .valid) (r .nonfinite) ⌝ }
+fn tally_range(values: &[f64], has_map: bool, map: &[u8], a: usize, b: usize) -> Tally
+    requires { ⌜ Range a b (length (now values)) ⌝ }
+    ensures { λ r. ⌜ Tallied (placesIn «has_map» map values) a b (r .valid) (r .nonfinite) ⌝ }
 {
     let mut valid: usize = 0;
     let mut nonfinite: usize = 0;
@@ -48,7 +49,7 @@ fn count(values: &[f64], has_map: bool, map: &[u8], a: usize, b: usize) -> Tally
 
 fn count_valid(has_map: bool, map: &[u8], a: usize, b: usize) -> usize
     requires { ⌜ a ≤ b ⌝ }
-    ensures { λ r. ⌜ ((entry : ℕ → Float) → r ≡ length (entries (validAt «has_map» (now (map .entry))) entry a b)) ⌝ }
+    ensures { λ r. ⌜ r ≡ chosenCount (validAt «has_map» (entering map)) a b ⌝ }
 {
     let mut valid: usize = 0;
     let mut i = a;
@@ -61,7 +62,7 @@ fn count_valid(has_map: bool, map: &[u8], a: usize, b: usize) -> usize
 
 // The tally of places that leave a window with so many readings that are not finite. Without any, no reading is looked at; without a map,
 // nothing is.
-pub(crate) fn gone(
+fn tally_leaving(
     values: &[f64],
     has_map: bool,
     map: &[u8],
@@ -69,9 +70,8 @@ pub(crate) fn gone(
     b: usize,
     nonfinite: usize,
 ) -> Tally
-    requires { ⌜ (a ≤ b) × (b ≤ length (now values)) ⌝ }
-    requires { ⌜ (nonfinite ≡ 0 → nonfiniteCount (series «has_map» (now map) (now values)) a b ≡ 0) ⌝ }
-    ensures { λ r. ⌜ Tallied (series «has_map» (now (map .entry)) (now (values .entry))) a b (r .valid) (r .nonfinite) ⌝ }
+    requires { ⌜ LeavingRange (placesBy «has_map» (now map) (now values)) a b (length (now values)) nonfinite ⌝ }
+    ensures { λ r. ⌜ Tallied (placesIn «has_map» map values) a b (r .valid) (r .nonfinite) ⌝ }
 {
     if nonfinite == 0 {
         if !has_map {
@@ -85,13 +85,19 @@ pub(crate) fn gone(
             nonfinite: 0,
         };
     }
-    count(values, has_map, map, a, b)
+    tally_range(values, has_map, map, a, b)
 }
 
 // The tally of the places below `start` that leave w. Nothing is counted of a window that ends there or before: it starts anew.
-pub(crate) fn below(values: &[f64], has_map: bool, map: &[u8], w: Window, start: usize) -> Tally
-    requires { ⌜ (w .start ≤ start) × (start ≤ length (now values)) × Counted (series «has_map» (now map) (now values)) w ⌝ }
-    ensures { λ r. ⌜ (start < w .end → Tallied (series «has_map» (now (map .entry)) (now (values .entry))) (w .start) start (r .valid) (r .nonfinite)) ⌝ }
+pub(crate) fn tally_below(
+    values: &[f64],
+    has_map: bool,
+    map: &[u8],
+    w: Window,
+    start: usize,
+) -> Tally
+    requires { ⌜ Below (placesBy «has_map» (now map) (now values)) start (length (now values)) w ⌝ }
+    ensures { λ r. ⌜ TalliesBelow (placesIn «has_map» map values) w start (r .valid) (r .nonfinite) ⌝ }
 {
     let end = w.end;
     if end <= start {
@@ -100,49 +106,42 @@ pub(crate) fn below(values: &[f64], has_map: bool, map: &[u8], w: Window, start:
             nonfinite: 0,
         };
     }
-    gone(values, has_map, map, w.start, start, w.nonfinite)
+    tally_leaving(values, has_map, map, w.start, start, w.nonfinite)
 }
 
 // The window w without the places below `start`, by their tally, and whether the back stack goes to the front.
-pub(crate) fn without(w: Window, start: usize, gone: Tally) -> Left
-    requires { ⌜ (start < w .end → (gone .valid ≤ w .front + w .back) × (gone .nonfinite ≤ w .nonfinite) × (w .front + w .back ≤ w .end)) ⌝ }
-    ensures { λ q. ⌜ ((t : Series Float) → Counted t w → w .start ≤ start → (start < w .end → Tallied t (w .start) start (gone .valid) (gone .nonfinite)) → Leaves t w start (q .window) (q .flips)) ⌝ }
+pub(crate) fn trimmed(w: Window, start: usize, leaving: Tally) -> Trim
+    requires { ⌜ TallyFits w start (leaving .valid) (leaving .nonfinite) ⌝ }
+    ensures { λ q. ⌜ TrimsBy w start (leaving .valid) (leaving .nonfinite) (q .window) (q .flips) ⌝ }
 {
     let end = w.end;
     if end <= start {
-        return Left {
-            window: Window {
-                start,
-                end: start,
-                split: start,
-                front: 0,
-                back: 0,
-                nonfinite: 0,
-            },
+        return Trim {
+            window: Window::empty_at(start),
             flips: false,
         };
     }
-    if gone.valid <= w.front {
-        return Left {
+    if leaving.valid <= w.front {
+        return Trim {
             window: Window {
                 start,
                 end,
                 split: w.split,
-                front: w.front - gone.valid,
+                front: w.front - leaving.valid,
                 back: w.back,
-                nonfinite: w.nonfinite - gone.nonfinite,
+                nonfinite: w.nonfinite - leaving.nonfinite,
             },
             flips: false,
         };
     }
-    Left {
+    Trim {
         window: Window {
             start,
             end,
             split: end,
-            front: w.front + w.back - gone.valid,
+            front: w.front + w.back - leaving.valid,
             back: 0,
-            nonfinite: w.nonfinite - gone.nonfinite,
+            nonfinite: w.nonfinite - leaving.nonfinite,
         },
         flips: true,
     }

@@ -2,28 +2,30 @@
 // of the front stack from its beginning, readings of the back stack from `base` on.
 ghost use mathlib.Core.Path.{_≡_};
 ghost use mathlib.Core.Bool.{false, cond};
-ghost use mathlib.Core.List.{_++_};
-ghost use Prim.Native.Nat.{_+_, _*_, _^_, _≤_, _<_};
+ghost use Prim.Native.Nat.{_*_, _≤_, min};
 ghost use lib.Dec.{leb};
-ghost use lib.ListN.{length, take, drop, set, getD};
+ghost use lib.ListN.{length, set, getD};
 ghost use lib.Ieee.{nan};
 ghost use Rattle.float.specs.Operators.{_⊗_, count};
+ghost use Rattle.float.specs.Tables.{table};
+ghost use Rattle.trace.specs.Trace.{tracing};
 ghost use Rattle.moment.specs.Skew.{skewEmpty, skewCombine, skewCorrection, skewFinalize};
-ghost use Rattle.trace.specs.Trace.{validAt};
-ghost use Rattle.window.specs.Places.{validCount};
-ghost use Rattle.window.specs.Window.{restarted, left, entered, moved};
-ghost use Rattle.window.specs.Readings.{series, ofReadings};
-ghost use Rattle.window.specs.Rows.{rows, stepped, table};
-ghost use Rattle.window.specs.Stacks.{inMemory, frontStack, account, Counted, Leaves, Held, Pushed, topOf, answerBy, Movable, Moves, Planned, Accepted};
-ghost use Rattle.rolling.specs.Moments.{Skewness, skewLayout, skewness};
-ghost use Rattle.rolling.specs.Weighed.{skewWeight, Weighed};
-ghost use Rattle.rolling.specs.Slots.{Corrections, m2Of, m3Of, leastOf, estimate, doubleAt, pendingOf, Waits, BlockFilled};
-ghost use Rattle.rolling.specs.Calls.{askPlan, lent, traceOf, Written};
-ghost use Rattle.rolling.specs.Reaching.{rowsOf};
-use crate::bounds;
+ghost use Rattle.window.specs.Code.Stacks.{answerBy};
+ghost use Rattle.trace.specs.Slices.{entering, leaving};
+ghost use Rattle.window.specs.Readings.{series};
+ghost use Rattle.window.specs.Code.Stacks.{Flippable, Flipped, Appendable, Appended, topOf};
+ghost use Rattle.window.specs.Code.Stacks.{Trimmable, Trimmed, Extendable, Extended, Movable, Updated, Stepped};
+ghost use Rattle.rolling.specs.Moments.{Skewness};
+ghost use Rattle.rolling.specs.Calls.{querying, lending, Calls};
+ghost use Rattle.rolling.specs.Fixed.{CallsFixed};
+ghost use Rattle.rolling.specs.Code.Layouts.{skewStates, skewStored};
+ghost use Rattle.rolling.specs.Code.Weighed.{skewWeight, Weighed};
+ghost use Rattle.rolling.specs.Code.Rows.{seriesIn, drivenQuery, Leaves, Driven};
+ghost use Rattle.rolling.specs.Code.Slots.{Corrections, m2Of, m3Of, leastOf, estimate, doubleAt, pendingOf};
+ghost use Rattle.rolling.specs.Code.Slots.{SlotFree, SlotHolds, SlotsFor, CanFill, BlockFilled};
 use crate::leaving;
-use crate::leaving::Left;
 use crate::row;
+use crate::row::Rows;
 use moment::SkewState;
 use window::Window;
 
@@ -38,7 +40,7 @@ pub struct SkewWindow {
 }
 
 // The back stack grown: how many readings stand in it, how many in the window are not finite, and its state.
-pub struct SkewPushed {
+pub struct SkewAppended {
     pub back: usize,
     pub nonfinite: usize,
     pub agg_back: SkewState,
@@ -61,17 +63,20 @@ impl SkewMoment {
     // Counts whose correction is kept.
     const KEPT: usize = 256;
 
+    // Rows that are finalised together.
+    const BLOCK: usize = 32;
+
     fn empty() -> SkewState
         ensures { λ r. ⌜ r ≡ skewEmpty ⌝ }
     {
         SkewState::default()
     }
 
-    // The n readings of the back stack become the front stack, the last of them at its bottom. The weight counts them, so that `insert_one`
-    // has nothing to clear.
+    // The n readings of the back stack become the front stack, the last of them at its bottom. The weight counts them, so that
+    // `insert_one` has nothing to clear.
     fn flip(work: &mut [f64], base: usize, n: usize)
-        requires { ⌜ (4 * n ≤ base) × (base + n ≤ length (now work)) × (n ≤ 2 ^ 53) ⌝ }
-        ensures { λ _. ⌜ now (work .exit) ≡ inMemory skewLayout (frontStack (ofReadings skewness) (take n (drop base (now (work .entry))))) ++ drop (4 * n) (now (work .entry)) ⌝ }
+        requires { ⌜ Flippable skewStored base n (now work) ⌝ }
+        ensures { λ _. ⌜ Flipped skewStored base n (entering work) (leaving work) ⌝ }
     {
         let mut agg = SkewMoment::empty();
         let mut at: usize = 0;
@@ -87,8 +92,8 @@ impl SkewMoment {
         }
     }
 
-    // The readings of the valid places from a up to b, pushed on the n that stand in the back stack.
-    fn push(
+    // The readings of the valid places from a up to b, appended to the n that stand in the back stack.
+    fn append(
         back: &mut [f64],
         n: usize,
         values: &[f64],
@@ -98,10 +103,11 @@ impl SkewMoment {
         b: usize,
         nonfinite: usize,
         agg_back: SkewState,
-    ) -> SkewPushed
-        requires { ⌜ (a ≤ b) × (b ≤ length (now values)) × (1 * (n + validCount (series «has_map» (now map) (now values)) a b) ≤ length (now back)) × (nonfinite ≤ a) × (b ≤ 2 ^ 53) × (n ≤ a) × («agg_back» .weight ≡ count n) ⌝ }
-        ensures { λ q. ⌜ Pushed (ofReadings skewness) (series «has_map» (now (map .entry)) (now (values .entry))) (now (back .entry)) n nonfinite «agg_back» a b
-            (now (back .exit)) (q .back) (q .nonfinite) (q .«agg_back») ⌝ }
+    ) -> SkewAppended
+        requires { ⌜ Appendable skewStored (series «has_map» (now map) (now values)) a b (length (now values)) n nonfinite (now back) ⌝ }
+        requires { ⌜ «agg_back» .weight ≡ count n ⌝ }
+        ensures { λ q. ⌜ Appended skewStored (seriesIn «has_map» map values) (entering back) n nonfinite «agg_back» a b
+            (leaving back) (q .back) (q .nonfinite) (q .«agg_back») ⌝ }
     {
         let mut state = agg_back;
         let mut at = n;
@@ -122,7 +128,7 @@ impl SkewMoment {
             }
             i += 1;
         }
-        SkewPushed {
+        SkewAppended {
             back: at,
             nonfinite: count,
             agg_back: state,
@@ -132,7 +138,7 @@ impl SkewMoment {
     // The state on the top of the front stack's n, or the empty one.
     fn last(work: &[f64], n: usize) -> SkewState
         requires { ⌜ 4 * n ≤ length (now work) ⌝ }
-        ensures { λ r. ⌜ r ≡ topOf (ofReadings skewness) (now (work .entry)) n ⌝ }
+        ensures { λ r. ⌜ r ≡ topOf skewStored (entering work) n ⌝ }
     {
         if n == 0 {
             return SkewMoment::empty();
@@ -146,17 +152,8 @@ impl SkewMoment {
         }
     }
 
-    // One for each moment, so that each has one call site (the row loop stays free of calls).
-    fn leave(values: &[f64], has_map: bool, map: &[u8], w: Window, start: usize) -> Left
-        requires { ⌜ (w .start ≤ start) × (start ≤ length (now values)) × (w .end ≤ length (now values)) × Counted (series «has_map» (now map) (now values)) w ⌝ }
-        ensures { λ q. ⌜ Leaves (series «has_map» (now (map .entry)) (now (values .entry))) w start (q .window) (q .flips) ⌝ }
-    {
-        let gone = leaving::below(values, has_map, map, w, start);
-        leaving::without(w, start, gone)
-    }
-
     // The window without the places below `start`.
-    fn pop(
+    fn trim(
         work: &mut [f64],
         base: usize,
         values: &[f64],
@@ -165,15 +162,17 @@ impl SkewMoment {
         w: SkewWindow,
         start: usize,
     ) -> SkewWindow
-        requires { ⌜ Held (ofReadings skewness) (series «has_map» (now map) (now values)) base (w .window) (w .«agg_back») (now work) × (w .window .start ≤ start)
-            × (start ≤ length (now values)) × (w .window .end ≤ length (now values)) × (4 * w .window .back ≤ base) × (base + w .window .back ≤ length (now work)) × (length (now values) ≤ 2 ^ 53) ⌝ }
-        ensures { λ q. ⌜ Moves (ofReadings skewness) (series «has_map» (now (map .entry)) (now (values .entry))) base base (left (validAt «has_map» (now (map .entry))) (restarted (account (w .window)) start) start) (now (work .entry)) (q .window) (q .«agg_back») (now (work .exit)) ⌝ }
+        requires { ⌜ Trimmable skewStored (series «has_map» (now map) (now values)) base start (length (now values))
+            (w .window) (w .«agg_back») (now work) ⌝ }
+        ensures { λ q. ⌜ Trimmed skewStored (seriesIn «has_map» map values) base start (w .window) (entering work)
+            (q .window) (q .«agg_back») (leaving work) ⌝ }
     {
         let window = w.window;
         let agg_back = w.agg_back;
-        let left = SkewMoment::leave(values, has_map, map, window, start);
-        let kept = left.window;
-        if left.flips {
+        let leaving = leaving::tally_below(values, has_map, map, window, start);
+        let trim = leaving::trimmed(window, start, leaving);
+        let kept = trim.window;
+        if trim.flips {
             SkewMoment::flip(work, base, window.back);
             return SkewWindow {
                 window: kept,
@@ -204,13 +203,14 @@ impl SkewMoment {
         w: SkewWindow,
         end: usize,
     ) -> SkewWindow
-        requires { ⌜ Held (ofReadings skewness) (series «has_map» (now map) (now values)) base (w .window) (w .«agg_back») (now work) × (w .window .end ≤ end)
-            × (end ≤ length (now values)) × (end ≤ w .window .start + widest) × (4 * widest ≤ base) × (base + 1 * widest ≤ length (now work)) × (length (now values) ≤ 2 ^ 53) ⌝ }
-        ensures { λ q. ⌜ Moves (ofReadings skewness) (series «has_map» (now (map .entry)) (now (values .entry))) base (base + 1 * widest) (entered (account (w .window)) end) (now (work .entry)) (q .window) (q .«agg_back») (now (work .exit)) ⌝ }
+        requires { ⌜ Extendable skewStored (series «has_map» (now map) (now values)) base widest end (length (now values))
+            (w .window) (w .«agg_back») (now work) ⌝ }
+        ensures { λ q. ⌜ Extended skewStored (seriesIn «has_map» map values) base widest end (w .window) (entering work)
+            (q .window) (q .«agg_back») (leaving work) ⌝ }
     {
         let window = w.window;
         let agg_back = w.agg_back;
-        let pushed = SkewMoment::push(
+        let appended = SkewMoment::append(
             &mut work[base..],
             window.back,
             values,
@@ -221,16 +221,9 @@ impl SkewMoment {
             window.nonfinite,
             agg_back,
         );
-        let grown = pushed.agg_back;
+        let grown = appended.agg_back;
         SkewWindow {
-            window: Window {
-                start: window.start,
-                end,
-                split: window.split,
-                front: window.front,
-                back: pushed.back,
-                nonfinite: pushed.nonfinite,
-            },
+            window: window.extended(end, appended.back, appended.nonfinite),
             agg_back: grown,
         }
     }
@@ -246,36 +239,35 @@ impl SkewMoment {
         start: usize,
         end: usize,
     ) -> SkewWindow
-        requires { ⌜ Movable (ofReadings skewness) (series «has_map» (now map) (now values)) 5 start end (length (now values)) widest (w .window) (w .«agg_back») (now work)
-            × (length (now values) ≤ 2 ^ 53) ⌝ }
-        ensures { λ q. ⌜ Moves (ofReadings skewness) (series «has_map» (now (map .entry)) (now (values .entry))) (4 * widest) (5 * widest) (moved (validAt «has_map» (now (map .entry))) (account (w .window)) start end)
-            (now (work .entry)) (q .window) (q .«agg_back») (now (work .exit)) ⌝ }
+        requires { ⌜ Movable skewStored (series «has_map» (now map) (now values)) start end (length (now values)) widest
+            (w .window) (w .«agg_back») (now work) ⌝ }
+        ensures { λ q. ⌜ Updated skewStored (seriesIn «has_map» map values) widest start end (w .window) (entering work)
+            (q .window) (q .«agg_back») (leaving work) ⌝ }
     {
         let base = SkewMoment::STATE * widest;
-        let popped = SkewMoment::pop(work, base, values, has_map, map, w, start);
-        SkewMoment::extend(work, base, widest, values, has_map, map, popped, end)
+        let trimmed = SkewMoment::trim(work, base, values, has_map, map, w, start);
+        SkewMoment::extend(work, base, widest, values, has_map, map, trimmed, end)
     }
 
     // The window after a row's part in it: a row is one step, so that two plans can be driven in turn.
     fn step(
         work: &mut [f64],
-        widest: usize,
+        rows: Rows,
         values: &[f64],
         has_map: bool,
         map: &[u8],
         w: SkewWindow,
-        min_periods: usize,
         row: usize,
         start: usize,
         end: usize,
     ) -> SkewWindow
-        requires { ⌜ Movable (ofReadings skewness) (series «has_map» (now map) (now values)) 5 start end (length (now values)) widest (w .window) (w .«agg_back») (now work)
-            × (length (now values) ≤ 2 ^ 53) ⌝ }
-        ensures { λ q. ⌜ Moves (ofReadings skewness) (series «has_map» (now (map .entry)) (now (values .entry))) (4 * widest) (5 * widest) (stepped (validAt «has_map» (now (map .entry))) «has_map» «min_periods» row start end (account (w .window)))
-            (now (work .entry)) (q .window) (q .«agg_back») (now (work .exit)) ⌝ }
+        requires { ⌜ Movable skewStored (series «has_map» (now map) (now values)) start end (length (now values)) (rows .widest)
+            (w .window) (w .«agg_back») (now work) ⌝ }
+        ensures { λ q. ⌜ Stepped skewStored (seriesIn «has_map» map values) (rows .widest) (rows .«min_periods») row start end
+            (w .window) (entering work) (q .window) (q .«agg_back») (leaving work) ⌝ }
     {
-        if row::moves(has_map, min_periods, row, start, end) {
-            return SkewMoment::update(work, widest, values, has_map, map, w, start, end);
+        if row::moves(has_map, rows.min_periods, row, start, end) {
+            return SkewMoment::update(work, rows.widest, values, has_map, map, w, start, end);
         }
         w
     }
@@ -283,7 +275,7 @@ impl SkewMoment {
     // The correction for a count of readings. Rows of one count share it: a root and a division less for each.
     fn correction(self, counts: &mut [u64], corrections: &mut [f64], valid: usize) -> f64
         requires { ⌜ Corrections (now counts) (now corrections) ⌝ }
-        ensures { λ r. ⌜ (self .bias ≡ false → r ≡ skewCorrection (count valid)) × Corrections (now (counts .exit)) (now (corrections .exit)) ⌝ }
+        ensures { λ r. ⌜ (self .bias ≡ false → r ≡ skewCorrection (count valid)) × Corrections (leaving counts) (leaving corrections) ⌝ }
     {
         if self.bias {
             return 0.0;
@@ -301,8 +293,8 @@ impl SkewMoment {
 
     // The back state combined with the front state. The counts tell which weights are zero.
     fn total(work: &[f64], w: SkewWindow) -> SkewState
-        requires { ⌜ (4 * w .window .front ≤ length (now work)) × Weighed skewness skewWeight (w .window) (w .«agg_back») (now work) ⌝ }
-        ensures { λ r. ⌜ r ≡ skewCombine (w .«agg_back») (topOf (ofReadings skewness) (now (work .entry)) (w .window .front)) ⌝ }
+        requires { ⌜ Weighed skewStates skewWeight (w .window) (w .«agg_back») (now work) ⌝ }
+        ensures { λ r. ⌜ r ≡ skewCombine (w .«agg_back») (topOf skewStored (entering work) (w .window .front)) ⌝ }
     {
         let agg_back = w.agg_back;
         if w.window.front == 0 {
@@ -325,9 +317,9 @@ impl SkewMoment {
         factors: &mut [f64],
         k: usize,
     )
-        requires { ⌜ (k < length (now m2s)) × (k < length (now m3s)) × (k < length (now factors)) ⌝ }
-        ensures { λ _. ⌜ (now (m2s .exit) ≡ set (now (m2s .entry)) k (m2Of state)) × (now (m3s .exit) ≡ set (now (m3s .entry)) k (m3Of state nonfinite))
-            × (now (factors .exit) ≡ set (now (factors .entry)) k factor) ⌝ }
+        requires { ⌜ SlotFree k (now m2s) (now m3s) (now factors) ⌝ }
+        ensures { λ _. ⌜ (leaving m2s ≡ set (entering m2s) k (m2Of state)) × (leaving m3s ≡ set (entering m3s) k (m3Of state nonfinite))
+            × (leaving factors ≡ set (entering factors) k factor) ⌝ }
     {
         let m2 = state.m2 / state.weight;
         m2s[k] = m2;
@@ -351,7 +343,7 @@ impl SkewMoment {
         least <= valid
     }
 
-    // The state that a row waits with, of the window after its step, by the tests of `is_valid` and `finalize`.
+    // The state that a row is to be finalised with, of the window after its step, by the tests of `is_valid` and `finalize`.
     fn pending(
         self,
         work: &[f64],
@@ -361,8 +353,9 @@ impl SkewMoment {
         start: usize,
         end: usize,
     ) -> SkewPending
-        requires { ⌜ (4 * w .window .front ≤ length (now work)) × Weighed skewness skewWeight (w .window) (w .«agg_back») (now work) × (start ≤ end) ⌝ }
-        ensures { λ r. ⌜ r ≡ pendingOf (self .bias) «has_map» «min_periods» start end (w .window) (skewCombine (w .«agg_back») (topOf (ofReadings skewness) (now (work .entry)) (w .window .front))) ⌝ }
+        requires { ⌜ Weighed skewStates skewWeight (w .window) (w .«agg_back») (now work) × (start ≤ end) ⌝ }
+        ensures { λ r. ⌜ r ≡ pendingOf (self .bias) «has_map» «min_periods» start end (w .window)
+            (skewCombine (w .«agg_back») (topOf skewStored (entering work) (w .window .front))) ⌝ }
     {
         let valid = w.window.front + w.window.back;
         if row::is_valid(has_map, min_periods, valid, start, end) {
@@ -389,10 +382,11 @@ impl SkewMoment {
         factors: &mut [f64],
         k: usize,
     ) -> u8
-        requires { ⌜ (4 * w .window .front ≤ length (now work)) × Weighed skewness skewWeight (w .window) (w .«agg_back») (now work) × (start ≤ end) × (k < length (now m2s)) × (k < length (now m3s)) × (k < length (now factors)) × Corrections (now counts) (now corrections) ⌝ }
-        ensures { λ r. ⌜ Waits (self .bias) (answerBy (ofReadings skewness) (λ z. skewFinalize z (self .bias)) «has_map» «min_periods» start end (w .window) (w .«agg_back») (now (work .entry))) k r
-            (now (m2s .entry)) (now (m3s .entry)) (now (factors .entry)) (now (m2s .exit)) (now (m3s .exit)) (now (factors .exit))
-            × Corrections (now (counts .exit)) (now (corrections .exit)) ⌝ }
+        requires { ⌜ Weighed skewStates skewWeight (w .window) (w .«agg_back») (now work) × (start ≤ end) ⌝ }
+        requires { ⌜ SlotFree k (now m2s) (now m3s) (now factors) × Corrections (now counts) (now corrections) ⌝ }
+        ensures { λ r. ⌜ SlotHolds (self .bias) (answerBy skewStored (λ z. skewFinalize z (self .bias)) «has_map» «min_periods»
+            start end (w .window) (w .«agg_back») (entering work)) k r (entering m2s) (entering m3s) (entering factors)
+            (leaving m2s) (leaving m3s) (leaving factors) × Corrections (leaving counts) (leaving corrections) ⌝ }
     {
         let SkewPending::State(state) = self.pending(work, w, has_map, min_periods, start, end)
         else {
@@ -416,8 +410,9 @@ impl SkewMoment {
 
     // The doubles that the slots come to, by the roots of their second moments.
     fn estimates(self, m2s: &[f64], m3s: &[f64], factors: &[f64], roots: &[f64], out: &mut [f64])
-        requires { ⌜ (length (now out) ≤ length (now m2s)) × (length (now out) ≤ length (now m3s)) × (length (now out) ≤ length (now factors)) × (length (now out) ≤ length (now roots)) ⌝ }
-        ensures { λ _. ⌜ now (out .exit) ≡ table (λ i. estimate (self .bias) (getD (now (m2s .entry)) i nan) (getD (now (m3s .entry)) i nan) (getD (now (factors .entry)) i nan) (getD (now (roots .entry)) i nan)) (length (now (out .entry))) ⌝ }
+        requires { ⌜ SlotsFor (length (now out)) (now m2s) (now m3s) (now factors) (now roots) ⌝ }
+        ensures { λ _. ⌜ leaving out ≡ table (λ i. estimate (self .bias) (getD (entering m2s) i nan) (getD (entering m3s) i nan)
+            (getD (entering factors) i nan) (getD (entering roots) i nan)) (length (entering out)) ⌝ }
     {
         let mut i: usize = 0;
         while i < out.len() {
@@ -429,8 +424,8 @@ impl SkewMoment {
 
     // The figures of a block's rows: the roots of all slots, then what each comes to.
     fn finish(self, m2s: &[f64], m3s: &[f64], factors: &[f64], roots: &mut [f64], out: &mut [f64])
-        requires { ⌜ (length (now out) ≤ length (now m2s)) × (length (now out) ≤ length (now m3s)) × (length (now out) ≤ length (now factors)) × (length (now out) ≤ length (now roots)) ⌝ }
-        ensures { λ _. ⌜ now (out .exit) ≡ table (λ i. doubleAt (self .bias) (now (m2s .entry)) (now (m3s .entry)) (now (factors .entry)) i) (length (now (out .entry))) ⌝ }
+        requires { ⌜ SlotsFor (length (now out)) (now m2s) (now m3s) (now factors) (now roots) ⌝ }
+        ensures { λ _. ⌜ leaving out ≡ table (doubleAt (self .bias) (entering m2s) (entering m3s) (entering factors)) (length (entering out)) ⌝ }
     {
         let n = out.len();
         root::roots(&m2s[..n], &mut roots[..n]);
@@ -440,16 +435,12 @@ impl SkewMoment {
     // The rows of a block, from `first` up to `until`: the window after them, with their bytes and slots written.
     fn block(
         self,
+        rows: Rows,
         values: &[f64],
         has_map: bool,
         map: &[u8],
-        fixed: bool,
-        left: usize,
-        right: usize,
         starts: &[u32],
         ends: &[u32],
-        min_periods: usize,
-        widest: usize,
         work: &mut [f64],
         present: &mut [u8],
         opening: SkewWindow,
@@ -461,39 +452,24 @@ impl SkewMoment {
         m3s: &mut [f64],
         factors: &mut [f64],
     ) -> SkewWindow
-        requires { ⌜ Planned (length (now values)) widest (rowsOf fixed left right (length (now values)) (now starts) (now ends)) × (length (now values) ≤ 2 ^ 53) × (5 * widest ≤ length (now work))
-            × (rows (rowsOf fixed left right (length (now values)) (now starts) (now ends)) ≤ length (now present)) × (first ≤ until) × (until ≤ rows (rowsOf fixed left right (length (now values)) (now starts) (now ends))) × (until ≤ first + 32) ⌝ }
-        requires { ⌜ BlockFilled (self .bias) (series «has_map» (now map) (now values)) «min_periods» (length (now values)) widest (rowsOf fixed left right (length (now values)) (now starts) (now ends)) first
-            (now work) (now work) (now present) (now present) (opening .window) (opening .«agg_back») (now counts) (now corrections) (now m2s) (now m3s) (now factors) first ⌝ }
-        ensures { λ q. ⌜ BlockFilled (self .bias) (series «has_map» (now (map .entry)) (now (values .entry))) «min_periods» (length (now (values .entry))) widest (rowsOf fixed left right (length (now (values .entry))) (now (starts .entry)) (now (ends .entry))) first
-            (now (work .entry)) (now (work .exit)) (now (present .entry)) (now (present .exit)) (q .window) (q .«agg_back»)
-            (now (counts .exit)) (now (corrections .exit)) (now (m2s .exit)) (now (m3s .exit)) (now (factors .exit)) until ⌝ }
+        requires { ⌜ CanFill «has_map» (now map) (now values) rows (now starts) (now ends) (length (now present)) first until
+            (opening .window) (opening .«agg_back») (now work) (now counts) (now corrections) (now m2s) (now m3s) (now factors) ⌝ }
+        ensures { λ q. ⌜ BlockFilled (self .bias) «has_map» (entering map) (entering values) rows (entering starts) (entering ends) first until
+            (entering work) (entering present) (q .window) (q .«agg_back») (leaving work) (leaving present)
+            (leaving counts) (leaving corrections) (leaving m2s) (leaving m3s) (leaving factors) ⌝ }
     {
-        let n = values.len();
         let mut w = opening;
         let mut row = first;
         while row < until {
-            let start = bounds::row_start(fixed, left, starts, row);
-            let end = bounds::row_end(fixed, right, n, ends, row);
-            w = SkewMoment::step(
-                work,
-                widest,
-                values,
-                has_map,
-                map,
-                w,
-                min_periods,
-                row,
-                start,
-                end,
-            );
+            let at = row::offsets(rows, values.len(), starts, ends, row);
+            w = SkewMoment::step(work, rows, values, has_map, map, w, row, at.start, at.end);
             let there = self.prepare(
                 work,
                 w,
                 has_map,
-                min_periods,
-                start,
-                end,
+                rows.min_periods,
+                at.start,
+                at.end,
                 counts,
                 corrections,
                 m2s,
@@ -510,33 +486,23 @@ impl SkewMoment {
     // Every row of an accepted plan, or of fixed windows.
     pub(crate) fn rows(
         self,
+        rows: Rows,
         values: &[f64],
         has_map: bool,
         map: &[u8],
-        fixed: bool,
-        left: usize,
-        right: usize,
         starts: &[u32],
         ends: &[u32],
-        min_periods: usize,
-        widest: usize,
         work: &mut [f64],
         figures: &mut [f64],
         present: &mut [u8],
     )
-        requires { ⌜ Accepted 5 (length (now values)) (rowsOf fixed left right (length (now values)) (now starts) (now ends)) false (length (now figures)) (length (now present)) (length (now work)) widest ⌝ }
-        ensures { λ _. ⌜ Written (askPlan (rowsOf fixed left right (length (now (values .entry))) (now (starts .entry)) (now (ends .entry))) «min_periods» (Skewness (self .bias))) (traceOf (now (values .entry)) «has_map» (now (map .entry)))
-            (lent (now (figures .entry)) (now (present .entry)) (now (work .entry))) (lent (now (figures .exit)) (now (present .exit)) (now (work .exit))) 0 ⌝ }
+        requires { ⌜ Driven rows (length (now values)) (now starts) (now ends) (min (length (now figures)) (length (now present)))
+            5 (length (now work)) ⌝ }
+        ensures { λ _. ⌜ Leaves (drivenQuery rows values starts ends (Skewness (self .bias))) (tracing values «has_map» map)
+            (lending work figures present) ⌝ }
     {
         let mut w = SkewWindow {
-            window: Window {
-                start: 0,
-                end: 0,
-                split: 0,
-                front: 0,
-                back: 0,
-                nonfinite: 0,
-            },
+            window: Window::empty_at(0),
             agg_back: SkewMoment::empty(),
         };
         // Every place holds the correction of the count 0.
@@ -547,21 +513,17 @@ impl SkewMoment {
         let mut m3s = [0.0; 32];
         let mut factors = [0.0; 32];
         let mut roots = [0.0; 32];
-        let rows = bounds::rows(fixed, values.len(), starts.len());
+        let many = row::how_many(rows, values.len(), starts.len());
         let mut first: usize = 0;
-        while first < rows {
-            let until = bounds::block_end(first, rows);
+        while first < many {
+            let until = plan::end_of(SkewMoment::BLOCK, many, first);
             w = self.block(
+                rows,
                 values,
                 has_map,
                 map,
-                fixed,
-                left,
-                right,
                 starts,
                 ends,
-                min_periods,
-                widest,
                 work,
                 present,
                 w,
@@ -577,4 +539,108 @@ impl SkewMoment {
             first = until;
         }
     }
+}
+
+// Rolling skewness over a plan.
+pub fn plan_skew(
+    values: &[f64],
+    has_map: bool,
+    map: &[u8],
+    starts: &[u32],
+    ends: &[u32],
+    min_periods: usize,
+    bias: bool,
+    work: &mut [f64],
+    figures: &mut [f64],
+    present: &mut [u8],
+) -> u32
+    ensures { λ r. ⌜ Calls (querying starts ends «min_periods» (Skewness bias)) (tracing values «has_map» map)
+        (lending work figures present) r ⌝ }
+{
+    let checked = plan::plan_refusal(
+        trace::array_refusal(values.len(), has_map, map),
+        starts,
+        ends,
+        values.len(),
+        false,
+        plan::shorter(figures.len(), present.len()),
+        SkewMoment::PLACE,
+        work.len(),
+    );
+    if checked.number != 0 {
+        return checked.number;
+    }
+    let rows = Rows {
+        fixed: false,
+        left: 0,
+        right: 0,
+        min_periods,
+        widest: checked.widest,
+    };
+    let moment = SkewMoment { bias };
+    moment.rows(
+        rows,
+        values,
+        has_map,
+        map,
+        starts,
+        ends,
+        work,
+        figures,
+        present,
+    );
+    0
+}
+
+// Rolling skewness over fixed windows: 004's and 005's `rolling_skew`.
+pub fn rolling_skew(
+    values: &[f64],
+    has_map: bool,
+    map: &[u8],
+    window_size: usize,
+    min_periods: usize,
+    center: bool,
+    bias: bool,
+    work: &mut [f64],
+    figures: &mut [f64],
+    present: &mut [u8],
+) -> u32
+    ensures { λ r. ⌜ CallsFixed center «window_size» «min_periods» (Skewness bias) (tracing values «has_map» map)
+        (lending work figures present) r ⌝ }
+{
+    let checked = plan::fixed_refusal(
+        trace::array_refusal(values.len(), has_map, map),
+        values.len(),
+        window_size,
+        plan::shorter(figures.len(), present.len()),
+        SkewMoment::PLACE,
+        work.len(),
+    );
+    if checked.number != 0 {
+        return checked.number;
+    }
+    let right = plan::right_window(center, window_size);
+    let left = window_size - right;
+    let rows = Rows {
+        fixed: true,
+        left,
+        right,
+        min_periods,
+        widest: checked.widest,
+    };
+    // no row of fixed windows reads a list
+    let none = [0u32; 1];
+    let moment = SkewMoment { bias };
+    moment.rows(
+        rows,
+        values,
+        has_map,
+        map,
+        &none,
+        &none,
+        work,
+        figures,
+        present,
+    );
+    0
 }

@@ -1,26 +1,26 @@
 // Variance over moving windows: 001's `VarianceMoment` and `MomentWindow` over it. The two stacks lie in the work slice, states
 // of the front stack from its beginning, readings of the back stack from `base` on.
 ghost use mathlib.Core.Path.{_≡_};
-ghost use mathlib.Core.Bool.{false};
-ghost use mathlib.Core.List.{_++_};
-ghost use Prim.Native.Nat.{_+_, _*_, _^_, _≤_, _<_};
-ghost use lib.ListN.{length, take, drop};
+ghost use Prim.Native.Nat.{_*_, _≤_, min};
+ghost use lib.ListN.{length};
 ghost use Rattle.float.specs.Operators.{count};
+ghost use Rattle.trace.specs.Trace.{tracing};
 ghost use Rattle.moment.specs.Var.{varEmpty, varCombine, varFinalize};
-ghost use Rattle.trace.specs.Trace.{validAt};
-ghost use Rattle.window.specs.Places.{validCount};
-ghost use Rattle.window.specs.Window.{restarted, left, entered, moved, orNan};
-ghost use Rattle.window.specs.Readings.{series, ofReadings};
-ghost use Rattle.window.specs.Rows.{stepped};
-ghost use Rattle.window.specs.Stacks.{inMemory, frontStack, account, Counted, Leaves, Held, Pushed, topOf, answerBy, Movable, Moves, Accepted};
-ghost use Rattle.rolling.specs.Moments.{Variance, varLayout, variance};
-ghost use Rattle.rolling.specs.Weighed.{varWeight, Weighed};
-ghost use Rattle.rolling.specs.Calls.{askPlan, lent, traceOf, Written};
-ghost use Rattle.rolling.specs.Reaching.{rowsOf};
-use crate::bounds;
+ghost use Rattle.window.specs.Window.{orNan};
+ghost use Rattle.window.specs.Code.Stacks.{answerBy};
+ghost use Rattle.trace.specs.Slices.{entering, leaving};
+ghost use Rattle.window.specs.Readings.{series};
+ghost use Rattle.window.specs.Code.Stacks.{Flippable, Flipped, Appendable, Appended, topOf};
+ghost use Rattle.window.specs.Code.Stacks.{Trimmable, Trimmed, Extendable, Extended, Movable, Updated, Stepped};
+ghost use Rattle.rolling.specs.Moments.{Variance};
+ghost use Rattle.rolling.specs.Calls.{querying, lending, Calls};
+ghost use Rattle.rolling.specs.Fixed.{CallsFixed};
+ghost use Rattle.rolling.specs.Code.Layouts.{varStates, varStored};
+ghost use Rattle.rolling.specs.Code.Weighed.{varWeight, Weighed};
+ghost use Rattle.rolling.specs.Code.Rows.{seriesIn, drivenQuery, Leaves, Driven, CanWork, Works};
 use crate::leaving;
-use crate::leaving::Left;
 use crate::row;
+use crate::row::Rows;
 use moment::Figure;
 use moment::VarState;
 use window::Window;
@@ -36,7 +36,7 @@ pub struct VarWindow {
 }
 
 // The back stack grown: how many readings stand in it, how many in the window are not finite, and its state.
-pub struct VarPushed {
+pub struct VarAppended {
     pub back: usize,
     pub nonfinite: usize,
     pub agg_back: VarState,
@@ -56,11 +56,11 @@ impl VarianceMoment {
         VarState::default()
     }
 
-    // The n readings of the back stack become the front stack, the last of them at its bottom. The weight counts them, so that `insert_one`
-    // has nothing to clear.
+    // The n readings of the back stack become the front stack, the last of them at its bottom. The weight counts them, so that
+    // `insert_one` has nothing to clear.
     fn flip(work: &mut [f64], base: usize, n: usize)
-        requires { ⌜ (3 * n ≤ base) × (base + n ≤ length (now work)) × (n ≤ 2 ^ 53) ⌝ }
-        ensures { λ _. ⌜ now (work .exit) ≡ inMemory varLayout (frontStack (ofReadings variance) (take n (drop base (now (work .entry))))) ++ drop (3 * n) (now (work .entry)) ⌝ }
+        requires { ⌜ Flippable varStored base n (now work) ⌝ }
+        ensures { λ _. ⌜ Flipped varStored base n (entering work) (leaving work) ⌝ }
     {
         let mut agg = VarianceMoment::empty();
         let mut at: usize = 0;
@@ -75,8 +75,8 @@ impl VarianceMoment {
         }
     }
 
-    // The readings of the valid places from a up to b, pushed on the n that stand in the back stack.
-    fn push(
+    // The readings of the valid places from a up to b, appended to the n that stand in the back stack.
+    fn append(
         back: &mut [f64],
         n: usize,
         values: &[f64],
@@ -86,10 +86,11 @@ impl VarianceMoment {
         b: usize,
         nonfinite: usize,
         agg_back: VarState,
-    ) -> VarPushed
-        requires { ⌜ (a ≤ b) × (b ≤ length (now values)) × (1 * (n + validCount (series «has_map» (now map) (now values)) a b) ≤ length (now back)) × (nonfinite ≤ a) × (b ≤ 2 ^ 53) × (n ≤ a) × («agg_back» .weight ≡ count n) ⌝ }
-        ensures { λ q. ⌜ Pushed (ofReadings variance) (series «has_map» (now (map .entry)) (now (values .entry))) (now (back .entry)) n nonfinite «agg_back» a b
-            (now (back .exit)) (q .back) (q .nonfinite) (q .«agg_back») ⌝ }
+    ) -> VarAppended
+        requires { ⌜ Appendable varStored (series «has_map» (now map) (now values)) a b (length (now values)) n nonfinite (now back) ⌝ }
+        requires { ⌜ «agg_back» .weight ≡ count n ⌝ }
+        ensures { λ q. ⌜ Appended varStored (seriesIn «has_map» map values) (entering back) n nonfinite «agg_back» a b
+            (leaving back) (q .back) (q .nonfinite) (q .«agg_back») ⌝ }
     {
         let mut state = agg_back;
         let mut at = n;
@@ -110,7 +111,7 @@ impl VarianceMoment {
             }
             i += 1;
         }
-        VarPushed {
+        VarAppended {
             back: at,
             nonfinite: count,
             agg_back: state,
@@ -120,7 +121,7 @@ impl VarianceMoment {
     // The state on the top of the front stack's n, or the empty one.
     fn last(work: &[f64], n: usize) -> VarState
         requires { ⌜ 3 * n ≤ length (now work) ⌝ }
-        ensures { λ r. ⌜ r ≡ topOf (ofReadings variance) (now (work .entry)) n ⌝ }
+        ensures { λ r. ⌜ r ≡ topOf varStored (entering work) n ⌝ }
     {
         if n == 0 {
             return VarianceMoment::empty();
@@ -133,17 +134,8 @@ impl VarianceMoment {
         }
     }
 
-    // One for each moment, so that each has one call site (the row loop stays free of calls).
-    fn leave(values: &[f64], has_map: bool, map: &[u8], w: Window, start: usize) -> Left
-        requires { ⌜ (w .start ≤ start) × (start ≤ length (now values)) × (w .end ≤ length (now values)) × Counted (series «has_map» (now map) (now values)) w ⌝ }
-        ensures { λ q. ⌜ Leaves (series «has_map» (now (map .entry)) (now (values .entry))) w start (q .window) (q .flips) ⌝ }
-    {
-        let gone = leaving::below(values, has_map, map, w, start);
-        leaving::without(w, start, gone)
-    }
-
     // The window without the places below `start`.
-    fn pop(
+    fn trim(
         work: &mut [f64],
         base: usize,
         values: &[f64],
@@ -152,15 +144,17 @@ impl VarianceMoment {
         w: VarWindow,
         start: usize,
     ) -> VarWindow
-        requires { ⌜ Held (ofReadings variance) (series «has_map» (now map) (now values)) base (w .window) (w .«agg_back») (now work) × (w .window .start ≤ start)
-            × (start ≤ length (now values)) × (w .window .end ≤ length (now values)) × (3 * w .window .back ≤ base) × (base + w .window .back ≤ length (now work)) × (length (now values) ≤ 2 ^ 53) ⌝ }
-        ensures { λ q. ⌜ Moves (ofReadings variance) (series «has_map» (now (map .entry)) (now (values .entry))) base base (left (validAt «has_map» (now (map .entry))) (restarted (account (w .window)) start) start) (now (work .entry)) (q .window) (q .«agg_back») (now (work .exit)) ⌝ }
+        requires { ⌜ Trimmable varStored (series «has_map» (now map) (now values)) base start (length (now values))
+            (w .window) (w .«agg_back») (now work) ⌝ }
+        ensures { λ q. ⌜ Trimmed varStored (seriesIn «has_map» map values) base start (w .window) (entering work)
+            (q .window) (q .«agg_back») (leaving work) ⌝ }
     {
         let window = w.window;
         let agg_back = w.agg_back;
-        let left = VarianceMoment::leave(values, has_map, map, window, start);
-        let kept = left.window;
-        if left.flips {
+        let leaving = leaving::tally_below(values, has_map, map, window, start);
+        let trim = leaving::trimmed(window, start, leaving);
+        let kept = trim.window;
+        if trim.flips {
             VarianceMoment::flip(work, base, window.back);
             return VarWindow {
                 window: kept,
@@ -191,13 +185,14 @@ impl VarianceMoment {
         w: VarWindow,
         end: usize,
     ) -> VarWindow
-        requires { ⌜ Held (ofReadings variance) (series «has_map» (now map) (now values)) base (w .window) (w .«agg_back») (now work) × (w .window .end ≤ end)
-            × (end ≤ length (now values)) × (end ≤ w .window .start + widest) × (3 * widest ≤ base) × (base + 1 * widest ≤ length (now work)) × (length (now values) ≤ 2 ^ 53) ⌝ }
-        ensures { λ q. ⌜ Moves (ofReadings variance) (series «has_map» (now (map .entry)) (now (values .entry))) base (base + 1 * widest) (entered (account (w .window)) end) (now (work .entry)) (q .window) (q .«agg_back») (now (work .exit)) ⌝ }
+        requires { ⌜ Extendable varStored (series «has_map» (now map) (now values)) base widest end (length (now values))
+            (w .window) (w .«agg_back») (now work) ⌝ }
+        ensures { λ q. ⌜ Extended varStored (seriesIn «has_map» map values) base widest end (w .window) (entering work)
+            (q .window) (q .«agg_back») (leaving work) ⌝ }
     {
         let window = w.window;
         let agg_back = w.agg_back;
-        let pushed = VarianceMoment::push(
+        let appended = VarianceMoment::append(
             &mut work[base..],
             window.back,
             values,
@@ -208,16 +203,9 @@ impl VarianceMoment {
             window.nonfinite,
             agg_back,
         );
-        let grown = pushed.agg_back;
+        let grown = appended.agg_back;
         VarWindow {
-            window: Window {
-                start: window.start,
-                end,
-                split: window.split,
-                front: window.front,
-                back: pushed.back,
-                nonfinite: pushed.nonfinite,
-            },
+            window: window.extended(end, appended.back, appended.nonfinite),
             agg_back: grown,
         }
     }
@@ -233,44 +221,43 @@ impl VarianceMoment {
         start: usize,
         end: usize,
     ) -> VarWindow
-        requires { ⌜ Movable (ofReadings variance) (series «has_map» (now map) (now values)) 4 start end (length (now values)) widest (w .window) (w .«agg_back») (now work)
-            × (length (now values) ≤ 2 ^ 53) ⌝ }
-        ensures { λ q. ⌜ Moves (ofReadings variance) (series «has_map» (now (map .entry)) (now (values .entry))) (3 * widest) (4 * widest) (moved (validAt «has_map» (now (map .entry))) (account (w .window)) start end)
-            (now (work .entry)) (q .window) (q .«agg_back») (now (work .exit)) ⌝ }
+        requires { ⌜ Movable varStored (series «has_map» (now map) (now values)) start end (length (now values)) widest
+            (w .window) (w .«agg_back») (now work) ⌝ }
+        ensures { λ q. ⌜ Updated varStored (seriesIn «has_map» map values) widest start end (w .window) (entering work)
+            (q .window) (q .«agg_back») (leaving work) ⌝ }
     {
         let base = VarianceMoment::STATE * widest;
-        let popped = VarianceMoment::pop(work, base, values, has_map, map, w, start);
-        VarianceMoment::extend(work, base, widest, values, has_map, map, popped, end)
+        let trimmed = VarianceMoment::trim(work, base, values, has_map, map, w, start);
+        VarianceMoment::extend(work, base, widest, values, has_map, map, trimmed, end)
     }
 
     // The window after a row's part in it: a row is one step, so that two plans can be driven in turn.
     fn step(
         work: &mut [f64],
-        widest: usize,
+        rows: Rows,
         values: &[f64],
         has_map: bool,
         map: &[u8],
         w: VarWindow,
-        min_periods: usize,
         row: usize,
         start: usize,
         end: usize,
     ) -> VarWindow
-        requires { ⌜ Movable (ofReadings variance) (series «has_map» (now map) (now values)) 4 start end (length (now values)) widest (w .window) (w .«agg_back») (now work)
-            × (length (now values) ≤ 2 ^ 53) ⌝ }
-        ensures { λ q. ⌜ Moves (ofReadings variance) (series «has_map» (now (map .entry)) (now (values .entry))) (3 * widest) (4 * widest) (stepped (validAt «has_map» (now (map .entry))) «has_map» «min_periods» row start end (account (w .window)))
-            (now (work .entry)) (q .window) (q .«agg_back») (now (work .exit)) ⌝ }
+        requires { ⌜ Movable varStored (series «has_map» (now map) (now values)) start end (length (now values)) (rows .widest)
+            (w .window) (w .«agg_back») (now work) ⌝ }
+        ensures { λ q. ⌜ Stepped varStored (seriesIn «has_map» map values) (rows .widest) (rows .«min_periods») row start end
+            (w .window) (entering work) (q .window) (q .«agg_back») (leaving work) ⌝ }
     {
-        if row::moves(has_map, min_periods, row, start, end) {
-            return VarianceMoment::update(work, widest, values, has_map, map, w, start, end);
+        if row::moves(has_map, rows.min_periods, row, start, end) {
+            return VarianceMoment::update(work, rows.widest, values, has_map, map, w, start, end);
         }
         w
     }
 
     // The back state combined with the front state. The count tells whether the front state's weight is zero.
     fn total(work: &[f64], w: VarWindow) -> VarState
-        requires { ⌜ (3 * w .window .front ≤ length (now work)) × Weighed variance varWeight (w .window) (w .«agg_back») (now work) ⌝ }
-        ensures { λ r. ⌜ r ≡ varCombine (w .«agg_back») (topOf (ofReadings variance) (now (work .entry)) (w .window .front)) ⌝ }
+        requires { ⌜ Weighed varStates varWeight (w .window) (w .«agg_back») (now work) ⌝ }
+        ensures { λ r. ⌜ r ≡ varCombine (w .«agg_back») (topOf varStored (entering work) (w .window .front)) ⌝ }
     {
         let agg_back = w.agg_back;
         if w.window.front == 0 {
@@ -282,8 +269,9 @@ impl VarianceMoment {
 
     // 001's `get_moment`.
     fn get_moment(self, work: &[f64], w: VarWindow) -> Figure
-        requires { ⌜ (3 * w .window .front ≤ length (now work)) × Weighed variance varWeight (w .window) (w .«agg_back») (now work) ⌝ }
-        ensures { λ r. ⌜ r ≡ orNan (w .window .nonfinite) (varFinalize (varCombine (w .«agg_back») (topOf (ofReadings variance) (now (work .entry)) (w .window .front))) (self .ddof)) ⌝ }
+        requires { ⌜ Weighed varStates varWeight (w .window) (w .«agg_back») (now work) ⌝ }
+        ensures { λ r. ⌜ r ≡ orNan (w .window .nonfinite)
+            (varFinalize (varCombine (w .«agg_back») (topOf varStored (entering work) (w .window .front))) (self .ddof)) ⌝ }
     {
         let state = VarianceMoment::total(work, w);
         window::or_nan(state.finalize(self.ddof), w.window.nonfinite)
@@ -299,8 +287,10 @@ impl VarianceMoment {
         start: usize,
         end: usize,
     ) -> Figure
-        requires { ⌜ (3 * w .window .front ≤ length (now work)) × Weighed variance varWeight (w .window) (w .«agg_back») (now work) × (start ≤ end) ⌝ }
-        ensures { λ r. ⌜ r ≡ answerBy (ofReadings variance) (λ z. varFinalize z (self .ddof)) «has_map» «min_periods» start end (w .window) (w .«agg_back») (now (work .entry)) ⌝ }
+        requires { ⌜ Weighed varStates varWeight (w .window) (w .«agg_back») (now work) ⌝ }
+        requires { ⌜ start ≤ end ⌝ }
+        ensures { λ r. ⌜ r ≡ answerBy varStored (λ z. varFinalize z (self .ddof)) «has_map» «min_periods» start end
+            (w .window) (w .«agg_back») (entering work) ⌝ }
     {
         let valid = w.window.front + w.window.back;
         if row::is_valid(has_map, min_periods, valid, start, end) {
@@ -309,59 +299,180 @@ impl VarianceMoment {
         Figure::Missing
     }
 
-    // Every row of an accepted plan, or of fixed windows.
-    pub(crate) fn rows(
+    // The rows from `first` up to `until`, from the window that stands before them; the window after them.
+    fn block(
         self,
+        rows: Rows,
         values: &[f64],
         has_map: bool,
         map: &[u8],
-        fixed: bool,
-        left: usize,
-        right: usize,
         starts: &[u32],
         ends: &[u32],
-        min_periods: usize,
-        widest: usize,
+        work: &mut [f64],
+        figures: &mut [f64],
+        present: &mut [u8],
+        opening: VarWindow,
+        first: usize,
+        until: usize,
+    ) -> VarWindow
+        requires { ⌜ CanWork varStored «has_map» (now map) (now values) rows (now starts) (now ends) (min (length (now figures)) (length (now present)))
+            first until (opening .window) (opening .«agg_back») (now work) ⌝ }
+        ensures { λ q. ⌜ Works varStored (λ z. varFinalize z (self .ddof)) «has_map» (entering map) (entering values) rows (entering starts) (entering ends)
+            first until (entering work) (entering figures) (entering present)
+            (q .window) (q .«agg_back») (leaving work) (leaving figures) (leaving present) ⌝ }
+    {
+        let mut w = opening;
+        let mut row = first;
+        while row < until {
+            let at = row::offsets(rows, values.len(), starts, ends, row);
+            w = VarianceMoment::step(work, rows, values, has_map, map, w, row, at.start, at.end);
+            let figure = self.answer(work, w, has_map, rows.min_periods, at.start, at.end);
+            window::write(figures, present, row, figure);
+            row += 1;
+        }
+        w
+    }
+
+    // Every row of an accepted plan, or of fixed windows.
+    pub(crate) fn rows(
+        self,
+        rows: Rows,
+        values: &[f64],
+        has_map: bool,
+        map: &[u8],
+        starts: &[u32],
+        ends: &[u32],
         work: &mut [f64],
         figures: &mut [f64],
         present: &mut [u8],
     )
-        requires { ⌜ Accepted 4 (length (now values)) (rowsOf fixed left right (length (now values)) (now starts) (now ends)) false (length (now figures)) (length (now present)) (length (now work)) widest ⌝ }
-        ensures { λ _. ⌜ Written (askPlan (rowsOf fixed left right (length (now (values .entry))) (now (starts .entry)) (now (ends .entry))) «min_periods» (Variance (self .ddof))) (traceOf (now (values .entry)) «has_map» (now (map .entry)))
-            (lent (now (figures .entry)) (now (present .entry)) (now (work .entry))) (lent (now (figures .exit)) (now (present .exit)) (now (work .exit))) 0 ⌝ }
+        requires { ⌜ Driven rows (length (now values)) (now starts) (now ends) (min (length (now figures)) (length (now present)))
+            4 (length (now work)) ⌝ }
+        ensures { λ _. ⌜ Leaves (drivenQuery rows values starts ends (Variance (self .ddof))) (tracing values «has_map» map)
+            (lending work figures present) ⌝ }
     {
-        let mut w = VarWindow {
-            window: Window {
-                start: 0,
-                end: 0,
-                split: 0,
-                front: 0,
-                back: 0,
-                nonfinite: 0,
-            },
+        let opening = VarWindow {
+            window: Window::empty_at(0),
             agg_back: VarianceMoment::empty(),
         };
-        let n = values.len();
-        let rows = bounds::rows(fixed, n, starts.len());
-        let mut row = 0;
-        while row < rows {
-            let start = bounds::row_start(fixed, left, starts, row);
-            let end = bounds::row_end(fixed, right, n, ends, row);
-            w = VarianceMoment::step(
-                work,
-                widest,
-                values,
-                has_map,
-                map,
-                w,
-                min_periods,
-                row,
-                start,
-                end,
-            );
-            let figure = self.answer(work, w, has_map, min_periods, start, end);
-            row::write(figures, present, row, figure);
-            row += 1;
-        }
+        let until = row::how_many(rows, values.len(), starts.len());
+        self.block(
+            rows,
+            values,
+            has_map,
+            map,
+            starts,
+            ends,
+            work,
+            figures,
+            present,
+            opening,
+            0,
+            until,
+        );
     }
+}
+
+// Rolling variance over a plan.
+pub fn plan_var(
+    values: &[f64],
+    has_map: bool,
+    map: &[u8],
+    starts: &[u32],
+    ends: &[u32],
+    min_periods: usize,
+    ddof: u8,
+    work: &mut [f64],
+    figures: &mut [f64],
+    present: &mut [u8],
+) -> u32
+    ensures { λ r. ⌜ Calls (querying starts ends «min_periods» (Variance ddof)) (tracing values «has_map» map)
+        (lending work figures present) r ⌝ }
+{
+    let checked = plan::plan_refusal(
+        trace::array_refusal(values.len(), has_map, map),
+        starts,
+        ends,
+        values.len(),
+        false,
+        plan::shorter(figures.len(), present.len()),
+        VarianceMoment::PLACE,
+        work.len(),
+    );
+    if checked.number != 0 {
+        return checked.number;
+    }
+    let rows = Rows {
+        fixed: false,
+        left: 0,
+        right: 0,
+        min_periods,
+        widest: checked.widest,
+    };
+    let moment = VarianceMoment { ddof };
+    moment.rows(
+        rows,
+        values,
+        has_map,
+        map,
+        starts,
+        ends,
+        work,
+        figures,
+        present,
+    );
+    0
+}
+
+// Rolling variance over fixed windows: 004's and 005's `rolling_var`.
+pub fn rolling_var(
+    values: &[f64],
+    has_map: bool,
+    map: &[u8],
+    window_size: usize,
+    min_periods: usize,
+    center: bool,
+    ddof: u8,
+    work: &mut [f64],
+    figures: &mut [f64],
+    present: &mut [u8],
+) -> u32
+    ensures { λ r. ⌜ CallsFixed center «window_size» «min_periods» (Variance ddof) (tracing values «has_map» map)
+        (lending work figures present) r ⌝ }
+{
+    let checked = plan::fixed_refusal(
+        trace::array_refusal(values.len(), has_map, map),
+        values.len(),
+        window_size,
+        plan::shorter(figures.len(), present.len()),
+        VarianceMoment::PLACE,
+        work.len(),
+    );
+    if checked.number != 0 {
+        return checked.number;
+    }
+    let right = plan::right_window(center, window_size);
+    let left = window_size - right;
+    let rows = Rows {
+        fixed: true,
+        left,
+        right,
+        min_periods,
+        widest: checked.widest,
+    };
+    // no row of fixed windows reads a list
+    let none = [0u32; 1];
+    let moment = VarianceMoment { ddof };
+    moment.rows(
+        rows,
+        values,
+        has_map,
+        map,
+        &none,
+        &none,
+        work,
+        figures,
+        present,
+    );
+    0
 }

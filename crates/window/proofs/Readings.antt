@@ -69,20 +69,23 @@ module _ (m : ReadingStates) (has : Bool) (map : List ℕ) (values l₀ : List F
   appending-start h = append-start (ofReadings m) (series has map values) l₀ n nonfinite₀ s₀ a e h
 
   module _ {l : List Float} {at nonfinite : ℕ} {s : m .moment .State} {i : ℕ} (p : Appending l at nonfinite s i) (more : i < e)
-      (room : 1 * (n + validCount (series has map values .places) a e) ≤ length l₀) where
+      (can : Appendable (ofReadings m) (series has map values) a e (length values) n nonfinite₀ l₀) where
+    fits : 1 * (n + validCount (series has map values .places) a e) ≤ length l₀
+    fits = can .room
+
     pub appending-room : validAt has map i ≡ true → at < length l
     appending-room v =
-        let h = append-room (ofReadings m) (series has map values) l₀ n nonfinite₀ s₀ a e p more room v in
+        let h = append-room (ofReadings m) (series has map values) l₀ n nonfinite₀ s₀ a e p more fits v in
         omega arith
 
     pub appending-nonfinite : nonfinite ≤ nonfinite₀ + (i - a)
-    appending-nonfinite = append-nonfinite-le (ofReadings m) (series has map values) l₀ n nonfinite₀ s₀ a e p more room
+    appending-nonfinite = append-nonfinite-le (ofReadings m) (series has map values) l₀ n nonfinite₀ s₀ a e p more fits
 
     hit : validAt has map i ≡ true → (x : Float) → x ≡ insertedAt values i → (u : m .moment .State) → u ≡ m .moment .insert s x → (b : Bool) → finite (readingOf values i) ≡ b →
         (k : ℕ) → k ≡ nonfinite + boolByte (not b) → Appending (set l at x) (at + 1) k u (i + 1)
     unfolding nonfiniteAt
     hit v x f u g b c k d =
-        append-hit (ofReadings m) (series has map values) l₀ n nonfinite₀ s₀ a e p more room v at (sym (one-mul at)) x f u g (not b) (rw (v, c)) k d
+        append-hit (ofReadings m) (series has map values) l₀ n nonfinite₀ s₀ a e p more fits v at (sym (one-mul at)) x f u g (not b) (rw (v, c)) k d
 
     pub appending-finite : validAt has map i ≡ true → finite (readingOf values i) ≡ true → (u : m .moment .State) → u ≡ m .moment .insert s (readingOf values i) →
         Appending (set l at (readingOf values i)) (at + 1) nonfinite u (i + 1)
@@ -96,7 +99,7 @@ module _ (m : ReadingStates) (has : Bool) (map : List ℕ) (values l₀ : List F
 
     pub appending-missing : validAt has map i ≡ false → Appending l at nonfinite s (i + 1)
     unfolding nonfiniteAt
-    appending-missing v = append-miss (ofReadings m) (series has map values) l₀ n nonfinite₀ s₀ a e p more room v (rw v)
+    appending-missing v = append-miss (ofReadings m) (series has map values) l₀ n nonfinite₀ s₀ a e p more fits v (rw v)
 
   pub appending-done : {l : List Float} {at nonfinite : ℕ} {s : m .moment .State} {i : ℕ} → Appending l at nonfinite s i → e ≤ i →
       Appended (ofReadings m) (series has map values) l₀ n nonfinite₀ s₀ a e l at nonfinite s

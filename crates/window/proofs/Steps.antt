@@ -123,38 +123,39 @@ module _ {C A : Type 0} (M : Stored C A) (t : Series A) where
       → moves (t .places .mapped) minPeriods k s e ≡ false → Held M t (baseOf M widest) w agg work → Stepped M t widest minPeriods k s e w work w agg work
   step-stays widest minPeriods k s e w b h = record { held = h; to = rw b; rest = refl }
 
-  -- ---- the rows from `first` up to `until`
-  module _ {minPeriods n widest : ℕ} {p : Plan} {outputs first until : ℕ} {w₀ : Window} {agg₀ : M .moment .State} {work₀ : List C}
-      (can : Workable M t minPeriods n widest p outputs first until w₀ agg₀ work₀) where
-    -- before row k
-    pub record Working (w : Window) (agg : M .moment .State) (work : List C) (k : ℕ) : Type 0 where
-      pub low : first ≤ k
-      pub high : k ≤ until
-      pub same : length work ≡ length work₀
-      pub worked : Worked M t minPeriods n widest p k work₀ w agg work
+-- ---- the rows from `first` up to `until`, where the rows before row k are done
+pub record Working {C A : Type 0} (M : Stored C A) (t : Series A) (minPeriods n widest : ℕ) (p : Plan) (first until : ℕ) (work₀ : List C)
+    (w : Window) (agg : M .moment .State) (work : List C) (k : ℕ) : Type 0 where
+  pub low : first ≤ k
+  pub high : k ≤ until
+  pub same : length work ≡ length work₀
+  pub worked : Worked M t minPeriods n widest p k work₀ w agg work
 
-    pub work-starts : Working w₀ agg₀ work₀ first
-    work-starts = record { low = omega arith; high = can .rises; same = refl; worked = record { standing = can .standing; rest = refl } }
+module _ {C A : Type 0} (M : Stored C A) (t : Series A) {minPeriods n widest : ℕ} {p : Plan} {outputs first until : ℕ} {w₀ : Window} {agg₀ : M .moment .State} {work₀ : List C}
+    (can : Workable M t minPeriods n widest p outputs first until w₀ agg₀ work₀) where
+  abbrev At : Window → M .moment .State → List C → ℕ → Type 0
+  At w agg work k = Working M t minPeriods n widest p first until work₀ w agg work k
 
-    pub work-done : {w : Window} {agg : M .moment .State} {work : List C} {k : ℕ} → Working w agg work k → until ≤ k → Worked M t minPeriods n widest p until work₀ w agg work
-    work-done {w} {agg} {work} {k} v h =
-        let u = v .high in
-        let e : k ≡ until = omega arith in
-        subst (λ (i : ℕ). Worked M t minPeriods n widest p i work₀ w agg work) e (v .worked)
+  pub work-starts : At w₀ agg₀ work₀ first
+  work-starts = record { low = omega arith; high = can .rises; same = refl; worked = record { standing = can .standing; rest = refl } }
 
-    module _ {w : Window} {agg : M .moment .State} {work : List C} {k : ℕ} (v : Working w agg work k) (more : k < until)
-        {s e : ℕ} (s-is : s ≡ rowStart p k) (e-is : e ≡ rowEnd p k) where
-      listed : k < rows p
-      listed = let l = can .listed in omega arith
+  pub work-done : {w : Window} {agg : M .moment .State} {work : List C} {k : ℕ} → At w agg work k → until ≤ k → Worked M t minPeriods n widest p until work₀ w agg work
+  work-done {w} {agg} {work} {k} v h =
+      let u = v .high in
+      let e : k ≡ until = omega arith in
+      subst (λ (i : ℕ). Worked M t minPeriods n widest p i work₀ w agg work) e (v .worked)
 
+  module _ {w : Window} {agg : M .moment .State} {work : List C} {k : ℕ} (v : At w agg work k) (more : k < until) where
+    pub work-listed : k < rows p
+    work-listed = let l = can .listed in omega arith
+
+    module _ {s e : ℕ} (s-is : s ≡ rowStart p k) (e-is : e ≡ rowEnd p k) where
       pub work-movable : Movable M t s e n widest w agg work
       work-movable =
-          let l = v .same in
-          let y = can .room in
           record {
             held = v .worked .standing .held;
-            ready = row-ready M t minPeriods n widest p (can .plan) (v .worked .standing) listed s e s-is e-is;
-            room = rw l y;
+            ready = row-ready M t minPeriods n widest p (can .plan) (v .worked .standing) work-listed s e s-is e-is;
+            room = rw (v .same) (can .room);
             few = can .few;
           }
 
@@ -164,13 +165,13 @@ module _ {C A : Type 0} (M : Stored C A) (t : Series A) where
         work-fits =
             let l = v .same in
             let u : baseOf M widest + M .inBack .width * widest ≤ length work₀ = rw (← add-mul (M .inFront .width) (M .inBack .width) widest) (can .room) in
-            let f = row-fits M t minPeriods n widest p (can .plan) (v .worked .standing) listed s e s-is e-is w' agg' work' (q .to) (q .held) (omega arith) in
-            let i = row-inside M t minPeriods n widest p (can .plan) (v .worked .standing) listed s e s-is e-is w' (q .to) in
+            let f = row-fits M t minPeriods n widest p (can .plan) (v .worked .standing) work-listed s e s-is e-is w' agg' work' (q .to) (q .held) (omega arith) in
+            let i = row-inside M t minPeriods n widest p (can .plan) (v .worked .standing) work-listed s e s-is e-is w' (q .to) in
             let a = f .1 in
             let z = can .few in
             (f .0, omega arith, f .2)
 
-        pub work-next : Working w' agg' work' (k + 1)
+        pub work-next : At w' agg' work' (k + 1)
         work-next =
             let l = v .low in
             record {
@@ -178,11 +179,11 @@ module _ {C A : Type 0} (M : Stored C A) (t : Series A) where
               high = omega arith;
               same = same ∙ v .same;
               worked = record {
-                standing = stand-next M t minPeriods n widest p (can .plan) (v .worked .standing) listed s e s-is e-is (q .to) (q .held);
+                standing = stand-next M t minPeriods n widest p (can .plan) (v .worked .standing) work-listed s e s-is e-is (q .to) (q .held);
                 rest = q .rest ∙ v .worked .rest;
               };
             }
 
         pub work-answer : (final : M .moment .State → Figure) {f : Figure} → f ≡ answerBy M final (t .places .mapped) minPeriods s e w' agg' work'
             → f ≡ answerAt (M .moment) final t minPeriods p k
-        work-answer final g = row-answer M t minPeriods n widest p (can .plan) (v .worked .standing) listed s e s-is e-is final (q .to) (q .held) g
+        work-answer final g = row-answer M t minPeriods n widest p (can .plan) (v .worked .standing) work-listed s e s-is e-is final (q .to) (q .held) g

@@ -1,29 +1,86 @@
 -- What the row loops of the three moments say of a call's rows: where they may begin, and what they leave. Assumes nothing.
-use Prim.Native.Nat.{ℕ, _*_, _≤_, min}
+use Prim.Native.Nat.{ℕ, _+_, _*_, _^_, _≤_, _<_}
 use mathlib.Core.Path.{_≡_}
 use mathlib.Core.Bool.{Bool}
 use mathlib.Core.List.{List}
 use lib.ListN.{length}
 use lib.Ieee.{Float}
-use Rattle.trace.specs.Slices.{Slice, entering, leaving}
+use Rattle.trace.specs.Slices.{Slice, entering}
 use Rattle.moment.specs.Figure.{doubleOf, byteOf}
 use Rattle.moment.specs.declared.Figure.{Figure}
-use Rattle.plan.specs.Plan.{Plan, rows}
+use Rattle.plan.specs.Plan.{Plan, rows, rowStart, rowEnd}
 use Rattle.plan.specs.Refusals.{widest}
 use Rattle.plan.specs.Code.Accepted.{Planned}
 use Rattle.plan.specs.Code.Reaching.{rowsOf}
-use Rattle.window.specs.Places.{Series}
-use Rattle.window.specs.Readings.{series}
+use Rattle.window.specs.Places.{Places, Series, nonfiniteCount}
+use Rattle.window.specs.Readings.{placesBy, series}
 use Rattle.window.specs.Rows.{answerAt}
 use Rattle.window.specs.Code.Memory.{Stored}
-use Rattle.window.specs.Code.Stacks.{Workable, Worked}
+use Rattle.window.specs.Outputs.{Lent}
+use Rattle.window.specs.Code.Stacks.{Counted, Tallied, Workable, Worked}
 use Rattle.window.specs.Code.Filling.{Fills}
 use Rattle.window.specs.declared.Window.{Window}
+use Rattle.rolling.specs.Moments.{Statistic}
+use Rattle.rolling.specs.Calls.{Query, query, GivenTo, Left}
 use Rattle.rolling.specs.declared.row.Rows.{Rows}
+
+-- the series and the places that a call's parameters are
+abbrev pub seriesIn : Bool → Slice ℕ → Slice Float → Series Float
+seriesIn has map values = series has (entering map) (entering values)
+
+abbrev pub placesIn : Bool → Slice ℕ → Slice Float → Places
+placesIn has map values = placesBy has (entering map) (entering values)
+
+-- a range of n places
+pub record Range (a b n : ℕ) : Type 0 where
+  pub rises : a ≤ b
+  pub inside : b ≤ n
+
+-- a range that leaves a window with so many entries that are not finite: where there are none, the range has none
+pub record LeavingRange (t : Places) (a b n nonfinite : ℕ) : Type 0 where
+  pub range : Range a b n
+  pub none : nonfinite ≡ 0 → nonfiniteCount t a b ≡ 0
+
+-- a window over n places that may lose those below s
+pub record Below (t : Places) (s n : ℕ) (w : Window) : Type 0 where
+  pub starts : w .start ≤ s
+  pub inside : s ≤ n
+  pub counted : Counted t w
+
+-- the tally of the places below s, of a window that does not start anew there
+abbrev pub TalliesBelow : Places → Window → ℕ → ℕ → ℕ → Type 0
+TalliesBelow t w s valid nonfinite = s < w .end → Tallied t (w .start) s valid nonfinite
 
 -- the rows of a call over n places, of fixed windows or as they are listed
 abbrev pub planBy : Rows → ℕ → List ℕ → List ℕ → Plan
 planBy r n starts ends = rowsOf (r .fixed) (r .left) (r .right) n starts ends
+
+-- a row that a call has
+pub record RowIn (r : Rows) (n : ℕ) (starts ends : List ℕ) (row : ℕ) : Type 0 where
+  pub same : length (planBy r n starts ends .starts) ≡ length (planBy r n starts ends .ends)
+  pub listed : row < rows (planBy r n starts ends)
+
+-- its window
+pub record RowBounds (p : Plan) (row s e : ℕ) : Type 0 where
+  pub start-is : s ≡ rowStart p row
+  pub end-is : e ≡ rowEnd p row
+
+abbrev pub RowAt : Rows → ℕ → Slice ℕ → Slice ℕ → ℕ → ℕ → ℕ → Type 0
+RowAt r n starts ends row s e = RowBounds (planBy r n (entering starts) (entering ends)) row s e
+
+-- the query of the rows
+abbrev pub drivenQuery : Rows → Slice Float → Slice ℕ → Slice ℕ → Statistic → Query
+drivenQuery r values starts ends a = query (planBy r (length (entering values)) (entering starts) (entering ends)) (r .«min_periods») a
+
+-- what the rows of an accepted call leave
+abbrev pub Leaves : (q : Query) → GivenTo q → Lent × Lent → Type 0
+Leaves q t l = Left q t (l .0) (l .1) 0
+
+-- a window whose front stack, of `width` doubles a state, lies in a work slice of so many, and a row from s up to e
+pub record Answerable (width : ℕ) (w : Window) (work s e : ℕ) : Type 0 where
+  pub front-in : width * w .front ≤ work
+  pub few : w .front + w .back ≤ 2 ^ 53
+  pub rises : s ≤ e
 
 -- what an accepted call tells of its rows over n places, into lists that hold `outputs` rows, with a work slice of `width` doubles a place
 pub record Driven (r : Rows) (n : ℕ) (starts ends : List ℕ) (outputs width work : ℕ) : Type 0 where

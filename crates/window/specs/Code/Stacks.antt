@@ -170,6 +170,15 @@ pub record Tallied (t : Places) (a b valid nonfinite : ℕ) : Type 0 where
   pub valid-is : valid ≡ validCount t a b
   pub nonfinite-is : nonfinite ≡ nonfiniteCount t a b
 
+-- a tally of the places below s that is within the window, where the window does not start anew there
+abbrev pub TallyFits : Window → ℕ → ℕ → ℕ → Type 0
+TallyFits w s valid nonfinite = s < w .end → (valid ≤ w .front + w .back) × (nonfinite ≤ w .nonfinite) × (w .front + w .back ≤ w .end)
+
+-- by their tally the places below s leave the window, whatever its places are
+abbrev pub TrimsBy : Window → ℕ → ℕ → ℕ → Window → Bool → Type 0
+TrimsBy w s valid nonfinite w' flips =
+    (t : Places) → Counted t w → w .start ≤ s → (s < w .end → Tallied t (w .start) s valid nonfinite) → Trims t w s w' flips
+
 -- Before row k of a plan over n places: the window is held, its account is the one after the rows before, it is no wider than
 -- `widest`, and no row from k on starts or ends before it
 pub record Standing {C A : Type 0} (M : Stored C A) (t : Series A) (minPeriods n widest : ℕ) (p : Plan)

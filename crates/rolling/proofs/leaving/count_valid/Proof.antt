@@ -1,12 +1,10 @@
 -- One place more. Assumes nothing.
-use Prim.Native.Nat.{ℕ, _-_, _≤_}
+use Prim.Native.Nat.{_-_, _≤_}
 use mathlib.Core.Path.{_≡_, sym}
 use native.Mathlib.Omega.{arith}
 use borrow.Author.Needs.{needs}
-use lib.Ieee.{Float}
-use lib.ListN.{length}
 use Rattle.trace.specs.Trace.{validAt}
-use Rattle.window.specs.Places.{entries}
+use Rattle.window.specs.Places.{chosenCount}
 use Rattle.window.proofs.Places.{entries-self, count-more}
 use Rattle.rolling.proofs.Rolling.{bit-le}
 use Rattle.rolling.proofs.leaving.count_valid.Statement.{statement}
@@ -14,13 +12,13 @@ use Rattle.rolling.proofs.leaving.count_valid.Tie as tie
 
 abbrev Inv-loop : tie.InvT-loop
 Inv-loop has-map map a b valid₀ i₀ valid i =
-    (a ≤ i) × (i ≤ b) × (valid ≤ i) × ((entry : ℕ → Float) → valid ≡ length (entries (validAt has-map map) entry a i))
+    (a ≤ i) × (i ≤ b) × (valid ≤ i) × (valid ≡ chosenCount (validAt has-map map) a i)
 
 abbrev μ-loop : tie.MeasureT-loop
 μ-loop has-map map a b valid₀ i₀ valid i = b - i
 
 loop-holds : tie.Need-loop-holds Inv-loop μ-loop
-loop-holds c = (omega arith, search needs, omega arith, λ f. rw entries-self)
+loop-holds c = (omega arith, search needs, omega arith, rw entries-self)
 
 valid-requires : tie.Need-valid-requires Inv-loop μ-loop
 valid-requires c κs = search needs
@@ -40,13 +38,13 @@ loop-less c = search needs
 loop-again : tie.Need-loop-again Inv-loop μ-loop
 loop-again c =
     let l = c .before .before .loop in
-    (omega arith, omega arith, omega (arith, bit-le (c .valid .result)), λ f. rw (l .inv .3 f) (sym (count-more _ _ _ _ (l .inv .0) _ (c .valid .ensures))))
+    (omega arith, omega arith, omega (arith, bit-le (c .valid .result)), rw (l .inv .3) (sym (count-more _ _ _ _ (l .inv .0) _ (c .valid .ensures))))
 
 returns : tie.Need-returns Inv-loop μ-loop
 returns c =
     let l = c .before .loop in
     let e : l .i ≡ c .before .before .before .args .b = omega arith in
-    λ f. rw (← e) (l .inv .3 f)
+    rw (← e) (l .inv .3)
 
 pub count-valid-spec : {M : Type 1} → statement M
 count-valid-spec =

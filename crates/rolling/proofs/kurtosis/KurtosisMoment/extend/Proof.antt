@@ -1,48 +1,43 @@
--- What is pushed on the part that begins after the front stack is the back stack grown. Assumes nothing.
-use mathlib.Core.Path.{refl}
+-- What is appended to the part that begins after the front stack is the back stack grown. Assumes nothing.
 use borrow.Author.Needs.{needs}
-use Rattle.window.specs.Readings.{ofReadings}
-use Rattle.window.proofs.Moves.{in-fits, in-pushed}
-use Rattle.rolling.specs.Moments.{kurtosis}
+use Rattle.window.proofs.Steps.{extend-appendable, extend-appended}
+use Rattle.rolling.specs.Code.Layouts.{kurtosisStored}
 use Rattle.rolling.proofs.kurtosis.KurtosisMoment.extend.Statement.{statement}
 use Rattle.rolling.proofs.kurtosis.KurtosisMoment.extend.Tie as tie
 
-mul-push : tie.Need-mul-push
-mul-push c = search needs
+mul-append : tie.Need-mul-append
+mul-append c = search needs
 
-sub-push : tie.Need-sub-push
-sub-push c = search needs
+sub-append : tie.Need-sub-append
+sub-append c = search needs
 
-part-push-start : tie.Need-part-push-start
-part-push-start c = search needs
+part-append-start : tie.Need-part-append-start
+part-append-start c = search needs
 
-part-push-end : tie.Need-part-push-end
-part-push-end c = search needs
+part-append-end : tie.Need-part-append-end
+part-append-end c = search needs
 
-push-requires : tie.Need-push-requires
-push-requires c κs =
-    let p = c .before .before .before .before .before .before .pre in
-    let f = in-fits (ofReadings kurtosis) _ _ _ _ _ _ (p .0) (p .1) _ (p .3) (p .4) (p .5) in
-    (p .1, p .2, f .0, f .1)
+append-requires : tie.Need-append-requires
+append-requires c κs = extend-appendable kurtosisStored _ (c .before .before .before .before .before .before .pre)
+
+extended-requires : tie.Need-extended-requires
+extended-requires c κs = search needs
 
 same-length : tie.Need-same-length
 same-length c = search needs
 
 returns : tie.Need-returns
-returns c =
-    let s = c .before .before .before .before .before .before .before .before .before .before in
-    let p = s .pre in
-    let d = in-pushed (ofReadings kurtosis) _ _ _ (s .args .w .window) _ _ (p .0) (p .1) _ (p .3) (p .4) (p .5) _ _ _ _ (c .before .before .before .push .ensures) in
-    record { held = d .0; to = refl; rest = d .1 }
+returns c = extend-appended kurtosisStored _ (c .before .before .before .before .before .before .before .before .before .before .before .pre) (c .before .before .before .before .append .ensures) (c .extended .ensures)
 
 pub extend-spec : {M : Type 1} → statement M
 extend-spec =
     tie.close
     (tie.spec
-    mul-push
-    sub-push
-    part-push-start
-    part-push-end
-    push-requires
+    mul-append
+    sub-append
+    part-append-start
+    part-append-end
+    append-requires
+    extended-requires
     same-length
     returns)

@@ -5,12 +5,12 @@ use borrow.Author.Needs.{needs}
 use lib.ListN.{length-set}
 use Rattle.window.proofs.Readings.{Flipping, flipping-start, flipping-turn, flipping-done}
 use Rattle.rolling.proofs.Rolling.{puts5}
-use Rattle.rolling.specs.Moments.{kurtosis}
+use Rattle.rolling.specs.Code.Layouts.{kurtosisStates}
 use Rattle.rolling.proofs.kurtosis.KurtosisMoment.flip.Statement.{statement}
 use Rattle.rolling.proofs.kurtosis.KurtosisMoment.flip.Tie as tie
 
 abbrev Inv-loop : tie.InvT-loop
-Inv-loop work₀ base n agg₀ at₀ j₀ work agg at j = Flipping kurtosis work₀ base n work agg at j
+Inv-loop work₀ base n agg₀ at₀ j₀ work agg at j = Flipping kurtosisStates work₀ base n work agg at j
 
 abbrev μ-loop : tie.MeasureT-loop
 μ-loop work₀ base n agg₀ at₀ j₀ work agg at j = j
@@ -19,7 +19,7 @@ empty-requires : tie.Need-empty-requires Inv-loop μ-loop
 empty-requires c κs = search needs
 
 loop-holds : tie.Need-loop-holds Inv-loop μ-loop
-loop-holds c = flipping-start kurtosis _ _ _ (c .before .before .pre .0) (c .before .before .pre .1) _ (c .empty .ensures)
+loop-holds c = flipping-start kurtosisStates _ _ _ (c .before .before .pre) _ (c .empty .ensures)
 
 sub-j : tie.Need-sub-j Inv-loop μ-loop
 sub-j c = search needs
@@ -88,7 +88,7 @@ loop-again : tie.Need-loop-again Inv-loop μ-loop
 loop-again c =
     let a = c .before .before .before in
     let s = a .before .before .before in
-    rw puts5 (flipping-turn kurtosis _ _ _ (s .pre .0) (s .pre .1) (a .loop .inv) (c .before .before .loop-test .taken) (c .insert-one .ensures))
+    rw puts5 (flipping-turn kurtosisStates _ _ _ (s .pre) (a .loop .inv) (c .before .before .loop-test .taken) (c .insert-one .ensures))
 
 same-length : tie.Need-same-length Inv-loop μ-loop
 same-length c = search needs
@@ -96,7 +96,7 @@ same-length c = search needs
 returns : tie.Need-returns Inv-loop μ-loop
 returns c =
     let s = c .before .before .before .before in
-    flipping-done kurtosis _ _ _ (s .pre .0) (s .pre .1) (c .before .loop .inv) (c .loop-test .left)
+    flipping-done kurtosisStates _ _ _ (s .pre) (c .before .loop .inv) (c .loop-test .left)
 
 pub flip-spec : {M : Type 1} → statement M
 flip-spec =

@@ -1,50 +1,24 @@
 -- Places leave, then places enter. Assumes nothing.
-use Prim.Native.Nat.{_+_, _*_}
-use mathlib.Core.Path.{_≡_, ap, _∙_}
-use native.Mathlib.Omega.{arith}
 use borrow.Author.Needs.{needs}
-use Rattle.window.specs.Window.{entered}
-use Rattle.window.specs.Readings.{ofReadings}
-use Rattle.window.proofs.Moves.{held-counts, left-ends, rest-both}
-use Rattle.rolling.specs.Moments.{kurtosis}
+use Rattle.window.proofs.Steps.{update-trimmable, update-extendable, updated}
+use Rattle.rolling.specs.Code.Layouts.{kurtosisStored}
 use Rattle.rolling.proofs.kurtosis.KurtosisMoment.update.Statement.{statement}
 use Rattle.rolling.proofs.kurtosis.KurtosisMoment.update.Tie as tie
 
 mul-base : tie.Need-mul-base
 mul-base c = search needs
 
-pop-requires : tie.Need-pop-requires
-pop-requires c κs =
-    let p = c .before .before .before .before .pre in
-    let k = held-counts (ofReadings kurtosis) _ _ _ _ _ (p .held) in
-    let r = p .ready in
-    let q = p .room in
-    (p .held, omega arith, omega arith, omega arith, omega arith, omega arith)
+trim-requires : tie.Need-trim-requires
+trim-requires c κs = update-trimmable kurtosisStored _ (c .before .before .before .before .pre)
 
 extend-requires : tie.Need-extend-requires
-extend-requires c κs =
-    let s = c .before .before .before .before .before .before .before .before in
-    let o = c .before .before .before .pop in
-    let l = left-ends _ (s .args .w .window) (o .result .window) _ (o .ensures .to) in
-    let k = o .kept .0 in
-    let r = s .pre .ready in
-    let q = s .pre .room in
-    (o .ensures .held, omega arith, omega arith, omega arith, omega arith, omega arith)
+extend-requires c κs = let o = c .before .before .before .trim in update-extendable kurtosisStored _ (c .before .before .before .before .before .before .before .before .pre) (o .ensures) (o .kept .0)
 
 same-length : tie.Need-same-length
 same-length c = search needs
 
 returns : tie.Need-returns
-returns c =
-    let s = c .before .before .before .before .before .before .before .before .before .before .before in
-    let o = c .before .before .before .before .before .before .pop in
-    let i = c .before .before .extend in
-    let e : 6 * s .args .widest ≡ 5 * s .args .widest + 1 * s .args .widest = omega arith in
-    record {
-      held = i .ensures .held;
-      to = i .ensures .to ∙ ap (λ a. entered a (s .args .end)) (o .ensures .to);
-      rest = rest-both _ _ _ _ _ _ e (i .ensures .rest) (o .ensures .rest);
-    }
+returns c = let o = c .before .before .before .before .before .before .trim in updated kurtosisStored _ (c .before .before .before .before .before .before .before .before .before .before .before .pre) (o .ensures) (o .kept .0) (c .before .before .extend .ensures)
 
 pub update-spec : {M : Type 1} → statement M
-update-spec = tie.close (tie.spec mul-base pop-requires extend-requires same-length returns)
+update-spec = tie.close (tie.spec mul-base trim-requires extend-requires same-length returns)

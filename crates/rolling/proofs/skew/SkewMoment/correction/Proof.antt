@@ -4,7 +4,7 @@ use mathlib.Core.Path.{sym, ap, _∙_}
 use native.Mathlib.Omega.{arith}
 use Rattle.float.specs.Operators.{count}
 use Rattle.moment.specs.Skew.{skewCorrection}
-use Rattle.window.proofs.Places.{apart}
+use Rattle.float.proofs.Cases.{apart}
 use Rattle.rolling.proofs.Slots.{taken-place}
 use borrow.Author.Needs.{needs}
 use Rattle.rolling.proofs.skew.SkewMoment.correction.Statement.{statement}

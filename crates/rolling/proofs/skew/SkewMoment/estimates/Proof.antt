@@ -6,9 +6,9 @@ use native.Mathlib.Omega.{arith}
 use borrow.Author.Needs.{needs}
 use lib.ListN.{length, drop, getD, length-set}
 use lib.Ieee.{nan}
-use Rattle.window.specs.Rows.{table}
-use Rattle.window.proofs.Tables.{table-more, table-over}
-use Rattle.rolling.specs.Slots.{estimate}
+use Rattle.float.specs.Tables.{table}
+use Rattle.float.proofs.Tables.{table-more, table-over}
+use Rattle.rolling.specs.Code.Slots.{estimate}
 use Rattle.rolling.proofs.skew.SkewMoment.estimates.Statement.{statement}
 use Rattle.rolling.proofs.skew.SkewMoment.estimates.Tie as tie
 

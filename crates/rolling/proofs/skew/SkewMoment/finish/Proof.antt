@@ -8,13 +8,13 @@ use Rattle.rolling.proofs.skew.SkewMoment.finish.Statement.{statement}
 use Rattle.rolling.proofs.skew.SkewMoment.finish.Tie as tie
 
 slice-aggregate-roots : tie.Need-slice-aggregate-roots
-slice-aggregate-roots c = let h = c .before .before .before .before .before .before .pre .0 in rw length-take (omega arith)
+slice-aggregate-roots c = let h = c .before .before .before .before .before .before .pre .m2s-long in rw length-take (omega arith)
 
 slice-relend-prefix-roots : tie.Need-slice-relend-prefix-roots
 slice-relend-prefix-roots c = search needs
 
 slice-aggregate-roots-2 : tie.Need-slice-aggregate-roots-2
-slice-aggregate-roots-2 c = let h = c .before .before .before .before .before .before .before .pre .3 in rw length-take (omega arith)
+slice-aggregate-roots-2 c = let h = c .before .before .before .before .before .before .before .pre .roots-long in rw length-take (omega arith)
 
 roots-requires : tie.Need-roots-requires
 roots-requires c κs = search needs
@@ -32,7 +32,7 @@ returns : tie.Need-returns
 returns c =
     let a = c .before .before .before .before .before .before .before .before .before .before .before .before .before .before .before in
     c .before .before .estimates .ensures
-    ∙ finished (a .args .self .bias) _ (a .args .m3s .now) (a .args .factors .now) (a .args .roots .now) _ _ (a .pre .0) (a .pre .3) (c .before .before .before .before .before .before .before .roots .ensures)
+    ∙ finished (a .args .self .bias) _ (a .args .m3s .now) (a .args .factors .now) (a .args .roots .now) _ _ (a .pre .m2s-long) (a .pre .roots-long) (c .before .before .before .before .before .before .before .roots .ensures)
 
 pub finish-spec : {M : Type 1} → statement M
 finish-spec =

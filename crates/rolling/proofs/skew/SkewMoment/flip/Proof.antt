@@ -6,12 +6,12 @@ use lib.ListN.{length-set}
 use Rattle.window.proofs.Readings.{Flipping, flipping-start, flipping-turn, flipping-done}
 use Rattle.rolling.proofs.Rolling.{puts4}
 use Rattle.rolling.proofs.Weighed.{skew-weighs, flip-inserted}
-use Rattle.rolling.specs.Moments.{skewness}
+use Rattle.rolling.specs.Code.Layouts.{skewStates}
 use Rattle.rolling.proofs.skew.SkewMoment.flip.Statement.{statement}
 use Rattle.rolling.proofs.skew.SkewMoment.flip.Tie as tie
 
 abbrev Inv-loop : tie.InvT-loop
-Inv-loop work₀ base n agg₀ at₀ j₀ work agg at j = Flipping skewness work₀ base n work agg at j
+Inv-loop work₀ base n agg₀ at₀ j₀ work agg at j = Flipping skewStates work₀ base n work agg at j
 
 abbrev μ-loop : tie.MeasureT-loop
 μ-loop work₀ base n agg₀ at₀ j₀ work agg at j = j
@@ -20,7 +20,7 @@ empty-requires : tie.Need-empty-requires Inv-loop μ-loop
 empty-requires c κs = search needs
 
 loop-holds : tie.Need-loop-holds Inv-loop μ-loop
-loop-holds c = flipping-start skewness _ _ _ (c .before .before .pre .0) (c .before .before .pre .1) _ (c .empty .ensures)
+loop-holds c = flipping-start skewStates _ _ _ (c .before .before .pre) _ (c .empty .ensures)
 
 sub-j : tie.Need-sub-j Inv-loop μ-loop
 sub-j c = search needs
@@ -82,7 +82,7 @@ loop-again c =
     let s = a .before .before .before in
     let h = c .before .before .loop-test .taken in
     rw puts4
-    (flipping-turn skewness _ _ _ (s .pre .0) (s .pre .1) (a .loop .inv) h (c .inserted .ensures ∙ flip-inserted skewness skew-weighs _ _ _ (s .pre .1) (s .pre .2) (a .loop .inv) h _))
+    (flipping-turn skewStates _ _ _ (s .pre) (a .loop .inv) h (c .inserted .ensures ∙ flip-inserted skewStates skew-weighs _ _ _ (s .pre) (a .loop .inv) h _))
 
 same-length : tie.Need-same-length Inv-loop μ-loop
 same-length c = search needs
@@ -90,7 +90,7 @@ same-length c = search needs
 returns : tie.Need-returns Inv-loop μ-loop
 returns c =
     let s = c .before .before .before .before in
-    flipping-done skewness _ _ _ (s .pre .0) (s .pre .1) (c .before .loop .inv) (c .loop-test .left)
+    flipping-done skewStates _ _ _ (s .pre) (c .before .loop .inv) (c .loop-test .left)
 
 pub flip-spec : {M : Type 1} → statement M
 flip-spec =

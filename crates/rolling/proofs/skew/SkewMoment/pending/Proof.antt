@@ -1,6 +1,6 @@
 -- By the two tests. Assumes nothing.
 use mathlib.Core.Path.{sym, ap, _∙_}
-use Rattle.rolling.specs.Slots.{pendingOf}
+use Rattle.rolling.specs.Code.Slots.{pendingOf}
 use Rattle.rolling.specs.declared.skew.SkewPending.the-variants.{State}
 use borrow.Author.Needs.{needs}
 use Rattle.rolling.proofs.skew.SkewMoment.pending.Statement.{statement}

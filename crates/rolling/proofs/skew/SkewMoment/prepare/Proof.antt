@@ -48,8 +48,8 @@ same-length-3 c = search needs
 returns : tie.Need-returns
 returns c =
     let a = c .before .before .before .before .before .before .before .before .before in
-    let m = none-pending (a .args .self .bias) _ _ _ _ (a .args .w .window) _ _ (a .pre .1) (sym (c .before .before .pending .ensures) ∙ c .enum-told .given .1) in
-    (missing-waits _ _ m _ _ _ _, a .pre .6)
+    let m = none-pending (a .args .self .bias) _ _ _ _ (a .args .w .window) _ _ (a .pre .0 .0) (sym (c .before .before .pending .ensures) ∙ c .enum-told .given .1) in
+    (missing-waits _ _ m _ _ _ _, a .pre .1 .1)
 
 add-valid : tie.Need-add-valid
 add-valid c = search needs
@@ -58,7 +58,7 @@ correction-requires : tie.Need-correction-requires
 correction-requires c κs = search needs
 
 hold-requires : tie.Need-hold-requires
-hold-requires c κs = search needs
+hold-requires c κs = c .before .before .before .before .before .before .before .before .before .before .before .before .before .before .before .before .before .before .before .before .before .pre .1 .0
 
 same-length-4 : tie.Need-same-length-4
 same-length-4 c = search needs
@@ -79,7 +79,7 @@ returns-2 : tie.Need-returns-2
 returns-2 c =
     let a = c .before .before .before .before .before .before .before .before .before .before .before .before .before .before .before .before .before .before .before .before .before .before .before .before .before .before .before .before in
     let w = a .args .w .window in
-    let q = a .pre .1 in
+    let q = a .pre .0 .0 in
     let f = c .before .before .before .before .before .before .before .before .before .before .before .before .before .before .correction in
     let h = c .before .before .before .before .before .before .hold .ensures in
     let m = some-pending (a .args .self .bias) _ _ _ _ w _ _ _ (sym (c .before .before .before .before .before .before .before .before .before .before .before .before .before .before .before .before .before .before .before .before .before .pending .ensures) ∙ c .before .before .before .before .before .before .before .before .before .before .before .before .before .before .before .before .before .before .before .state .given .1) in

@@ -1,34 +1,32 @@
 -- Block after block the outputs hold the answers of the rows before. Assumes nothing.
-use Prim.Native.Nat.{_-_, _*_, _≤_}
+use Prim.Native.Nat.{_+_, _-_, _≤_, _<_}
 use mathlib.Core.Path.{_≡_, refl, sym, _∙_}
 use native.Mathlib.Omega.{arith}
 use borrow.Author.Needs.{needs}
-use lib.ListN.{length, take, drop, length-take, length-replicate}
+use lib.ListN.{length, take, drop, length-take, length-drop, length-replicate}
 use lib.Ieee.{Float}
 use Rattle.float.specs.Operators.{zero64}
 use Rattle.moment.specs.Skew.{skewFinalize}
-use Rattle.window.specs.Refusals.{filled, kept}
-use Rattle.window.specs.Readings.{series, ofReadings}
-use Rattle.window.specs.Rows.{Plan, rows}
-use Rattle.window.proofs.Rows.{Row, row-start, row-done}
-use Rattle.rolling.specs.Moments.{skewness}
-use Rattle.rolling.specs.Reaching.{rowsOf}
-use Rattle.rolling.specs.Slots.{Corrections}
-use Rattle.rolling.proofs.Fixed.{rows-are}
+use Rattle.plan.specs.Plan.{Plan, rows}
+use Rattle.window.proofs.Outputs.{column-is, _then_}
+use Rattle.rolling.specs.Code.Layouts.{skewStored}
+use Rattle.rolling.specs.Code.Rows.{planBy}
+use Rattle.rolling.proofs.RowLoops.{many-rows, rows-kept, rows-figures, rows-present}
 use Rattle.rolling.proofs.Slots.{first-places}
-use Rattle.rolling.proofs.Blocks.{filled-start, block-next}
+use Rattle.rolling.proofs.Blocks.{Blocks, blocks-start, blocks-can, blocks-next}
 use Rattle.rolling.proofs.skew.SkewMoment.rows.Statement.{statement}
 use Rattle.rolling.proofs.skew.SkewMoment.rows.Tie as tie
 
 abbrev Inv-loop : tie.InvT-loop
-Inv-loop self values has-map map fixed left right starts ends min-periods widest work₀ figures₀ present₀ w₀ counts₀ none corrections₀ m2s₀ m3s₀ factors₀ roots₀ rows first₀ work figures present w counts corrections m2s m3s factors roots first =
-    Row (ofReadings skewness) (λ z. skewFinalize z (self .bias)) (series has-map map values) min-periods (length values) widest (rowsOf fixed left right (length values) starts ends)
-    work₀ figures₀ present₀ (5 * widest) work figures present (w .window) (w .«agg_back») first
-    × Corrections counts corrections × (length m2s ≡ 32) × (length m3s ≡ 32) × (length factors ≡ 32) × (length roots ≡ 32)
+Inv-loop self rows values has-map map starts ends work₀ figures₀ present₀ w₀ counts₀ none corrections₀ m2s₀ m3s₀ factors₀ roots₀ many first₀ work figures present w counts corrections m2s m3s factors roots first =
+    Blocks (self .bias) has-map map values rows starts ends work₀ figures₀ present₀ (w .window) (w .«agg_back») work figures present counts corrections m2s m3s factors roots first
 
 abbrev μ-loop : tie.MeasureT-loop
-μ-loop self values has-map map fixed left right starts ends min-periods widest work₀ figures₀ present₀ w₀ counts₀ none corrections₀ m2s₀ m3s₀ factors₀ roots₀ rows first₀ work figures present w counts corrections m2s m3s factors roots first =
-    rows - first
+μ-loop self rows values has-map map starts ends work₀ figures₀ present₀ w₀ counts₀ none corrections₀ m2s₀ m3s₀ factors₀ roots₀ many first₀ work figures present w counts corrections m2s m3s factors roots first =
+    many - first
+
+empty-at-requires : tie.Need-empty-at-requires Inv-loop μ-loop
+empty-at-requires c κs = search needs
 
 empty-requires : tie.Need-empty-requires Inv-loop μ-loop
 empty-requires c κs = search needs
@@ -36,22 +34,36 @@ empty-requires c κs = search needs
 correction-requires : tie.Need-correction-requires Inv-loop μ-loop
 correction-requires c κs = search needs
 
-rows-requires : tie.Need-rows-requires Inv-loop μ-loop
-rows-requires c κs = search needs
+how-many-requires : tie.Need-how-many-requires Inv-loop μ-loop
+how-many-requires c κs = search needs
 
 loop-holds : tie.Need-loop-holds Inv-loop μ-loop
 loop-holds c =
     let l = length-replicate {A = Float} 32 zero64 in
-    (row-start (ofReadings skewness) _ _ _ _ _ _ _ _ _ _ _ (c .before .before .empty .ensures), first-places _ (c .before .correction .ensures), l, l, l, l)
+    blocks-start _ _ _ _ _ _ _ _ _ _ (c .before .before .before .before .before .before .before .before .before .before .before .pre) (c .before .before .before .empty-at .ensures) (c .before .before .empty .ensures)
+    (record { kept = first-places _ (c .before .correction .ensures); m2s-long = l; m3s-long = l; factors-long = l }) l
+
+abbrev start : tie.After-end-of Inv-loop μ-loop → tie.Start Inv-loop μ-loop
+start e = e .before .before .before .before .before .before .before .before .before .before .before .before .before .before
 
 abbrev plan : tie.Start Inv-loop μ-loop → Plan
-plan s = let g = s .args in rowsOf (g .fixed) (g .left) (g .right) (length (g .values .now)) (g .starts .now) (g .ends .now)
+plan s = let g = s .args in planBy (g .rows) (length (g .values .now)) (g .starts .now) (g .ends .now)
 
-told : (a : tie.After-rows Inv-loop μ-loop) → a .rows .result ≡ rows (plan (a .before .before .before .before .before .before .before .before .before .before))
-told a = let g = a .before .before .before .before .before .before .before .before .before .before .args in a .rows .ensures ∙ rows-are (g .left) (g .right) (length (g .values .now)) (g .starts .now) (g .ends .now) (g .fixed)
+-- all rows
+told : (a : tie.After-how-many Inv-loop μ-loop) → a .how-many .result ≡ rows (plan (a .before .before .before .before .before .before .before .before .before .before .before))
+told a = let g = a .before .before .before .before .before .before .before .before .before .before .before .args in a .how-many .ensures ∙ many-rows (g .rows) (length (g .values .now)) (g .starts .now) (g .ends .now)
 
-block-end-requires : tie.Need-block-end-requires Inv-loop μ-loop
-block-end-requires c κs = search needs
+-- where a block ends
+ends : (e : tie.After-end-of Inv-loop μ-loop) → let first = e .before .before .loop .first in let u = e .end-of .result in
+    (first ≤ u) × (u ≤ first + 32) × (u ≤ rows (plan (start e))) × (first < u)
+ends e =
+    let m = e .end-of .ensures in
+    let h = e .before .loop-test .taken in
+    let k = told (e .before .before .before) in
+    (omega arith, omega arith, omega arith, omega arith)
+
+end-of-requires : tie.Need-end-of-requires Inv-loop μ-loop
+end-of-requires c κs = search needs
 
 slice-aggregate-block : tie.Need-slice-aggregate-block Inv-loop μ-loop
 slice-aggregate-block c = search needs
@@ -70,18 +82,10 @@ slice-aggregate-block-5 c = search needs
 
 block-requires : tie.Need-block-requires Inv-loop μ-loop
 block-requires c κs =
-    let s = c .before .before .before .before .before .before .before .before .before .before .before .before .before .before .before .before .before .before .before .before in
-    let e = told (c .before .before .before .before .before .before .before .before .before .before) in
-    let o = c .before .before .before .before .before .before .before .before .before .loop .inv in
-    let b = c .before .before .before .before .before .before .before .block-end .ensures in
-    let few = s .pre .few in
-    let w = o .0 .work-same in
-    let y = s .pre .work-fits in
-    let p = o .0 .pr-same in
-    let z = s .pre .present-fit in (
-      (s .pre .plan, omega arith, omega arith, omega arith, omega arith, omega arith, b .2),
-      filled-start _ _ _ _ _ _ (o .0 .standing) (o .1) (o .2) (o .3) (o .4),
-    )
+    let e = c .before .before .before .before .before .before .before in
+    let x = ends e in
+    let y = e .before .before .loop .inv .present-same in
+    blocks-can _ _ _ _ _ _ _ _ _ _ (start e .pre) (e .before .before .loop .inv) (e .end-of .result) (x .0) (x .1) (x .2) (omega arith)
 
 slice-aggregate-finish : tie.Need-slice-aggregate-finish Inv-loop μ-loop
 slice-aggregate-finish c = search needs
@@ -93,78 +97,83 @@ slice-aggregate-finish-3 : tie.Need-slice-aggregate-finish-3 Inv-loop μ-loop
 slice-aggregate-finish-3 c = search needs
 
 slice-aggregate-finish-4 : tie.Need-slice-aggregate-finish-4 Inv-loop μ-loop
-slice-aggregate-finish-4 c = sym (c .before .before .before .before .before .before .before .before .before .before .before .before .before .before .before .before .before .before .before .before .before .before .before .loop .inv .5)
+slice-aggregate-finish-4 c = sym (c .before .before .before .before .before .before .before .before .before .before .before .before .before .before .before .before .before .before .before .before .before .before .before .loop .inv .roots-long)
 
 mul-finish : tie.Need-mul-finish Inv-loop μ-loop
 mul-finish c =
-    let b = c .before .before .before .before .before .before .before .before .before .before .before .before .before .before .before .before .before .before .before .before .before .block-end .ensures in
-    let o = c .before .before .before .before .before .before .before .before .before .before .before .before .before .before .before .before .before .before .before .before .before .before .before .loop .inv .0 .out-same in
-    let y = c .before .before .before .before .before .before .before .before .before .before .before .before .before .before .before .before .before .before .before .before .before .before .before .before .before .before .before .before .before .before .before .before .before .before .pre .figures-fit in
-    let e = told (c .before .before .before .before .before .before .before .before .before .before .before .before .before .before .before .before .before .before .before .before .before .before .before .before) in
-    omega (arith, c .before .before .before .before .before .before .before .before .before .before .before .before .before .before .before .before .before .before .before .before .before .before .before .before .before .before .before .before .before .before .before .before .before .before)
+    let e = c .before .before .before .before .before .before .before .before .before .before .before .before .before .before .before .before .before .before .before .before .before in
+    let x = ends e in
+    let y = e .before .before .loop .inv .figures-same in
+    let z = start e .pre .outputs-fit in
+    omega (arith, start e .good)
 
 sub-finish : tie.Need-sub-finish Inv-loop μ-loop
-sub-finish c = search needs
+sub-finish c = ends (c .before .before .before .before .before .before .before .before .before .before .before .before .before .before .before .before .before .before .before .before .before) .0
 
 part-finish-start : tie.Need-part-finish-start Inv-loop μ-loop
-part-finish-start c = search needs
+part-finish-start c = ends (c .before .before .before .before .before .before .before .before .before .before .before .before .before .before .before .before .before .before .before .before .before) .0
 
 part-finish-end : tie.Need-part-finish-end Inv-loop μ-loop
 part-finish-end c =
-    let b = c .before .before .before .before .before .before .before .before .before .before .before .before .before .before .before .before .before .before .before .before .before .block-end .ensures in
-    let o = c .before .before .before .before .before .before .before .before .before .before .before .before .before .before .before .before .before .before .before .before .before .before .before .loop .inv .0 .out-same in
-    let y = c .before .before .before .before .before .before .before .before .before .before .before .before .before .before .before .before .before .before .before .before .before .before .before .before .before .before .before .before .before .before .before .before .before .before .pre .figures-fit in
-    let e = told (c .before .before .before .before .before .before .before .before .before .before .before .before .before .before .before .before .before .before .before .before .before .before .before .before) in
+    let e = c .before .before .before .before .before .before .before .before .before .before .before .before .before .before .before .before .before .before .before .before .before in
+    let x = ends e in
+    let y = e .before .before .loop .inv .figures-same in
+    let z = start e .pre .outputs-fit in
     omega arith
 
 finish-requires : tie.Need-finish-requires Inv-loop μ-loop
 finish-requires c κs =
-    let v = c .before .before .before .before .before .before .before .before .before .before .before .before .before .before .block .ensures in
-    let b = c .before .before .before .before .before .before .before .before .before .before .before .before .before .before .before .before .before .before .before .before .before .before .block-end .ensures in
-    let u = c .before .before .before .before .before .before .before .before .before .before .before .before .before .before .before .before .before .before .before .before .before .before .block-end .result in
-    let first = c .before .before .before .before .before .before .before .before .before .before .before .before .before .before .before .before .before .before .before .before .before .before .before .before .loop .first in
-    let o : length (take (u - first) (drop first (c .before .before .before .before .before .before .before .before .before .before .before .before .before .before .before .before .before .before .before .before .before .before .before .before .loop .figures))) ≤ 32 = rw length-take (omega arith) in
-    let x = v .m2s-long in
-    let y = v .m3s-long in
-    let z = v .factors-long in
-    let w = c .before .before .before .before .before .before .before .before .before .before .before .before .before .before .before .before .before .before .before .before .before .before .before .before .loop .inv .5 in
-    (omega arith, omega arith, omega arith, omega arith)
+    let e = c .before .before .before .before .before .before .before .before .before .before .before .before .before .before .before .before .before .before .before .before .before .before in
+    let v = c .before .before .before .before .before .before .before .before .before .before .before .before .before .before .block .ensures .slots in
+    let u = e .end-of .result in
+    let l = e .before .before .loop in
+    let x = ends e in
+    let o : length (take (u - l .first) (drop (l .first) (l .figures))) ≤ 32 = rw length-take (omega arith) in
+    let a = v .m2s-long in
+    let b = v .m3s-long in
+    let d = v .factors-long in
+    let w = l .inv .roots-long in
+    record { m2s-long = omega arith; m3s-long = omega arith; factors-long = omega arith; roots-long = omega arith }
 
 loop-less : tie.Need-loop-less Inv-loop μ-loop
-loop-less c = let b = c .before .before .before .before .before .before .before .before .before .before .before .before .before .before .before .before .before .before .before .before .before .before .before .before .before .before .block-end .ensures in omega arith
+loop-less c = let e = c .before .before .before .before .before .before .before .before .before .before .before .before .before .before .before .before .before .before .before .before .before .before .before .before .before .before in let x = ends e in let h = e .before .loop-test .taken in omega arith
 
 loop-again : tie.Need-loop-again Inv-loop μ-loop
 loop-again c =
-    let o = c .before .before .before .before .before .before .before .before .before .before .before .before .before .before .before .before .before .before .before .before .before .before .before .before .before .before .before .before .loop .inv in
-    let v = c .before .before .before .before .before .before .before .before .before .before .before .before .before .before .before .before .before .before .block .ensures in
-    let s = c .before .before .before .before .before .before .before .before .before .before .before .before .before .before .before .before .before .before .before .before .before .before .before .before .before .before .before .before .before .before .before .before .before .before .before .before .before .before .before in
-    let e = told (c .before .before .before .before .before .before .before .before .before .before .before .before .before .before .before .before .before .before .before .before .before .before .before .before .before .before .before .before .before) in
-    let b = c .before .before .before .before .before .before .before .before .before .before .before .before .before .before .before .before .before .before .before .before .before .before .before .before .before .before .block-end .ensures in
-    let f = c .before .before .before .finish in (
-      block-next _ _ _ _ _ _ (o .0) v (omega arith) (s .pre .figures-fit) (s .pre .present-fit) (f .ensures) refl,
-      v .kept,
-      v .m2s-long,
-      v .m3s-long,
-      v .factors-long,
-      f .kept .1 .1 .1 .1 .0 ∙ o .5,
-    )
+    let e = c .before .before .before .before .before .before .before .before .before .before .before .before .before .before .before .before .before .before .before .before .before .before .before .before .before .before in
+    let x = ends e in
+    let f = c .before .before .before .finish in
+    let b = c .before .before .before .before .before .before .before .before .before .before .before .before .before .before .before .before .before .before .block in
+    blocks-next _ _ _ _ _ _ _ _ _ _ (start e .pre) (e .before .before .loop .inv) (e .end-of .result) (x .0) (x .1) (x .2) (omega arith) (b .ensures) (b .kept .1 .1 .1 .1 .1 .1 .1 .0) (b .kept .1 .1 .1 .1 .1 .1 .1 .1 .0) (f .kept .1 .1 .1 .1 .0) (f .ensures) refl
 
 same-length : tie.Need-same-length Inv-loop μ-loop
-same-length c = search needs
+same-length c = c .before .loop .inv .work-same
 
 same-length-2 : tie.Need-same-length-2 Inv-loop μ-loop
-same-length-2 c = search needs
+same-length-2 c = c .before .loop .inv .figures-same
 
 same-length-3 : tie.Need-same-length-3 Inv-loop μ-loop
-same-length-3 c = search needs
+same-length-3 c = c .before .loop .inv .present-same
 
 returns : tie.Need-returns Inv-loop μ-loop
-unfolding filled kept
 returns c =
-    let e = told (c .before .before) in
+    let s = c .before .before .before .before .before .before .before .before .before .before .before .before .before in
+    let g = s .args in
+    let v = c .before .loop .inv .works in
     let h = c .loop-test .left in
-    let d = row-done (ofReadings skewness) _ _ _ _ _ _ (c .before .loop .inv .0) (omega arith) in
-    record { figures-are = d .0; present-are = d .1; work-kept = rw (← c .before .before .before .before .before .before .before .before .before .before .before .before .pre .wide-is) (d .2) }
+    let t = told (c .before .before) in
+    let o = v .worked .standing .upto in
+    let u : c .before .loop .first ≡ rows (plan s) = omega arith in
+    record {
+      fits = record { answers = refl; counts = refl };
+      written = record {
+        answers-are = column-is (rows-figures skewStored _ _ _ _ _ _ (s .pre) (λ z. skewFinalize z (g .self .bias)) u v (omega arith))
+            (rows-present skewStored _ _ _ _ _ _ (s .pre) (λ z. skewFinalize z (g .self .bias)) u v (omega arith))
+            then refl;
+        counts-are = refl;
+      };
+      work-kept = rows-kept skewStored _ _ _ _ _ _ (s .pre) (v .worked);
+    }
 
 pub rows-spec : {M : Type 1} → statement M
 rows-spec =
@@ -172,11 +181,12 @@ rows-spec =
     (tie.spec
     Inv-loop
     μ-loop
+    empty-at-requires
     empty-requires
     correction-requires
-    rows-requires
+    how-many-requires
     loop-holds
-    block-end-requires
+    end-of-requires
     slice-aggregate-block
     slice-aggregate-block-2
     slice-aggregate-block-3

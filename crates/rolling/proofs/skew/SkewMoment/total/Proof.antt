@@ -12,7 +12,7 @@ returns : tie.Need-returns
 returns c =
     let a = c .before .before .before .before in
     let w = a .args .w .window in
-    let q = a .pre .1 in
+    let q = a .pre in
     let h = q .few in
     let k = skew-by-counts (a .args .w .«agg_back») _ (w .back) (w .front) (omega arith) (omega arith) (q .back-is) (q .front-is) in
     sym (k ∙ rw (eq-eqb (w .front) 0 (c .if1 .taken)))
@@ -24,7 +24,7 @@ returns-2 : tie.Need-returns-2
 returns-2 c =
     let a = c .before .before .before .before .before .before .before in
     let w = a .args .w .window in
-    let q = a .pre .1 in
+    let q = a .pre in
     let h = q .few in
     let k = skew-by-counts (a .args .w .«agg_back») _ (w .back) (w .front) (omega arith) (omega arith) (q .back-is) (q .front-is) in
     let f = c .before .before .before .if1 .left in
@@ -37,7 +37,7 @@ returns-3 : tie.Need-returns-3
 returns-3 c =
     let a = c .before .before .before .before .before .before .before .before in
     let w = a .args .w .window in
-    let q = a .pre .1 in
+    let q = a .pre in
     let h = q .few in
     let k = skew-by-counts (a .args .w .«agg_back») _ (w .back) (w .front) (omega arith) (omega arith) (q .back-is) (q .front-is) in
     let f = c .before .before .before .before .if1 .left in

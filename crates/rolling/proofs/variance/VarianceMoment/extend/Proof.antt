@@ -1,57 +1,48 @@
--- What is pushed on the part that begins after the front stack is the back stack grown. Assumes nothing.
-use Prim.Native.Nat.{_≤_}
-use mathlib.Core.Path.{refl}
-use native.Mathlib.Omega.{arith}
+-- What is appended to the part that begins after the front stack is the back stack grown. Assumes nothing.
+use native.Mathlib.Nat.{le-trans}
 use borrow.Author.Needs.{needs}
-use Rattle.window.specs.Readings.{ofReadings}
-use Rattle.window.proofs.Moves.{in-fits, in-pushed, held-counts}
-use Rattle.rolling.specs.Moments.{variance}
+use Rattle.window.proofs.Steps.{extend-appendable, extend-appended}
+use Rattle.rolling.specs.Code.Layouts.{varStored, varStates}
 use Rattle.rolling.proofs.Weighed.{var-weighs, rising-weight}
 use Rattle.rolling.proofs.variance.VarianceMoment.extend.Statement.{statement}
 use Rattle.rolling.proofs.variance.VarianceMoment.extend.Tie as tie
 
-mul-push : tie.Need-mul-push
-mul-push c = search needs
+mul-append : tie.Need-mul-append
+mul-append c = search needs
 
-sub-push : tie.Need-sub-push
-sub-push c = search needs
+sub-append : tie.Need-sub-append
+sub-append c = search needs
 
-part-push-start : tie.Need-part-push-start
-part-push-start c = search needs
+part-append-start : tie.Need-part-append-start
+part-append-start c = search needs
 
-part-push-end : tie.Need-part-push-end
-part-push-end c = search needs
+part-append-end : tie.Need-part-append-end
+part-append-end c = search needs
 
-push-requires : tie.Need-push-requires
-push-requires c κs =
+append-requires : tie.Need-append-requires
+append-requires c κs =
     let p = c .before .before .before .before .before .before .pre in
-    let f = in-fits (ofReadings variance) _ _ _ _ _ _ (p .0) (p .1) _ (p .3) (p .4) (p .5) in
-    let w = c .before .before .before .before .before .before .args .w .window in
-    let k = held-counts (ofReadings variance) _ _ _ _ _ (p .0) in
-    let i = p .1 in
-    let g = p .2 in
-    let o = p .6 in
-    let b : w .back ≤ w .end = omega arith in
-    (i, g, f .0, f .1, omega arith, b, rising-weight variance var-weighs _ _ w _ _ (p .0) (omega arith))
+    let a = extend-appendable varStored _ p in
+    (a, rising-weight varStates var-weighs _ _ (c .before .before .before .before .before .before .args .w .window) _ _ (p .held) (le-trans (a .many-le) (le-trans (a .rises) (a .few))))
+
+extended-requires : tie.Need-extended-requires
+extended-requires c κs = search needs
 
 same-length : tie.Need-same-length
 same-length c = search needs
 
 returns : tie.Need-returns
-returns c =
-    let s = c .before .before .before .before .before .before .before .before .before .before in
-    let p = s .pre in
-    let d = in-pushed (ofReadings variance) _ _ _ (s .args .w .window) _ _ (p .0) (p .1) _ (p .3) (p .4) (p .5) _ _ _ _ (c .before .before .before .push .ensures) in
-    record { held = d .0; to = refl; rest = d .1 }
+returns c = extend-appended varStored _ (c .before .before .before .before .before .before .before .before .before .before .before .pre) (c .before .before .before .before .append .ensures) (c .extended .ensures)
 
 pub extend-spec : {M : Type 1} → statement M
 extend-spec =
     tie.close
     (tie.spec
-    mul-push
-    sub-push
-    part-push-start
-    part-push-end
-    push-requires
+    mul-append
+    sub-append
+    part-append-start
+    part-append-end
+    append-requires
+    extended-requires
     same-length
     returns)

@@ -2,7 +2,7 @@
 use borrow.Author.Tests.{eq-eqb, ne-eqb}
 use lib.Seq.{getD-drop}
 use native.Mathlib.Nat.{add-zero}
-use Rattle.window.specs.Stacks.{topOf}
+use Rattle.window.specs.Code.Stacks.{topOf}
 use borrow.Author.Needs.{needs}
 use Rattle.rolling.proofs.variance.VarianceMoment.last.Statement.{statement}
 use Rattle.rolling.proofs.variance.VarianceMoment.last.Tie as tie

@@ -1,11 +1,13 @@
 -- By whether the row moves the window. Assumes nothing.
-use mathlib.Core.Path.{refl, sym, _∙_}
+use mathlib.Core.Path.{sym, _∙_}
 use borrow.Author.Needs.{needs}
+use Rattle.window.proofs.Steps.{step-moves, step-stays}
+use Rattle.rolling.specs.Code.Layouts.{varStored}
 use Rattle.rolling.proofs.variance.VarianceMoment.step.Statement.{statement}
 use Rattle.rolling.proofs.variance.VarianceMoment.step.Tie as tie
 
 moves-requires : tie.Need-moves-requires
-moves-requires c κs = search needs
+moves-requires c κs = c .before .before .before .pre .ready .row
 
 update-requires : tie.Need-update-requires
 update-requires c κs = search needs
@@ -15,17 +17,17 @@ same-length c = search needs
 
 returns : tie.Need-returns
 returns c =
-    let m = c .before .before .update .ensures in
-    let g = c .before .before .before .before in
-    record { held = m .held; to = rw (sym (g .before .moves .ensures) ∙ g .if1 .taken) (m .to); rest = m .rest }
+    let m = c .before .before .before .before .before in
+    let g = m .before .before .before .before .args in
+    step-moves varStored _ (g .rows .widest) (g .rows .«min_periods») (g .row) (g .start) (g .end) (g .w .window)
+    (sym (m .moves .ensures) ∙ c .before .before .before .before .if1 .taken) (c .before .before .update .ensures)
 
 returns-2 : tie.Need-returns-2
 returns-2 c =
-    record {
-      held = c .before .before .before .before .before .pre .0 .held;
-      to = rw (sym (c .before .moves .ensures) ∙ c .if1 .left);
-      rest = refl;
-    }
+    let m = c .before in
+    let g = m .before .before .before .before .args in
+    step-stays varStored _ (g .rows .widest) (g .rows .«min_periods») (g .row) (g .start) (g .end) (g .w .window)
+    (sym (m .moves .ensures) ∙ c .if1 .left) (m .before .before .before .before .pre .held)
 
 pub step-spec : {M : Type 1} → statement M
 step-spec = tie.close (tie.spec moves-requires update-requires same-length returns returns-2)

@@ -12,7 +12,7 @@ returns : tie.Need-returns
 returns c =
     let a = c .before .before .before .before in
     let w = a .args .w .window in
-    let q = a .pre .1 in
+    let q = a .pre in
     let h = q .few in
     let k = var-by-counts (a .args .w .«agg_back») _ (w .back) (w .front) (omega arith) (q .back-is) (q .front-is) in
     sym (k ∙ rw (eq-eqb (w .front) 0 (c .if1 .taken)))
@@ -27,7 +27,7 @@ returns-2 : tie.Need-returns-2
 returns-2 c =
     let a = c .before .before .before .before .before .before in
     let w = a .args .w .window in
-    let q = a .pre .1 in
+    let q = a .pre in
     let h = q .few in
     let k = var-by-counts (a .args .w .«agg_back») _ (w .back) (w .front) (omega arith) (q .back-is) (q .front-is) in
     c .merged .ensures ∙ ap (varMerged (a .args .w .«agg_back»)) (c .before .last .ensures) ∙ sym (k ∙ rw (ne-eqb (w .front) 0 (c .before .before .if1 .left)))
