@@ -7,7 +7,8 @@ use mathlib.Core.List.{List, [], _∷_, zip, zipWith}
 use native.Mathlib.Omega.{arith}
 use lib.ListN.{length, take, drop, length-drop}
 use lib.Ieee.{Float}
-use Rattle.moment.specs.Chunks.{chunks, chunksOf, foldChunks, inChunks, Filled}
+use Rattle.moment.specs.Chunks.{chunks, chunksOf, foldChunks, inChunks}
+use Rattle.moment.specs.Invariants.Filling.{Filled}
 use Rattle.moment.proofs.Folds.{from-end}
 use Rattle.moment.proofs.Filling.{rest}
 use Rattle.moment.proofs.Pairs.{take-zip, drop-zip, zip-valid}

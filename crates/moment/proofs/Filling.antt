@@ -11,7 +11,7 @@ use lib.Seq.{take-suc-set, take-set-le, take-all, take-at, drop-at, length-take-
 use lib.Ieee.{Float, nan}
 use mir.Val.{boolByte}
 use Rattle.trace.specs.Trace.{validFrom}
-use Rattle.moment.specs.Chunks.{Filled}
+use Rattle.moment.specs.Invariants.Filling.{Filled}
 use Rattle.moment.proofs.Folds.{from-valid, from-missing, from-end}
 
 -- the valid ones of a trace from its place i on

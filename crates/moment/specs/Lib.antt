@@ -8,3 +8,4 @@ pub mod Skew
 pub mod Kurtosis
 pub mod Chunks
 pub mod Arrays
+pub mod Invariants
