@@ -18,9 +18,9 @@ use Rattle.moment.specs.Pearson.{pearsonEmpty, pearsonNew, pearsonCombin
 use Rattle.moment.specs.Skew.{skewEmpty, skewNew, skewCombine}
 use Rattle.moment.specs.Kurtosis.{kurtosisEmpty, kurtosisNew, kurtosisCombine}
 use Rattle.moment.specs.Chunks.{chunks, chunksOf, foldChunks, inChunks}
-use Rattle.moment.specs.Invariants.Filling.{Filled, FilledBoth}
+use Rattle.moment.specs.Invariants.Filling.{Filled, Fillable, FilledBoth}
 use Rattle.moment.proofs.Folds.{from-end}
-use Rattle.moment.proofs.Filling.{rest}
+use Rattle.moment.proofs.Filling.{rest, part-long}
 use Rattle.moment.proofs.Pairs.{take-zip, length-zip}
 
 -- the number of chunks falls by one with each 128 that is taken
@@ -43,72 +43,86 @@ module _ {A S : Type 0} (m : Chunkable A S) where
   abbrev folded : S → List A → S
   folded s xs = foldChunks (m .new) (m .combine) s (chunksOf xs)
 
+  abbrev pub whole : List A → S
+  whole = inChunks (m .new) (m .combine) (m .empty)
+
   next : (s : S) (xs : List A) → folded (m .combine s (m .new (take 128 xs))) (drop 128 xs) ≡ folded s xs
   unfolding chunks chunksOf
   next s [] = m .none s
   next s (x ∷ xs) = sym (ap (foldChunks (m .new) (m .combine) s) (chunks-cons (x ∷ xs) (omega arith)))
 
-  module _ (valid : ℕ → Bool) (trace : List A) where
-    abbrev pub Reached : S → ℕ → Type 0
-    Reached s i = folded s (rest valid trace i) ≡ inChunks (m .new) (m .combine) (m .empty) (rest valid trace 0)
+  -- the state s so far, with the chunks of the valid ones from place i on combined, is the whole
+  pub record Reached (valid : ℕ → Bool) (trace : List A) (s : S) (i : ℕ) : Type 0 where
+    pub with-rest : folded s (rest valid trace i) ≡ whole (rest valid trace 0)
 
-    pub reached-start : (s : S) → s ≡ m .empty → Reached s 0
-    unfolding inChunks
-    reached-start s e = rw e
+module _ {A S : Type 0} {m : Chunkable A S} {valid : ℕ → Bool} {trace : List A} where
+  pub reached-start : {s : S} → s ≡ m .empty → Reached m valid trace s 0
+  unfolding inChunks
+  reached-start e = record { with-rest = rw e }
 
-    -- a filled chunk is made a state t and combined
-    pub reached-next : (i j n : ℕ) (chunk : List A) (s t u : S) → Filled valid trace i j n chunk → Reached s i → t ≡ m .new (take n chunk) → u ≡ m .combine s t → Reached u j
-    reached-next i j n chunk s t u f r e g = rw (g, e, f .taken, f .left) (next s (rest valid trace i) ∙ r)
+  -- a filled chunk is made a state t and combined
+  pub reached-next : {i j n : ℕ} {chunk : List A} {s t u : S} → Filled valid trace i j n chunk → Reached m valid trace s i → t ≡ m .new (take n chunk) → u ≡ m .combine s t → Reached m valid trace u j
+  reached-next {i} {s = s} f r e g = record { with-rest = rw (g, e, f .taken, f .left) (next m s (rest valid trace i) ∙ r .with-rest) }
 
-    -- no place is left
-    pub reached-end : (i : ℕ) (s : S) → length trace ≤ i → Reached s i → s ≡ inChunks (m .new) (m .combine) (m .empty) (rest valid trace 0)
-    unfolding chunks chunksOf
-    reached-end i s h r = rw (from-end valid trace i i h) at r
+  -- no place is left
+  pub reached-end : {s : S} {i : ℕ} → Reached m valid trace s i → length trace ≤ i → s ≡ whole m (rest valid trace 0)
+  unfolding chunks chunksOf
+  reached-end {i = i} r h = rw (from-end valid trace i i h) at (r .with-rest)
+
+-- a filled chunk is lent as long as it is filled
+pub filled-part : {A : Type 0} {valid : ℕ → Bool} {trace : List A} {i j n : ℕ} {chunk : List A} → Filled valid trace i j n chunk → n ≡ length (take n chunk)
+filled-part f = part-long 128 _ _ (f .room) refl (f .within)
 
 -- two traces: chunks filled side by side are a chunk of pairs
-module _ {S : Type 0} (m : Chunkable (Float × Float) S) (both : ℕ → Bool) (xs ys : List Float) where
-  abbrev pub ReachedBoth : S → ℕ → Type 0
-  ReachedBoth = Reached m both (zip xs ys)
+module _ {xs ys cx cy : List Float} (f : Fillable xs ys cx cy) where
+  pub x-part : {n : ℕ} → n ≤ 128 → n ≡ length (take n cx)
+  x-part h = part-long 128 _ _ (f .x-room) refl h
 
-  pub both-next : (i j n : ℕ) (cx cy : List Float) (s t u : S) → FilledBoth both xs ys i j n cx cy → ReachedBoth s i → t ≡ m .new (zip (take n cx) (take n cy)) → u ≡ m .combine s t → ReachedBoth u j
-  both-next i j n cx cy s t u f r e g =
-      reached-next m both (zip xs ys) i j n (zip cx cy) s t u (f .pairs) r (e ∙ ap (m .new) (sym (take-zip n cx cy))) g
+  pub y-part : {n : ℕ} → n ≤ 128 → n ≡ length (take n cy)
+  y-part h = part-long 128 _ _ (f .y-room) refl h
 
-  pub both-end : (i : ℕ) (s : S) → length xs ≡ length ys → length xs ≤ i → ReachedBoth s i → s ≡ inChunks (m .new) (m .combine) (m .empty) (rest both (zip xs ys) 0)
-  both-end i s e h r = reached-end m both (zip xs ys) i s (rw (length-zip xs ys e) h) r
+  pub in-both : {i : ℕ} → i < length xs → i < length (zip xs ys)
+  in-both h = rw (length-zip xs ys (f .paired)) h
+
+module _ {S : Type 0} {m : Chunkable (Float × Float) S} {both : ℕ → Bool} {xs ys : List Float} {i : ℕ} {cx cy : List Float} {s : S} where
+  pub both-next : {j n : ℕ} {t u : S} → FilledBoth both xs ys i j n cx cy → Reached m both (zip xs ys) s i → t ≡ m .new (zip (take n cx) (take n cy)) → u ≡ m .combine s t → Reached m both (zip xs ys) u j
+  both-next {n = n} f r e g = reached-next (f .pairs) r (e ∙ ap (m .new) (sym (take-zip n cx cy))) g
+
+  pub both-end : Fillable xs ys cx cy → Reached m both (zip xs ys) s i → length xs ≤ i → s ≡ whole m (rest both (zip xs ys) 0)
+  both-end f r h = reached-end r (rw (length-zip xs ys (f .paired)) h)
 
 -- ---- the five states: a chunk of nothing has weight zero, and `combine` leaves it out
 pub var-none : (s : VarState) → varCombine s (varNew []) ≡ s
 unfolding varCombine varNew eq ofBits
 var-none s = refl
 
-abbrev pub var-chunked : Chunkable Float VarState
-var-chunked = record { new = varNew; combine = varCombine; empty = varEmpty; none = var-none }
-
 pub cov-none : (s : CovState) → covCombine s (covNew []) ≡ s
 unfolding covCombine covNew eq ofBits
 cov-none s = refl
-
-abbrev pub cov-chunked : Chunkable (Float × Float) CovState
-cov-chunked = record { new = covNew; combine = covCombine; empty = covEmpty; none = cov-none }
 
 pub pearson-none : (s : PearsonState) → pearsonCombine s (pearsonNew []) ≡ s
 unfolding pearsonCombine pearsonNew eq ofBits
 pearson-none s = refl
 
-abbrev pub pearson-chunked : Chunkable (Float × Float) PearsonState
-pearson-chunked = record { new = pearsonNew; combine = pearsonCombine; empty = pearsonEmpty; none = pearson-none }
-
 pub skew-none : (s : SkewState) → skewCombine s (skewNew []) ≡ s
 unfolding skewCombine skewNew eq ofBits
 skew-none s = refl
 
-abbrev pub skew-chunked : Chunkable Float SkewState
-skew-chunked = record { new = skewNew; combine = skewCombine; empty = skewEmpty; none = skew-none }
-
 pub kurtosis-none : (s : KurtosisState) → kurtosisCombine s (kurtosisNew []) ≡ s
 unfolding kurtosisCombine kurtosisNew eq ofBits
 kurtosis-none s = refl
+
+abbrev pub var-chunked : Chunkable Float VarState
+var-chunked = record { new = varNew; combine = varCombine; empty = varEmpty; none = var-none }
+
+abbrev pub cov-chunked : Chunkable (Float × Float) CovState
+cov-chunked = record { new = covNew; combine = covCombine; empty = covEmpty; none = cov-none }
+
+abbrev pub pearson-chunked : Chunkable (Float × Float) PearsonState
+pearson-chunked = record { new = pearsonNew; combine = pearsonCombine; empty = pearsonEmpty; none = pearson-none }
+
+abbrev pub skew-chunked : Chunkable Float SkewState
+skew-chunked = record { new = skewNew; combine = skewCombine; empty = skewEmpty; none = skew-none }
 
 abbrev pub kurtosis-chunked : Chunkable Float KurtosisState
 kurtosis-chunked = record { new = kurtosisNew; combine = kurtosisCombine; empty = kurtosisEmpty; none = kurtosis-none }

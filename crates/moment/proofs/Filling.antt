@@ -49,7 +49,7 @@ module _ {A : Type 0} (valid : ℕ → Bool) (trace : List A) (i : ℕ) (chunk :
   filled-full f =
       let len : length (take n chunk) ≡ 128 = simp length-take (omega arith) in
       record {
-        long = inv .2;
+        room = inv .2;
         within = inv .0;
         taken = rw (← inv .3) (sym (take-at (take n chunk) _ 128 len));
         left = rw (← inv .3) (sym (drop-at (take n chunk) _ 128 len));
@@ -63,29 +63,35 @@ module _ {A : Type 0} (valid : ℕ → Bool) (trace : List A) (i : ℕ) (chunk :
       let none = from-end valid trace j j g in
       let all : take n chunk ≡ rest valid trace i = sym (append-nil (take n chunk)) ∙ (rw none at (inv .3)) in
       record {
-        long = inv .2;
+        room = inv .2;
         within = inv .0;
         taken = rw (← all) (sym (take-all 128 (take n chunk) len));
         left = rw (none, ← all) (sym (drop-of-length-le (take n chunk) len));
         further = λ k. omega arith;
       }
 
--- two chunks side by side: the law of their pairs, and each keeps its room
+-- two chunks side by side: the law of their pairs, and they can be filled again
 abbrev pub FillingBoth : (ℕ → Bool) → List Float → List Float → ℕ → List Float → List Float → ℕ → ℕ → Type 0
-FillingBoth both xs ys i cx cy j n = (length cx ≡ 128) × (length cy ≡ 128) × Filling both (zip xs ys) i (zip cx cy) j n
+FillingBoth both xs ys i cx cy j n = Fillable xs ys cx cy × Filling both (zip xs ys) i (zip cx cy) j n
 
 pub both-start : (both : ℕ → Bool) (xs ys : List Float) (i : ℕ) (cx cy : List Float) → Fillable xs ys cx cy → FillingBoth both xs ys i cx cy i 0
-both-start both xs ys i cx cy h =
-    (h .x-room, h .y-room, filling-start both (zip xs ys) i (zip cx cy) (length-zip cx cy (omega arith) ∙ h .x-room))
+both-start both xs ys i cx cy h = (h, filling-start both (zip xs ys) i (zip cx cy) (length-zip cx cy (omega arith) ∙ h .x-room))
 
 module _ (both : ℕ → Bool) (xs ys : List Float) (i : ℕ) (cx cy : List Float) (j n : ℕ) (inv : FillingBoth both xs ys i cx cy j n) where
-  pub both-step : length xs ≡ length ys → j < length xs → (n ≡ 128 → ⊥) → (t : Bool) → t ≡ both j → FillingBoth both xs ys i (set cx n (getD xs j nan)) (set cy n (getD ys j nan)) (j + 1) (n + boolByte t)
-  both-step e h f t v =
-      let g : j < length (zip xs ys) = rw (length-zip xs ys e) h in
-      (simp length-set (inv .0), simp length-set (inv .1), rw (zip-set, ← getD-zip xs ys j e) (filling-step both (zip xs ys) i (zip cx cy) j n (inv .2) (nan, nan) g f t v))
+  pub both-step : j < length xs → (n ≡ 128 → ⊥) → (t : Bool) → t ≡ both j → FillingBoth both xs ys i (set cx n (getD xs j nan)) (set cy n (getD ys j nan)) (j + 1) (n + boolByte t)
+  both-step h f t v =
+      let e = inv .0 .paired in
+      let g : j < length (zip xs ys) = rw (length-zip xs ys e) h in (
+        record { paired = e; x-room = simp length-set (inv .0 .x-room); y-room = simp length-set (inv .0 .y-room) },
+        rw (zip-set, ← getD-zip xs ys j e) (filling-step both (zip xs ys) i (zip cx cy) j n (inv .1) (nan, nan) g f t v),
+      )
 
-  pub both-filled : Filled both (zip xs ys) i j n (zip cx cy) → FilledBoth both xs ys i j n cx cy
-  both-filled f = record { x-long = inv .0; y-long = inv .1; pairs = f }
+  pub both-full : n ≡ 128 → FilledBoth both xs ys i j n cx cy
+  both-full f = record { again = inv .0; pairs = filled-full both (zip xs ys) i (zip cx cy) j n (inv .1) f }
+
+  pub both-end : length xs ≤ j → FilledBoth both xs ys i j n cx cy
+  both-end h =
+      record { again = inv .0; pairs = filled-end both (zip xs ys) i (zip cx cy) j n (inv .1) (rw (length-zip xs ys (inv .0 .paired)) h) }
 
 -- the first n of an array of m, where a callee kept it as long as it was
 pub part-long : {A : Type 0} {k : ℕ} (m n : ℕ) (l : List A) → length l ≡ k → k ≡ m → n ≤ m → n ≡ length (take n l)

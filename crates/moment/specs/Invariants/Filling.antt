@@ -10,7 +10,7 @@ use Rattle.trace.specs.Trace.{validFrom}
 -- A chunk filled from place i on: its first n are the next 128 valid entries, or all that are left, and the rest of them start
 -- at place j.
 pub record Filled {A : Type 0} (valid : ℕ → Bool) (trace : List A) (i j n : ℕ) (chunk : List A) : Type 0 where
-  pub long : length chunk ≡ 128
+  pub room : length chunk ≡ 128
   pub within : n ≤ 128
   pub taken : take n chunk ≡ take 128 (validFrom valid i (drop i trace))
   pub left : validFrom valid j (drop j trace) ≡ drop 128 (validFrom valid i (drop i trace))
@@ -24,6 +24,5 @@ pub record Fillable (xs ys xChunk yChunk : List Float) : Type 0 where
 
 -- two chunks filled side by side: their pairs are a chunk filled from the pairs of the traces
 pub record FilledBoth (both : ℕ → Bool) (xs ys : List Float) (i j n : ℕ) (xChunk yChunk : List Float) : Type 0 where
-  pub x-long : length xChunk ≡ 128
-  pub y-long : length yChunk ≡ 128
+  pub again : Fillable xs ys xChunk yChunk
   pub pairs : Filled both (zip xs ys) i j n (zip xChunk yChunk)

@@ -20,8 +20,7 @@ abbrev μ-loop : tie.MeasureT-loop
 
 pub valid-total-spec : {M : Type 1} → statement M
 valid-total-spec =
-    tie.close
-    (tie.spec Inv-loop μ-loop
+    tie.close (tie.spec Inv-loop μ-loop
     (λ c. (search needs, valid-start oneMore 0 _ _ _, valid-start _⊕_ zero64 _ _ _)) (λ c. omega arith) (λ c κs. search needs) (λ c. omega arith) (λ c. omega arith) (λ c. omega arith) (λ c. omega arith) (λ c. omega arith)
     (λ c. let inv = c .before .before .before .loop .inv in let h = c .before .before .loop-test .taken in let v = c .before .valid .ensures in
     ⊎-elim

@@ -13,8 +13,7 @@ use Rattle.moment.proofs.cov_state.CovState.about.Tie as tie
 
 pub about-spec : {M : Type 1} → statement M
 about-spec =
-    tie.close
-    (tie.spec
+    tie.close (tie.spec
     (λ x y weight mean-x mean-y dp-xy₀ i₀ dp-xy i. Summed (product mean-x mean-y) (zip x y) dp-xy i)
     (λ x y weight mean-x mean-y dp-xy₀ i₀ dp-xy i. length x - i)
     (λ c. refl) (λ c. omega arith) (λ c. omega arith) (λ c. omega arith) (λ c. omega arith) (λ c. omega arith) (λ c. omega arith)

@@ -11,8 +11,7 @@ use Rattle.moment.proofs.kurtosis_state.KurtosisState.about.Tie as tie
 
 pub about-spec : {M : Type 1} → statement M
 about-spec =
-    tie.close
-    (tie.spec
+    tie.close (tie.spec
     (λ x weight mean m2₀ m3₀ m4₀ i₀ m2 m3 m4 i. Summed (square mean) x m2 i × Summed (cube mean) x m3 i × Summed (fourth mean) x m4 i)
     (λ x weight mean m2₀ m3₀ m4₀ i₀ m2 m3 m4 i. length x - i)
     (λ c. (refl, refl, refl)) (λ c. omega arith) (λ c. omega arith) (λ c. omega arith) (λ c. omega arith)

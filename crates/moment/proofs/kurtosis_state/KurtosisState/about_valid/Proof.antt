@@ -21,8 +21,7 @@ abbrev μ-loop : tie.MeasureT-loop
 
 pub about-valid-spec : {M : Type 1} → statement M
 about-valid-spec =
-    tie.close
-    (tie.spec Inv-loop μ-loop
+    tie.close (tie.spec Inv-loop μ-loop
     (λ c. (valid-start _ zero64 _ _ _, valid-start _ zero64 _ _ _, valid-start _ zero64 _ _ _)) (λ c. omega arith) (λ c κs. search needs) (λ c. omega arith) (λ c. omega arith) (λ c. omega arith) (λ c. omega arith)
     (λ c. let inv = c .before .before .before .loop .inv in let h = c .before .before .loop-test .taken in let v = c .before .valid .ensures in
     ⊎-elim

@@ -14,8 +14,7 @@ use Rattle.moment.proofs.pearson_state.PearsonState.about.Tie as tie
 
 pub about-spec : {M : Type 1} → statement M
 about-spec =
-    tie.close
-    (tie.spec
+    tie.close (tie.spec
     (λ x y weight mean-x mean-y dp-xx₀ dp-xy₀ dp-yy₀ i₀ dp-xx dp-xy dp-yy i. Summed (squareX mean-x) (zip x y) dp-xx i × Summed (product mean-x mean-y) (zip x y) dp-xy i × Summed (squareY mean-y) (zip x y) dp-yy i)
     (λ x y weight mean-x mean-y dp-xx₀ dp-xy₀ dp-yy₀ i₀ dp-xx dp-xy dp-yy i. length x - i)
     (λ c. (refl, refl, refl)) (λ c. omega arith) (λ c. omega arith) (λ c. omega arith) (λ c. omega arith) (λ c. omega arith) (λ c. omega arith)

@@ -9,8 +9,7 @@ use Rattle.moment.proofs.skew_state.SkewState.from_valid.Tie as tie
 pub from-valid-spec : {M : Type 1} → statement M
 unfolding skewNew
 from-valid-spec =
-    tie.close
-    (tie.spec (λ c κs. search needs) (λ c κs. search needs)
+    tie.close (tie.spec (λ c κs. search needs) (λ c κs. search needs)
     (λ c. rw (eq-eqb _ _ (sym (c .before .before .valid-total .ensures .0) ∙ c .before .if1 .taken)) (c .default .ensures))
     (λ c κs. search needs) (λ c κs. search needs)
     (λ c. let n = c .before .before in let t = n .before .before .valid-total .ensures in

@@ -7,6 +7,5 @@ use Rattle.moment.proofs.var_state.VarState.finalize.Tie as tie
 pub finalize-spec : {M : Type 1} → statement M
 unfolding varFinalize
 finalize-spec =
-    tie.close
-    (tie.spec (λ c. search needs) (λ c. rw (c .if1 .taken)) (λ c κs. search needs)
+    tie.close (tie.spec (λ c. search needs) (λ c. rw (c .if1 .taken)) (λ c κs. search needs)
     (λ c. rw (c .before .before .before .if1 .left, c .not-negative .ensures)))
