@@ -27,4 +27,4 @@ valid-total-spec =
     (λ w. let t = w .0 .taken in rw (w .2, w .3) (omega arith, valid-step oneMore 0 _ _ _ _ _ h v t (inv .1), valid-step _⊕_ zero64 _ _ _ _ _ h v t (inv .2)))
     (λ w. let t = w .0 .left in rw (w .1, w .2) (omega arith, missing-step oneMore 0 _ _ _ _ _ h v t (inv .1), missing-step _⊕_ zero64 _ _ _ _ _ h v t (inv .2)))
     (c .if1 .came))
-    (λ c. let inv = c .before .loop .inv in let h = c .loop-test .left in (counted-end _ _ _ _ _ h (inv .1), valid-end _⊕_ zero64 _ _ _ _ _ h (inv .2))))
+    (λ c. let inv = c .before .loop .inv in let h = c .loop-test .left in record { counted = counted-end _ _ _ _ _ h (inv .1); summed = valid-end _⊕_ zero64 _ _ _ _ _ h (inv .2) }))
