@@ -21,7 +21,7 @@ both l = let a = l .before .before .before .before .before .before .args in both
 
 pub cov-chunks-spec : {M : Type 1} → statement M
 cov-chunks-spec =
-    tie.close (tie.spec Inv-loop (λ x _ _ _ _ _ _ _ _ _ _ _ _ place. length x - place) (λ c κs. search needs)
+    let met = tie.spec Inv-loop (λ x _ _ _ _ _ _ _ _ _ _ _ _ place. length x - place) (λ c κs. search needs)
     (λ c. (record { paired = c .before .before .before .before .before .pre; x-room = refl; y-room = refl }, reached-start (c .default .ensures)))
     (λ c. search needs) (λ c. search needs) (λ c κs. c .before .before .before .loop .inv .0)
     (λ c. search needs) (λ c. let f = c .before .before .before .fill-pairs .ensures in x-part (f .again) (f .pairs .within))
@@ -32,4 +32,5 @@ cov-chunks-spec =
     omega (arith, e .pairs .further (in-both (e .again) (f .before .before .before .loop-test .taken))))
     (λ c. let f = c .before .before .before .before .before .before in let l = f .before .before .before .before in
     (f .fill-pairs .ensures .again, both-next {both = both l} (f .fill-pairs .ensures) (l .loop .inv .1) (c .before .new .ensures) (c .combine .ensures)))
-    (λ c. let l = c .before in both-end {both = both l} (l .loop .inv .0) (l .loop .inv .1) (c .loop-test .left)))
+    (λ c. let l = c .before in both-end {both = both l} (l .loop .inv .0) (l .loop .inv .1) (c .loop-test .left)) in
+    tie.close met

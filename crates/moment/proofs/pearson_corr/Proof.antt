@@ -7,6 +7,7 @@ use Rattle.moment.proofs.pearson_corr.Tie as tie
 
 pub pearson-corr-spec : {M : Type 1} → statement M
 pearson-corr-spec =
-    tie.close (tie.spec (λ c κs. search needs) (λ c. answer-refused _ _ _ _ (c .before .pair-refusal .ensures) _ (c .if1 .taken))
+    let met = tie.spec (λ c κs. search needs) (λ c. answer-refused _ _ _ _ (c .before .pair-refusal .ensures) _ (c .if1 .taken))
     (λ c κs. pair-fits _ _ _ _ _ _ _ (c .before .pair-refusal .ensures) (c .if1 .left))
-    (λ c. answer-state _ _ _ _ (c .before .before .pair-refusal .ensures) _ _ (c .before .if1 .left) (c .pearson-chunks .ensures)))
+    (λ c. answer-state _ _ _ _ (c .before .before .pair-refusal .ensures) _ _ (c .before .if1 .left) (c .pearson-chunks .ensures)) in
+    tie.close met

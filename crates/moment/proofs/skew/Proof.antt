@@ -6,5 +6,6 @@ use Rattle.moment.proofs.skew.Tie as tie
 
 pub skew-spec : {M : Type 1} → statement M
 skew-spec =
-    tie.close (tie.spec (λ c κs. search needs) (λ c. answer-refused _ _ _ _ (c .before .array-refusal .ensures) _ (c .if1 .taken)) (λ c κs. search needs)
-    (λ c. answer-state _ _ _ _ (c .before .before .array-refusal .ensures) _ _ (c .before .if1 .left) (c .skew-chunks .ensures)))
+    let met = tie.spec (λ c κs. search needs) (λ c. answer-refused _ _ _ _ (c .before .array-refusal .ensures) _ (c .if1 .taken)) (λ c κs. search needs)
+    (λ c. answer-state _ _ _ _ (c .before .before .array-refusal .ensures) _ _ (c .before .if1 .left) (c .skew-chunks .ensures)) in
+    tie.close met

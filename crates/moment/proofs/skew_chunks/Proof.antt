@@ -11,10 +11,11 @@ use Rattle.moment.proofs.skew_chunks.Tie as tie
 
 pub skew-chunks-spec : {M : Type 1} → statement M
 skew-chunks-spec =
-    tie.close (tie.spec (λ values has-map map _ _ _ chunk out place. (length chunk ≡ 128) × Reached skew-chunked (validAt has-map map) values out place)
+    let met = tie.spec (λ values has-map map _ _ _ chunk out place. (length chunk ≡ 128) × Reached skew-chunked (validAt has-map map) values out place)
     (λ values _ _ _ _ _ _ _ place. length values - place) (λ c κs. search needs) (λ c. (refl, reached-start (c .default .ensures))) (λ c. search needs)
     (λ c κs. c .before .before .loop .inv .0) (λ c. search needs) (λ c. filled-part (c .before .before .fill .ensures)) (λ c κs. search needs) (λ c κs. search needs)
     (λ c. let f = c .before .before .before .before in omega (arith, f .fill .ensures .further (f .before .before .loop-test .taken)))
     (λ c. let f = c .before .before .before .before in let filled = f .fill .ensures in
     (filled .room, reached-next filled (f .before .before .before .loop .inv .1) (c .before .new .ensures) (c .combine .ensures)))
-    (λ c. reached-end (c .before .loop .inv .1) (c .loop-test .left)))
+    (λ c. reached-end (c .before .loop .inv .1) (c .loop-test .left)) in
+    tie.close met

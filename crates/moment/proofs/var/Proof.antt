@@ -6,5 +6,6 @@ use Rattle.moment.proofs.var.Tie as tie
 
 pub var-spec : {M : Type 1} → statement M
 var-spec =
-    tie.close (tie.spec (λ c κs. search needs) (λ c. answer-refused _ _ _ _ (c .before .array-refusal .ensures) _ (c .if1 .taken)) (λ c κs. search needs)
-    (λ c. answer-state _ _ _ _ (c .before .before .array-refusal .ensures) _ _ (c .before .if1 .left) (c .var-chunks .ensures)))
+    let met = tie.spec (λ c κs. search needs) (λ c. answer-refused _ _ _ _ (c .before .array-refusal .ensures) _ (c .if1 .taken)) (λ c κs. search needs)
+    (λ c. answer-state _ _ _ _ (c .before .before .array-refusal .ensures) _ _ (c .before .if1 .left) (c .var-chunks .ensures)) in
+    tie.close met

@@ -14,11 +14,12 @@ Inv-loop values has-map map place chunk₀ at₀ count₀ chunk at count = Filli
 
 pub fill-spec : {M : Type 1} → statement M
 fill-spec =
-    tie.close (tie.spec Inv-loop (λ values has-map map place chunk₀ at₀ count₀ chunk at count. length values - at)
+    let met = tie.spec Inv-loop (λ values has-map map place chunk₀ at₀ count₀ chunk at count. length values - at)
     (λ c. filling-start _ _ _ (c .before .before .before .args .chunk .now) (c .before .before .before .pre)) (λ c. omega arith)
     (λ c. filled-full _ _ _ _ _ _ (c .before .before .loop .inv) (c .if1 .taken))
     (λ c. omega arith) (λ c. omega arith) (λ c. omega arith) (λ c. omega arith) (λ c κs. search needs) (λ c. search needs)
     (λ c. omega (arith, bit-le (c .valid .result))) (λ c. omega arith) (λ c. omega arith)
     (λ c. let t = c .before .before in
     filling-step _ _ _ _ _ _ (t .before .before .loop .inv) nan (t .before .loop-test .taken) (t .if1 .left) _ (c .valid .ensures)) (λ c. omega arith)
-    (λ c. filled-end _ _ _ _ _ _ (c .before .loop .inv) (c .loop-test .left)))
+    (λ c. filled-end _ _ _ _ _ _ (c .before .loop .inv) (c .loop-test .left)) in
+    tie.close met

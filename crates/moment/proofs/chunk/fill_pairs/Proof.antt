@@ -14,7 +14,7 @@ Inv-loop x x-has-map x-map y y-has-map y-map place x-chunk₀ y-chunk₀ at₀ c
 
 pub fill-pairs-spec : {M : Type 1} → statement M
 fill-pairs-spec =
-    tie.close (tie.spec Inv-loop (λ x x-has-map x-map y y-has-map y-map place x-chunk₀ y-chunk₀ at₀ count₀ x-chunk y-chunk at count. length x - at)
+    let met = tie.spec Inv-loop (λ x x-has-map x-map y y-has-map y-map place x-chunk₀ y-chunk₀ at₀ count₀ x-chunk y-chunk at count. length x - at)
     (λ c. both-start _ _ _ _ _ _ (c .before .before .before .before .before .before .pre)) (λ c. omega arith) (λ c. omega arith)
     (λ c. both-full _ _ _ _ _ _ _ _ (c .before .before .loop .inv) (c .if1 .taken))
     (λ c. omega arith) (λ c. omega arith) (λ c. omega arith) (λ c. omega arith)
@@ -22,4 +22,5 @@ fill-pairs-spec =
     (λ c κs. search needs) (λ c. search needs) (λ c. omega (arith, bit-le (c .both .result))) (λ c. omega arith) (λ c. omega arith)
     (λ c. let t = c .before .before .before in
     both-step _ _ _ _ _ _ _ _ (t .before .before .loop .inv) (t .before .loop-test .taken) (t .if1 .left) _ (c .both .ensures))
-    (λ c. omega arith) (λ c. omega arith) (λ c. both-end _ _ _ _ _ _ _ _ (c .before .loop .inv) (c .loop-test .left)))
+    (λ c. omega arith) (λ c. omega arith) (λ c. both-end _ _ _ _ _ _ _ _ (c .before .loop .inv) (c .loop-test .left)) in
+    tie.close met

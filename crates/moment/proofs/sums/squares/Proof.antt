@@ -12,7 +12,8 @@ use Rattle.moment.proofs.sums.squares.Tie as tie
 
 pub squares-spec : {M : Type 1} → statement M
 squares-spec =
-    tie.close (tie.spec (λ x mean t₀ i₀ t i. Summed (square mean) x t i) (λ x mean t₀ i₀ t i. length x - i)
+    let met = tie.spec (λ x mean t₀ i₀ t i. Summed (square mean) x t i) (λ x mean t₀ i₀ t i. length x - i)
     (λ c. refl) (λ c. search needs) (λ c. search needs) (λ c. omega arith) (λ c. omega arith)
     (λ c. fold-step _ zero64 _ _ _ _ (c .before .loop-test .taken) (c .before .before .loop .inv))
-    (λ c. fold-end _ zero64 _ _ _ (c .loop-test .left) (c .before .loop .inv)))
+    (λ c. fold-end _ zero64 _ _ _ (c .loop-test .left) (c .before .loop .inv)) in
+    tie.close met

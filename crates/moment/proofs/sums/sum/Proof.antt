@@ -11,7 +11,8 @@ use Rattle.moment.proofs.sums.sum.Tie as tie
 
 pub sum-spec : {M : Type 1} → statement M
 sum-spec =
-    tie.close (tie.spec (λ x t₀ i₀ t i. Folded _⊕_ zero64 x t i) (λ x t₀ i₀ t i. length x - i)
+    let met = tie.spec (λ x t₀ i₀ t i. Folded _⊕_ zero64 x t i) (λ x t₀ i₀ t i. length x - i)
     (λ c. refl) (λ c. search needs) (λ c. search needs) (λ c. omega arith) (λ c. omega arith)
     (λ c. fold-step _⊕_ zero64 _ _ _ _ (c .before .loop-test .taken) (c .before .before .loop .inv))
-    (λ c. fold-end _⊕_ zero64 _ _ _ (c .loop-test .left) (c .before .loop .inv)))
+    (λ c. fold-end _⊕_ zero64 _ _ _ (c .loop-test .left) (c .before .loop .inv)) in
+    tie.close met

@@ -20,11 +20,12 @@ abbrev μ-loop : tie.MeasureT-loop
 
 pub valid-total-spec : {M : Type 1} → statement M
 valid-total-spec =
-    tie.close (tie.spec Inv-loop μ-loop
+    let met = tie.spec Inv-loop μ-loop
     (λ c. (search needs, valid-start oneMore 0 _ _ _, valid-start _⊕_ zero64 _ _ _)) (λ c. omega arith) (λ c κs. search needs) (λ c. omega arith) (λ c. omega arith) (λ c. omega arith) (λ c. omega arith) (λ c. omega arith)
     (λ c. let inv = c .before .before .before .loop .inv in let h = c .before .before .loop-test .taken in let v = c .before .valid .ensures in
     ⊎-elim
     (λ w. let t = w .0 .taken in rw (w .2, w .3) (omega arith, valid-step oneMore 0 _ _ _ _ _ h v t (inv .1), valid-step _⊕_ zero64 _ _ _ _ _ h v t (inv .2)))
     (λ w. let t = w .0 .left in rw (w .1, w .2) (omega arith, missing-step oneMore 0 _ _ _ _ _ h v t (inv .1), missing-step _⊕_ zero64 _ _ _ _ _ h v t (inv .2)))
     (c .if1 .came))
-    (λ c. let inv = c .before .loop .inv in let h = c .loop-test .left in record { counted = counted-end _ _ _ _ _ h (inv .1); summed = valid-end _⊕_ zero64 _ _ _ _ _ h (inv .2) }))
+    (λ c. let inv = c .before .loop .inv in let h = c .loop-test .left in record { counted = counted-end _ _ _ _ _ h (inv .1); summed = valid-end _⊕_ zero64 _ _ _ _ _ h (inv .2) }) in
+    tie.close met

@@ -3,4 +3,6 @@ use Rattle.moment.proofs.var_state.not_negative.Statement.{statement}
 use Rattle.moment.proofs.var_state.not_negative.Tie as tie
 
 pub not-negative-spec : {M : Type 1} → statement M
-not-negative-spec = tie.close (tie.spec (λ c. rw (c .if1 .taken)) (λ c. rw (c .if1 .left)))
+not-negative-spec =
+    let met = tie.spec (λ c. rw (c .if1 .taken)) (λ c. rw (c .if1 .left)) in
+    tie.close met

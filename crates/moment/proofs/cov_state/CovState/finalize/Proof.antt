@@ -6,4 +6,6 @@ use Rattle.moment.proofs.cov_state.CovState.finalize.Tie as tie
 
 pub finalize-spec : {M : Type 1} → statement M
 unfolding covFinalize
-finalize-spec = tie.close (tie.spec (λ c. search needs) (λ c. rw (c .if1 .taken)) (λ c. rw (c .before .before .if1 .left)))
+finalize-spec =
+    let met = tie.spec (λ c. search needs) (λ c. rw (c .if1 .taken)) (λ c. rw (c .before .before .if1 .left)) in
+    tie.close met

@@ -11,11 +11,12 @@ use Rattle.moment.proofs.kurtosis_state.KurtosisState.about.Tie as tie
 
 pub about-spec : {M : Type 1} → statement M
 about-spec =
-    tie.close (tie.spec
+    let met = tie.spec
     (λ x weight mean m2₀ m3₀ m4₀ i₀ m2 m3 m4 i. Summed (square mean) x m2 i × Summed (cube mean) x m3 i × Summed (fourth mean) x m4 i)
     (λ x weight mean m2₀ m3₀ m4₀ i₀ m2 m3 m4 i. length x - i)
     (λ c. (refl, refl, refl)) (λ c. omega arith) (λ c. omega arith) (λ c. omega arith) (λ c. omega arith)
     (λ c. let inv = c .before .before .loop .inv in let h = c .before .loop-test .taken in
     (fold-step _ zero64 _ _ _ _ h (inv .0), fold-step _ zero64 _ _ _ _ h (inv .1), fold-step _ zero64 _ _ _ _ h (inv .2)))
     (λ c. let inv = c .before .loop .inv in let h = c .loop-test .left in
-    rw (fold-end _ zero64 _ _ _ h (inv .0), fold-end _ zero64 _ _ _ h (inv .1), fold-end _ zero64 _ _ _ h (inv .2))))
+    rw (fold-end _ zero64 _ _ _ h (inv .0), fold-end _ zero64 _ _ _ h (inv .1), fold-end _ zero64 _ _ _ h (inv .2))) in
+    tie.close met

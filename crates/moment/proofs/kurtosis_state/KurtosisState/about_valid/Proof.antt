@@ -21,11 +21,12 @@ abbrev μ-loop : tie.MeasureT-loop
 
 pub about-valid-spec : {M : Type 1} → statement M
 about-valid-spec =
-    tie.close (tie.spec Inv-loop μ-loop
+    let met = tie.spec Inv-loop μ-loop
     (λ c. (valid-start _ zero64 _ _ _, valid-start _ zero64 _ _ _, valid-start _ zero64 _ _ _)) (λ c. omega arith) (λ c κs. search needs) (λ c. omega arith) (λ c. omega arith) (λ c. omega arith) (λ c. omega arith)
     (λ c. let inv = c .before .before .before .loop .inv in let h = c .before .before .loop-test .taken in let v = c .before .valid .ensures in
     ⊎-elim
     (λ w. rw (w .2, w .3, w .4) (valid-step _ zero64 _ _ _ _ _ h v (w .0 .taken) (inv .0), valid-step _ zero64 _ _ _ _ _ h v (w .0 .taken) (inv .1), valid-step _ zero64 _ _ _ _ _ h v (w .0 .taken) (inv .2)))
     (λ w. rw (w .1, w .2, w .3) (missing-step _ zero64 _ _ _ _ _ h v (w .0 .left) (inv .0), missing-step _ zero64 _ _ _ _ _ h v (w .0 .left) (inv .1), missing-step _ zero64 _ _ _ _ _ h v (w .0 .left) (inv .2)))
     (c .if1 .came))
-    (λ c. let inv = c .before .loop .inv in let h = c .loop-test .left in rw (valid-end _ zero64 _ _ _ _ _ h (inv .0), valid-end _ zero64 _ _ _ _ _ h (inv .1), valid-end _ zero64 _ _ _ _ _ h (inv .2))))
+    (λ c. let inv = c .before .loop .inv in let h = c .loop-test .left in rw (valid-end _ zero64 _ _ _ _ _ h (inv .0), valid-end _ zero64 _ _ _ _ _ h (inv .1), valid-end _ zero64 _ _ _ _ _ h (inv .2))) in
+    tie.close met

@@ -7,5 +7,6 @@ use Rattle.moment.proofs.kurtosis_state.KurtosisState.insert_one.Tie as
 pub insert-one-spec : {M : Type 1} → statement M
 unfolding kurtosisClear
 insert-one-spec =
-    tie.close (tie.spec (λ c κs. search needs) (λ c. rw (c .before .if1 .taken) (c .zero-weight .ensures))
-    (λ c. rw (c .before .before .before .before .before .before .before .before .before .before .if1 .left)))
+    let met = tie.spec (λ c κs. search needs) (λ c. rw (c .before .if1 .taken) (c .zero-weight .ensures))
+    (λ c. rw (c .before .before .before .before .before .before .before .before .before .before .if1 .left)) in
+    tie.close met

@@ -7,5 +7,6 @@ use Rattle.moment.proofs.kurtosis_state.KurtosisState.merged.Tie as tie
 pub merged-spec : {M : Type 1} → statement M
 unfolding kurtosisClear
 merged-spec =
-    tie.close (tie.spec (λ c κs. search needs) (λ c. rw (c .before .if1 .taken) (c .zero-weight .ensures))
-    (λ c. rw (c .before .before .before .before .before .before .before .before .before .before .before .before .before .before .before .before .before .before .before .before .before .before .before .before .before .before .if1 .left)))
+    let met = tie.spec (λ c κs. search needs) (λ c. rw (c .before .if1 .taken) (c .zero-weight .ensures))
+    (λ c. rw (c .before .before .before .before .before .before .before .before .before .before .before .before .before .before .before .before .before .before .before .before .before .before .before .before .before .before .if1 .left)) in
+    tie.close met

@@ -7,5 +7,6 @@ use Rattle.moment.proofs.pearson_state.PearsonState.combine.Tie as tie
 pub combine-spec : {M : Type 1} → statement M
 unfolding pearsonCombine
 combine-spec =
-    tie.close (tie.spec (λ c. rw (c .if1 .taken)) (λ c. rw (c .before .before .if1 .left, c .if2 .taken)) (λ c κs. search needs)
-    (λ c. rw (c .before .before .before .if1 .left, c .before .if2 .left) (c .merged .ensures)))
+    let met = tie.spec (λ c. rw (c .if1 .taken)) (λ c. rw (c .before .before .if1 .left, c .if2 .taken)) (λ c κs. search needs)
+    (λ c. rw (c .before .before .before .if1 .left, c .before .if2 .left) (c .merged .ensures)) in
+    tie.close met

@@ -7,5 +7,6 @@ use Rattle.moment.proofs.pearson_state.PearsonState.finalize.Tie as tie
 pub finalize-spec : {M : Type 1} → statement M
 unfolding pearsonFinalize
 finalize-spec =
-    tie.close (tie.spec (λ c κs. search needs) (λ c. rw (c .before .before .if1 .taken, c .before .root .ensures)) (λ c κs. search needs)
-    (λ c. rw (c .before .if1 .left, c .not-a-number .ensures)))
+    let met = tie.spec (λ c κs. search needs) (λ c. rw (c .before .before .if1 .taken, c .before .root .ensures)) (λ c κs. search needs)
+    (λ c. rw (c .before .if1 .left, c .not-a-number .ensures)) in
+    tie.close met

@@ -8,6 +8,7 @@ use Rattle.moment.proofs.skew_state.SkewState.biased.Tie as tie
 pub biased-spec : {M : Type 1} → statement M
 unfolding skewBiased
 biased-spec =
-    tie.close (tie.spec (λ c κs. search needs) (λ c κs. search needs)
+    let met = tie.spec (λ c κs. search needs) (λ c κs. search needs)
     (λ c. rw (sym (c .before .before .is-zero .ensures) ∙ c .before .if1 .taken, c .not-a-number .ensures)) (λ c κs. search needs)
-    (λ c. rw (sym (c .before .before .is-zero .ensures) ∙ c .before .if1 .left, c .root .ensures)))
+    (λ c. rw (sym (c .before .before .is-zero .ensures) ∙ c .before .if1 .left, c .root .ensures)) in
+    tie.close met

@@ -4,4 +4,6 @@ use Rattle.moment.proofs.skew_state.SkewState.correction.Statement.{sta
 use Rattle.moment.proofs.skew_state.SkewState.correction.Tie as tie
 
 pub correction-spec : {M : Type 1} → statement M
-correction-spec = tie.close (tie.spec (λ c κs. search needs) (λ c. rw (c .root .ensures)))
+correction-spec =
+    let met = tie.spec (λ c κs. search needs) (λ c. rw (c .root .ensures)) in
+    tie.close met

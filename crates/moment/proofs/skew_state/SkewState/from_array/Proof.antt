@@ -14,10 +14,12 @@ inside c = range-fits _ _ _ _ _ _ (c .before .range-refusal .ensures) (c .if1 .l
 
 pub from-array-spec : {M : Type 1} → statement M
 from-array-spec =
-    tie.close (tie.spec (λ c κs. search needs) (λ c. answer-refused _ _ _ _ (c .before .range-refusal .ensures) _ (c .if1 .taken))
+    let met = tie.spec (λ c κs. search needs) (λ c. answer-refused _ _ _ _ (c .before .range-refusal .ensures) _ (c .if1 .taken))
     (λ c. omega (arith, inside c)) (λ c. omega (arith, inside c)) (λ c. search needs) (λ c. search needs) (λ c. omega (arith, inside c))
     (λ c κs. let h = inside (c .before .before) in simp (length-take, length-drop) (omega arith))
-    (λ c. let e = c .before .before .before in range-mapped _ _ skewNew _ _ _ _ _ _ (e .before .range-refusal .ensures) (e .if1 .left) _ (c .from-valid .ensures))
+    (λ c. let e = c .before .before .before in let a = e .before .before .before .before .args in
+    range-mapped _ _ skewNew (a .values .now) _ (a .map .now) (a .start) (a .length) _ (e .before .range-refusal .ensures) (e .if1 .left) _ (c .from-valid .ensures))
     (λ c κs. search needs)
     (λ c. let e = c .before .before .before in let a = e .before .before .before .before .args in
-    range-plain _ _ skewNew (a .values .now) _ (a .map .now) (a .start) (a .length) _ (e .before .range-refusal .ensures) (e .if1 .left) _ (c .before .if2 .left) (c .new .ensures)))
+    range-plain _ _ skewNew (a .values .now) _ (a .map .now) (a .start) (a .length) _ (e .before .range-refusal .ensures) (e .if1 .left) _ (c .before .if2 .left) (c .new .ensures)) in
+    tie.close met

@@ -7,5 +7,6 @@ use Rattle.moment.proofs.skew_state.SkewState.insert_one.Tie as tie
 pub insert-one-spec : {M : Type 1} → statement M
 unfolding skewClear
 insert-one-spec =
-    tie.close (tie.spec (λ c κs. search needs) (λ c. rw (c .before .if1 .taken) (c .zero-weight .ensures))
-    (λ c κs. search needs) (λ c. rw (c .before .if1 .left) (c .inserted .ensures)))
+    let met = tie.spec (λ c κs. search needs) (λ c. rw (c .before .if1 .taken) (c .zero-weight .ensures))
+    (λ c κs. search needs) (λ c. rw (c .before .if1 .left) (c .inserted .ensures)) in
+    tie.close met

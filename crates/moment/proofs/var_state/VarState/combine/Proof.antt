@@ -7,6 +7,7 @@ use Rattle.moment.proofs.var_state.VarState.combine.Tie as tie
 pub combine-spec : {M : Type 1} → statement M
 unfolding varCombine varClear
 combine-spec =
-    tie.close (tie.spec (λ c. rw (c .if1 .taken)) (λ c κs. search needs)
+    let met = tie.spec (λ c. rw (c .if1 .taken)) (λ c κs. search needs)
     (λ c. rw (c .before .before .before .before .if1 .left, c .before .if2 .taken) (c .zero-weight .ensures)) (λ c κs. search needs)
-    (λ c. rw (c .before .before .before .before .if1 .left, c .before .if2 .left) (c .merged .ensures)))
+    (λ c. rw (c .before .before .before .before .if1 .left, c .before .if2 .left) (c .merged .ensures)) in
+    tie.close met

@@ -7,5 +7,6 @@ use Rattle.moment.proofs.var_state.VarState.finalize.Tie as tie
 pub finalize-spec : {M : Type 1} → statement M
 unfolding varFinalize
 finalize-spec =
-    tie.close (tie.spec (λ c. search needs) (λ c. rw (c .if1 .taken)) (λ c κs. search needs)
-    (λ c. rw (c .before .before .before .if1 .left, c .not-negative .ensures)))
+    let met = tie.spec (λ c. search needs) (λ c. rw (c .if1 .taken)) (λ c κs. search needs)
+    (λ c. rw (c .before .before .before .if1 .left, c .not-negative .ensures)) in
+    tie.close met
