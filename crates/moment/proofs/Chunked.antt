@@ -61,8 +61,11 @@ module _ {A S : Type 0} {m : Chunkable A S} {valid : ℕ → Bool} {trace : List
   reached-start e = record { with-rest = rw e }
 
   -- a filled chunk is made a state t and combined
-  pub reached-next : {i j n : ℕ} {chunk : List A} {s t u : S} → Filled valid trace i j n chunk → Reached m valid trace s i → t ≡ m .new (take n chunk) → u ≡ m .combine s t → Reached m valid trace u j
+  reached-next : {i j n : ℕ} {chunk : List A} {s t u : S} → Filled valid trace i j n chunk → Reached m valid trace s i → t ≡ m .new (take n chunk) → u ≡ m .combine s t → Reached m valid trace u j
   reached-next {i} {s = s} f r e g = record { with-rest = rw (g, e, f .taken, f .left) (next m s (rest valid trace i) ∙ r .with-rest) }
+
+  pub chunk-next : {i j n : ℕ} {chunk : List A} {s t u : S} → Filled valid trace i j n chunk → Reached m valid trace s i → t ≡ m .new (take n chunk) → u ≡ m .combine s t → (length chunk ≡ 128) × Reached m valid trace u j
+  chunk-next f r e g = (f .room, reached-next f r e g)
 
   -- no place is left
   pub reached-end : {s : S} {i : ℕ} → Reached m valid trace s i → length trace ≤ i → s ≡ whole m (rest valid trace 0)
@@ -85,8 +88,8 @@ module _ {xs ys cx cy : List Float} (f : Fillable xs ys cx cy) where
   in-both h = rw (length-zip xs ys (f .paired)) h
 
 module _ {S : Type 0} {m : Chunkable (Float × Float) S} {both : ℕ → Bool} {xs ys : List Float} {i : ℕ} {cx cy : List Float} {s : S} where
-  pub both-next : {j n : ℕ} {t u : S} → FilledBoth both xs ys i j n cx cy → Reached m both (zip xs ys) s i → t ≡ m .new (zip (take n cx) (take n cy)) → u ≡ m .combine s t → Reached m both (zip xs ys) u j
-  both-next {n = n} f r e g = reached-next (f .pairs) r (e ∙ ap (m .new) (sym (take-zip n cx cy))) g
+  pub both-next : {j n : ℕ} {t u : S} → FilledBoth both xs ys i j n cx cy → Reached m both (zip xs ys) s i → t ≡ m .new (zip (take n cx) (take n cy)) → u ≡ m .combine s t → Fillable xs ys cx cy × Reached m both (zip xs ys) u j
+  both-next {n = n} f r e g = (f .again, reached-next (f .pairs) r (e ∙ ap (m .new) (sym (take-zip n cx cy))) g)
 
   pub both-end : Fillable xs ys cx cy → Reached m both (zip xs ys) s i → length xs ≤ i → s ≡ whole m (rest both (zip xs ys) 0)
   both-end f r h = reached-end r (rw (length-zip xs ys (f .paired)) h)

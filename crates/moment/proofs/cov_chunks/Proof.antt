@@ -31,6 +31,6 @@ cov-chunks-spec =
     (λ c. let f = c .before .before .before .before .before .before in let e = f .fill-pairs .ensures in
     omega (arith, e .pairs .further (in-both (e .again) (f .before .before .before .loop-test .taken))))
     (λ c. let f = c .before .before .before .before .before .before in let l = f .before .before .before .before in
-    (f .fill-pairs .ensures .again, both-next {both = both l} (f .fill-pairs .ensures) (l .loop .inv .1) (c .before .new .ensures) (c .combine .ensures)))
+    both-next {both = both l} (f .fill-pairs .ensures) (l .loop .inv .1) (c .before .new .ensures) (c .combine .ensures))
     (λ c. let l = c .before in both-end {both = both l} (l .loop .inv .0) (l .loop .inv .1) (c .loop-test .left)) in
     tie.close met

@@ -11,7 +11,6 @@ unfolding covNew
 new-spec =
     let met = tie.spec (λ c κs. search needs)
     (λ c. rw (pairs-lists covEmpty covAbout _ _ (c .before .before .before .before .pre), eq-eqb _ _ (c .before .if1 .taken)) (c .default .ensures))
-    (λ c κs. search needs) (λ c κs. search needs) (λ c κs. search needs) (λ c κs. search needs)
-    (λ c. let n = c .before .before .before in
+    (λ c κs. search needs) (λ c κs. search needs) (λ c κs. search needs) (λ c κs. search needs) (λ c. let n = c .before .before .before in
     rw (pairs-lists covEmpty covAbout _ _ (n .before .before .before .before .pre), ne-eqb _ _ (n .before .if1 .left), c .about .ensures, c .before .sum2 .ensures, c .before .before .sum .ensures, n .nearest-u64-to-f64 .ensures)) in
     tie.close met
