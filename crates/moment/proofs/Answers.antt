@@ -28,9 +28,9 @@ module _ {S R : Type 0} (state : S → R) (refused : ℕ → R) (new : List Floa
   number = rangeRefusal (length values) has map start len
 
   pub range-mapped : s ≡ new (validFrom (validAt has map) start (take (start + len - start) (drop start values))) → state s ≡ answer state refused number (new (rangeReadings has map values start len))
-  range-mapped g = let whole : start + len - start ≡ len = omega arith in answer-state state refused number r e _ s z (rw whole at g)
+  range-mapped g = let long : start + len - start ≡ len = omega arith in answer-state state refused number r e _ s z (rw long at g)
 
   pub range-plain : has ≡ false → s ≡ new (take (start + len - start) (drop start values)) → state s ≡ answer state refused number (new (rangeReadings has map values start len))
   range-plain h g =
-      let whole : start + len - start ≡ len = omega arith in
-      answer-state state refused number r e _ s z ((rw whole at g) ∙ unmapped new has map start _ h)
+      let long : start + len - start ≡ len = omega arith in
+      answer-state state refused number r e _ s z ((rw long at g) ∙ unmapped new has map start _ h)

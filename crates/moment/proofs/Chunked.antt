@@ -43,8 +43,8 @@ module _ {A S : Type 0} (m : Chunkable A S) where
   abbrev folded : S → List A → S
   folded s xs = foldChunks (m .new) (m .combine) s (chunksOf xs)
 
-  abbrev pub whole : List A → S
-  whole = inChunks (m .new) (m .combine) (m .empty)
+  abbrev pub ofAll : List A → S
+  ofAll = inChunks (m .new) (m .combine) (m .empty)
 
   next : (s : S) (xs : List A) → folded (m .combine s (m .new (take 128 xs))) (drop 128 xs) ≡ folded s xs
   unfolding chunks chunksOf
@@ -53,7 +53,7 @@ module _ {A S : Type 0} (m : Chunkable A S) where
 
   -- the state s so far, with the chunks of the valid ones from place i on combined, is the whole
   pub record Reached (valid : ℕ → Bool) (trace : List A) (s : S) (i : ℕ) : Type 0 where
-    pub with-rest : folded s (rest valid trace i) ≡ whole (rest valid trace 0)
+    pub with-rest : folded s (rest valid trace i) ≡ ofAll (rest valid trace 0)
 
 module _ {A S : Type 0} {m : Chunkable A S} {valid : ℕ → Bool} {trace : List A} where
   pub reached-start : {s : S} → s ≡ m .empty → Reached m valid trace s 0
@@ -62,13 +62,13 @@ module _ {A S : Type 0} {m : Chunkable A S} {valid : ℕ → Bool} {trace : List
 
   -- a filled chunk is made a state t and combined
   reached-next : {i j n : ℕ} {chunk : List A} {s t u : S} → Filled valid trace i j n chunk → Reached m valid trace s i → t ≡ m .new (take n chunk) → u ≡ m .combine s t → Reached m valid trace u j
-  reached-next {i} {s = s} f r e g = record { with-rest = rw (g, e, f .taken, f .left) (next m s (rest valid trace i) ∙ r .with-rest) }
+  reached-next {i} {s = s} f r e g = record { with-rest = rw (g, e, f .taken, f .remains) (next m s (rest valid trace i) ∙ r .with-rest) }
 
   pub chunk-next : {i j n : ℕ} {chunk : List A} {s t u : S} → Filled valid trace i j n chunk → Reached m valid trace s i → t ≡ m .new (take n chunk) → u ≡ m .combine s t → (length chunk ≡ 128) × Reached m valid trace u j
   chunk-next f r e g = (f .room, reached-next f r e g)
 
   -- no place is left
-  pub reached-end : {s : S} {i : ℕ} → Reached m valid trace s i → length trace ≤ i → s ≡ whole m (rest valid trace 0)
+  pub reached-end : {s : S} {i : ℕ} → Reached m valid trace s i → length trace ≤ i → s ≡ ofAll m (rest valid trace 0)
   unfolding chunks chunksOf
   reached-end {i = i} r h = rw (from-end valid trace i i h) at (r .with-rest)
 
@@ -91,7 +91,7 @@ module _ {S : Type 0} {m : Chunkable (Float × Float) S} {both : ℕ → Bool} {
   pub both-next : {j n : ℕ} {t u : S} → FilledBoth both xs ys i j n cx cy → Reached m both (zip xs ys) s i → t ≡ m .new (zip (take n cx) (take n cy)) → u ≡ m .combine s t → Fillable xs ys cx cy × Reached m both (zip xs ys) u j
   both-next {n = n} f r e g = (f .again, reached-next (f .pairs) r (e ∙ ap (m .new) (sym (take-zip n cx cy))) g)
 
-  pub both-end : Fillable xs ys cx cy → Reached m both (zip xs ys) s i → length xs ≤ i → s ≡ whole m (rest both (zip xs ys) 0)
+  pub both-end : Fillable xs ys cx cy → Reached m both (zip xs ys) s i → length xs ≤ i → s ≡ ofAll m (rest both (zip xs ys) 0)
   both-end f r h = reached-end r (rw (length-zip xs ys (f .paired)) h)
 
 -- ---- the five states: a chunk of nothing has weight zero, and `combine` leaves it out

@@ -52,7 +52,7 @@ module _ {A : Type 0} (valid : ℕ → Bool) (trace : List A) (i : ℕ) (chunk :
         room = inv .2;
         within = inv .0;
         taken = rw (← inv .3) (sym (take-at (take n chunk) _ 128 len));
-        left = rw (← inv .3) (sym (drop-at (take n chunk) _ 128 len));
+        remains = rw (← inv .3) (sym (drop-at (take n chunk) _ 128 len));
         further = λ g. omega arith;
       }
 
@@ -66,7 +66,7 @@ module _ {A : Type 0} (valid : ℕ → Bool) (trace : List A) (i : ℕ) (chunk :
         room = inv .2;
         within = inv .0;
         taken = rw (← all) (sym (take-all 128 (take n chunk) len));
-        left = rw (none, ← all) (sym (drop-of-length-le (take n chunk) len));
+        remains = rw (none, ← all) (sym (drop-of-length-le (take n chunk) len));
         further = λ k. omega arith;
       }
 

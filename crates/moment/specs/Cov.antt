@@ -7,7 +7,7 @@ use lib.Dec.{eqb}
 use lib.ListN.{length}
 use lib.Ieee.{Float, eq, le}
 use Rattle.float.specs.Operators.{_⊕_, _⊖_, _⊗_, _⊘_, zero64, one64, count}
-use Rattle.moment.specs.Sums.{sumOf, firstOf, secondOf, product}
+use Rattle.moment.specs.Sums.{sumOf, firstOf, secondOf, deviationProduct}
 use Rattle.moment.specs.Updates.{meanWith, productsWith}
 use Rattle.moment.specs.declared.cov_state.CovState.{CovState}
 use Rattle.moment.specs.declared.Figure.{Figure}
@@ -23,7 +23,7 @@ pairMean member ps = sumOf member ps ⊗ (one64 ⊘ count (length ps))
 
 -- `CovState::new` of one or more pairs, about two means
 abbrev pub covAbout : Float → Float → Float → List (Float × Float) → CovState
-covAbout w meanX meanY ps = record { weight = w; «mean_x» = meanX; «mean_y» = meanY; «dp_xy» = sumOf (product meanX meanY) ps }
+covAbout w meanX meanY ps = record { weight = w; «mean_x» = meanX; «mean_y» = meanY; «dp_xy» = sumOf (deviationProduct meanX meanY) ps }
 
 -- `CovState::new`
 unfoldable pub covNew : List (Float × Float) → CovState

@@ -1,3 +1,4 @@
--- What only the code needs: what its functions hand each other between two promises. A reader of the promises opens none of it.
+-- What only the code needs: what its functions hand each other. No promise rests on it, and who reads the promises can pass it by.
+-- Assumes nothing.
 pub mod Filling
 pub mod Parts

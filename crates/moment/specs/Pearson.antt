@@ -7,7 +7,7 @@ use lib.ListN.{length}
 use lib.Ieee.{Float, nan, eq, lt}
 use Rattle.float.specs.Operators.{_⊕_, _⊖_, _⊗_, _⊘_, zero64, one64, count}
 use Rattle.root.specs.Root.{root}
-use Rattle.moment.specs.Sums.{sumOf, firstOf, secondOf, square, product}
+use Rattle.moment.specs.Sums.{sumOf, firstOf, secondOf, square, deviationProduct}
 use Rattle.moment.specs.Cov.{pairMean}
 use Rattle.moment.specs.Updates.{meanWith, productsWith}
 use Rattle.moment.specs.declared.pearson_state.PearsonState.{PearsonState}
@@ -39,7 +39,7 @@ pearsonAbout w meanX meanY ps =
       «mean_x» = meanX;
       «mean_y» = meanY;
       «dp_xx» = sumOf (squareX meanX) ps;
-      «dp_xy» = sumOf (product meanX meanY) ps;
+      «dp_xy» = sumOf (deviationProduct meanX meanY) ps;
       «dp_yy» = sumOf (squareY meanY) ps;
     }
 

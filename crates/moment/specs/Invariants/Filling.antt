@@ -13,7 +13,7 @@ pub record Filled {A : Type 0} (valid : ℕ → Bool) (trace : List A) (i j n : 
   pub room : length chunk ≡ 128
   pub within : n ≤ 128
   pub taken : take n chunk ≡ take 128 (validFrom valid i (drop i trace))
-  pub left : validFrom valid j (drop j trace) ≡ drop 128 (validFrom valid i (drop i trace))
+  pub remains : validFrom valid j (drop j trace) ≡ drop 128 (validFrom valid i (drop i trace))
   pub further : i < length trace → i < j
 
 -- what two chunks side by side ask: traces of one length, and room
