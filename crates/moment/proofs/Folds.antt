@@ -10,6 +10,7 @@ use native.Mathlib.Omega.{arith}
 use lib.ListN.{length, drop, getD, drop-of-length-le}
 use lib.Seq.{drop-cons}
 use lib.Ieee.{Float, nan}
+use Rattle.float.specs.Operators.{_⊕_, zero64}
 use Rattle.trace.specs.Trace.{validAt, validFrom}
 
 -- ---- every one of a list
@@ -22,6 +23,10 @@ module _ {A B : Type 0} (f : B → A → B) (b : B) (xs : List A) where
 
   pub fold-end : (t : B) (i : ℕ) → length xs ≤ i → Folded t i → t ≡ foldl f b xs
   fold-end t i h e = sym (ap (foldl f t) (drop-of-length-le xs h)) ∙ e
+
+-- as a sum is
+abbrev pub Summed : {A : Type 0} → (A → Float) → List A → Float → ℕ → Type 0
+Summed f = Folded (λ t x. t ⊕ f x) zero64
 
 -- ---- the valid ones; the list's place i is place p of its trace
 module _ {A : Type 0} (valid : ℕ → Bool) (xs : List A) (d : A) (p i : ℕ) (h : i < length xs) where
@@ -71,6 +76,9 @@ module _ {B : Type 0} (f : B → Float → B) (b : B) (valid : ℕ → Bool) (s 
 
   pub valid-end : (t : B) (i : ℕ) → length xs ≤ i → ValidFolded t i → t ≡ foldl f b (validFrom valid s xs)
   valid-end t i h e = rw (from-end valid xs (s + i) i h) at e
+
+abbrev pub ValidSummed : (Float → Float) → (ℕ → Bool) → ℕ → List Float → Float → ℕ → Type 0
+ValidSummed f = ValidFolded (λ t x. t ⊕ f x) zero64
 
 -- ---- a count as a fold
 abbrev pub oneMore : ℕ → Float → ℕ

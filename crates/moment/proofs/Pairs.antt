@@ -5,7 +5,7 @@ use mathlib.Core.Bool.{Bool, true, false, cond}
 use mathlib.Core.List.{List, [], _∷_, foldl, zip, zipWith}
 use native.Mathlib.Omega.{arith}
 use lib.Dec.{eqb}
-use lib.ListN.{length, take, drop, getD}
+use lib.ListN.{length, take, drop, getD, set}
 use lib.Ieee.{Float, nan}
 use Rattle.float.specs.Operators.{_⊗_, _⊘_, one64, zero64, _⊕_, count}
 use Rattle.moment.specs.Sums.{sumOf, itself, firstOf, secondOf}
@@ -30,6 +30,14 @@ drop-zip zero xs ys = refl
 drop-zip (suc n) [] ys = refl
 drop-zip (suc n) (x ∷ xs) [] = sym (zip-nil (drop n xs))
 drop-zip (suc n) (x ∷ xs) (y ∷ ys) = drop-zip n xs ys
+
+pub zip-set : {A B : Type 0} (n : ℕ) (xs : List A) (ys : List B) (x : A) (y : B) → zip (set xs n x) (set ys n y) ≡ set (zip xs ys) n (x, y)
+unfolding zip zipWith
+zip-set n [] ys x y = refl
+zip-set zero (a ∷ xs) [] x y = refl
+zip-set (suc n) (a ∷ xs) [] x y = refl
+zip-set zero (a ∷ xs) (b ∷ ys) x y = refl
+zip-set (suc n) (a ∷ xs) (b ∷ ys) x y = rw (zip-set n xs ys x y)
 
 pub length-zip : (xs ys : List Float) → length xs ≡ length ys → length (zip xs ys) ≡ length xs
 unfolding zip zipWith

@@ -37,9 +37,16 @@ at-most-ddof w n ddof h k e = ap (λ (w : Float). le w (count ddof)) e ∙ count
 raised : (w : Float) (n : ℕ) → n < 2 ^ 53 → w ≡ count n → w ⊕ one64 ≡ count (n + 1)
 raised w n h e = ap (λ (w : Float). w ⊕ one64) e ∙ count-one n (omega arith)
 
+-- what is shown of a state: that inserts count, and that `combine` adds counts
+abbrev pub InsertsCount : {S A : Type 0} → (S → Float) → (S → A → S) → Type 0
+InsertsCount {S} {A} weight insert = (xs : List A) (s : S) (a : ℕ) → weight s ≡ count a → a + length xs ≤ 2 ^ 53 → weight (foldl insert s xs) ≡ count (a + length xs)
+
+abbrev pub CombineCounts : {S : Type 0} → (S → Float) → (S → S → S) → Type 0
+CombineCounts {S} weight combine = (s o : S) (a b : ℕ) → a ≤ 2 ^ 53 → b ≤ 2 ^ 53 → weight s ≡ count a → weight o ≡ count b → weight (combine s o) ≡ count (a + b)
+
 module _ {S A : Type 0} (weight : S → Float) (insert : S → A → S) (raises : (s : S) (x : A) → weight (insert s x) ≡ weight s ⊕ one64) where
   -- n entries put into a state of weight a give one of weight a + n
-  pub inserts-count : (xs : List A) (s : S) (a : ℕ) → weight s ≡ count a → a + length xs ≤ 2 ^ 53 → weight (foldl insert s xs) ≡ count (a + length xs)
+  pub inserts-count : InsertsCount weight insert
   inserts-count [] s a e h = e ∙ ap count (sym (add-zero a))
   inserts-count (x ∷ xs) s a e h =
       inserts-count xs (insert s x) (a + 1) (raises s x ∙ raised _ a (omega arith) e) (omega arith)
@@ -53,9 +60,8 @@ module _ {S A : Type 0} (weight : S → Float) (insert : S → A → S) (raises 
       ∙ ap count (let k : length xs + 1 ≡ suc (length xs) = omega arith in k)
 
   -- a window: one part inserted in rising order, combined with another inserted in falling order
-  pub parts-count : (combine : S → S → S) → ((s o : S) (a b : ℕ) → a ≤ 2 ^ 53 → b ≤ 2 ^ 53 → weight s ≡ count a → weight o ≡ count b → weight (combine s o) ≡ count (a + b)) →
-      (empty : S) → weight empty ≡ count 0 → (xs ys : List A) → length xs + length ys ≤ 2 ^ 53 →
-      weight (combine (foldl insert empty xs) (foldr (λ x t. insert t x) empty ys)) ≡ count (length xs + length ys)
+  pub parts-count : (combine : S → S → S) → CombineCounts weight combine → (empty : S) → weight empty ≡ count 0 → (xs ys : List A) → length xs + length ys ≤ 2 ^ 53
+      → weight (combine (foldl insert empty xs) (foldr (λ x t. insert t x) empty ys)) ≡ count (length xs + length ys)
   parts-count combine adds empty e xs ys h =
       let k : 0 + length xs ≡ length xs = omega arith in
       adds _ _ (length xs) (length ys) (omega arith) (omega arith) (inserts-count xs empty 0 e (omega arith) ∙ ap count k) (falls-count ys empty e (omega arith))
@@ -96,29 +102,90 @@ cleared weight false s z e = refl
 uncleared : {S : Type 0} (weight : S → Float) (s z : S) (n : ℕ) → 0 < n → n ≤ 2 ^ 53 → weight s ≡ count n → s ≡ cond (eq (weight s) zero64) z s
 uncleared weight s z n k h e = rw (at-zero (weight s) n h e, ne-eqb n 0 (λ y. omega arith))
 
--- ---- variance
-abbrev varWeight : VarState → Float
+-- ---- clearing keeps the weight
+abbrev pub varWeight : VarState → Float
 varWeight s = s .weight
 
 var-cleared : (s : VarState) → varClear s .weight ≡ s .weight
 unfolding varClear
 var-cleared s = cleared varWeight (eq (s .weight) zero64) s _ refl
 
+abbrev pub skewWeight : SkewState → Float
+skewWeight s = s .weight
+
+skew-cleared : (s : SkewState) → skewClear s .weight ≡ s .weight
+unfolding skewClear
+skew-cleared s = cleared skewWeight (eq (s .weight) zero64) s _ refl
+
+abbrev pub kurtosisWeight : KurtosisState → Float
+kurtosisWeight s = s .weight
+
+kurtosis-cleared : (s : KurtosisState) → kurtosisClear s .weight ≡ s .weight
+unfolding kurtosisClear
+kurtosis-cleared s = cleared kurtosisWeight (eq (s .weight) zero64) s _ refl
+
+abbrev pub covWeight : CovState → Float
+covWeight s = s .weight
+
+abbrev pub pearsonWeight : PearsonState → Float
+pearsonWeight s = s .weight
+
+-- ---- inserts count
 pub var-raises : (s : VarState) (x : Float) → varInsert s x .weight ≡ s .weight ⊕ one64
 var-raises s x = var-cleared _
 
+pub var-inserts-count : InsertsCount varWeight varInsert
+var-inserts-count = inserts-count varWeight varInsert var-raises
+
+pub skew-raises : (s : SkewState) (x : Float) → skewInsert s x .weight ≡ s .weight ⊕ one64
+skew-raises s x = skew-cleared _
+
+pub skew-inserts-count : InsertsCount skewWeight skewInsert
+skew-inserts-count = inserts-count skewWeight skewInsert skew-raises
+
+pub kurtosis-inserts-count : InsertsCount kurtosisWeight kurtosisInsert
+kurtosis-inserts-count = inserts-count kurtosisWeight kurtosisInsert (λ s x. kurtosis-cleared _)
+
+pub cov-inserts-count : InsertsCount covWeight (λ s (p : Float × Float). covInsert s (p .0) (p .1))
+cov-inserts-count = inserts-count covWeight (λ s p. covInsert s (p .0) (p .1)) (λ s p. refl)
+
+pub pearson-inserts-count : InsertsCount pearsonWeight (λ s (p : Float × Float). pearsonInsert s (p .0) (p .1))
+pearson-inserts-count = inserts-count pearsonWeight (λ s p. pearsonInsert s (p .0) (p .1)) (λ s p. refl)
+
+-- ---- `combine` adds counts
+pub var-combine-count : CombineCounts varWeight varCombine
+unfolding varCombine
+var-combine-count s o a b h k p q = merged-count varWeight s o (varMerge s o) a b h k p q (var-cleared _)
+
+pub var-parts-count : (xs ys : List Float) → length xs + length ys ≤ 2 ^ 53
+    → varCombine (foldl varInsert varEmpty xs) (foldr (λ x s. varInsert s x) varEmpty ys) .weight ≡ count (length xs + length ys)
+var-parts-count = parts-count varWeight varInsert var-raises varCombine var-combine-count varEmpty zero-is
+
+pub skew-combine-count : CombineCounts skewWeight skewCombine
+unfolding skewCombine
+skew-combine-count s o a b h k p q = combined-count skewWeight s o (skewMerge s o) a b h k p q (skew-cleared _)
+
+pub kurtosis-combine-count : CombineCounts kurtosisWeight kurtosisCombine
+unfolding kurtosisCombine
+kurtosis-combine-count s o a b h k p q = combined-count kurtosisWeight s o (kurtosisMerge s o) a b h k p q (kurtosis-cleared _)
+
+pub cov-combine-count : CombineCounts covWeight covCombine
+unfolding covCombine
+cov-combine-count s o a b h k p q = combined-count covWeight s o (covMerge s o) a b h k p q refl
+
+pub pearson-combine-count : CombineCounts pearsonWeight pearsonCombine
+unfolding pearsonCombine
+pearson-combine-count s o a b h k p q = combined-count pearsonWeight s o (pearsonMerge s o) a b h k p q refl
+
+-- ---- a state of readings has nothing to clear, and which state `combine` answers is told by the counts
 pub var-inserted : (s : VarState) (x : Float) (n : ℕ) → n < 2 ^ 53 → s .weight ≡ count n → varInserted s x ≡ varInsert s x
 unfolding varClear
 var-inserted s x n h e = uncleared varWeight (varInserted s x) _ (n + 1) (omega arith) (omega arith) (raised (s .weight) n h e)
 
-pub var-inserts-count : (xs : List Float) (s : VarState) (a : ℕ) → s .weight ≡ count a → a + length xs ≤ 2 ^ 53 → foldl varInsert s xs .weight ≡ count (a + length xs)
-var-inserts-count = inserts-count varWeight varInsert var-raises
+pub skew-inserted : (s : SkewState) (x : Float) (n : ℕ) → n < 2 ^ 53 → s .weight ≡ count n → skewInserted s x ≡ skewInsert s x
+unfolding skewClear
+skew-inserted s x n h e = uncleared skewWeight (skewInserted s x) _ (n + 1) (omega arith) (omega arith) (raised (s .weight) n h e)
 
-pub var-combine-count : (s o : VarState) (a b : ℕ) → a ≤ 2 ^ 53 → b ≤ 2 ^ 53 → s .weight ≡ count a → o .weight ≡ count b → varCombine s o .weight ≡ count (a + b)
-unfolding varCombine
-var-combine-count s o a b h k p q = merged-count varWeight s o (varMerge s o) a b h k p q (var-cleared _)
-
--- which state `combine` answers, told by the count of the other; two states of readings have nothing to clear
 pub var-by-counts : (s o : VarState) (a b : ℕ) → a + b ≤ 2 ^ 53 → s .weight ≡ count a → o .weight ≡ count b → varCombine s o ≡ cond (eqb b 0) s (varMerged s o)
 unfolding varCombine varClear
 var-by-counts s o a b h p q = rw (at-zero (o .weight) b (omega arith) q) (go (eqb b 0) refl)
@@ -129,68 +196,11 @@ var-by-counts s o a b h p q = rw (at-zero (o .weight) b (omega arith) q) (go (eq
         let n = eqb-false b 0 e in
         sym (uncleared varWeight (varMerged s o) _ (a + b) (omega arith) h (merged varWeight s o (varMerged s o) a b (omega arith) (omega arith) p q refl))
 
-pub var-parts-count : (xs ys : List Float) → length xs + length ys ≤ 2 ^ 53 →
-    varCombine (foldl varInsert varEmpty xs) (foldr (λ x s. varInsert s x) varEmpty ys) .weight ≡ count (length xs + length ys)
-var-parts-count = parts-count varWeight varInsert var-raises varCombine var-combine-count varEmpty zero-is
-
--- ---- skewness
-abbrev skewWeight : SkewState → Float
-skewWeight s = s .weight
-
-skew-cleared : (s : SkewState) → skewClear s .weight ≡ s .weight
-unfolding skewClear
-skew-cleared s = cleared skewWeight (eq (s .weight) zero64) s _ refl
-
-pub skew-raises : (s : SkewState) (x : Float) → skewInsert s x .weight ≡ s .weight ⊕ one64
-skew-raises s x = skew-cleared _
-
-pub skew-inserted : (s : SkewState) (x : Float) (n : ℕ) → n < 2 ^ 53 → s .weight ≡ count n → skewInserted s x ≡ skewInsert s x
-unfolding skewClear
-skew-inserted s x n h e = uncleared skewWeight (skewInserted s x) _ (n + 1) (omega arith) (omega arith) (raised (s .weight) n h e)
-
-pub skew-inserts-count : (xs : List Float) (s : SkewState) (a : ℕ) → s .weight ≡ count a → a + length xs ≤ 2 ^ 53 → foldl skewInsert s xs .weight ≡ count (a + length xs)
-skew-inserts-count = inserts-count skewWeight skewInsert skew-raises
-
-pub skew-combine-count : (s o : SkewState) (a b : ℕ) → a ≤ 2 ^ 53 → b ≤ 2 ^ 53 → s .weight ≡ count a → o .weight ≡ count b → skewCombine s o .weight ≡ count (a + b)
-unfolding skewCombine
-skew-combine-count s o a b h k p q = combined-count skewWeight s o (skewMerge s o) a b h k p q (skew-cleared _)
-
--- which state `combine` answers, told by the counts
-pub skew-by-counts : (s o : SkewState) (a b : ℕ) → a ≤ 2 ^ 53 → b ≤ 2 ^ 53 → s .weight ≡ count a → o .weight ≡ count b →
-    skewCombine s o ≡ cond (eqb b 0) s (cond (eqb a 0) o (skewMerge s o))
+pub skew-by-counts : (s o : SkewState) (a b : ℕ) → a ≤ 2 ^ 53 → b ≤ 2 ^ 53 → s .weight ≡ count a → o .weight ≡ count b
+    → skewCombine s o ≡ cond (eqb b 0) s (cond (eqb a 0) o (skewMerge s o))
 unfolding skewCombine
 skew-by-counts s o a b h k p q = rw (at-zero (o .weight) b k q, at-zero (s .weight) a h p)
 
 pub skew-merged : (s o : SkewState) (a b : ℕ) → a ≤ 2 ^ 53 → b ≤ 2 ^ 53 → a + b ≤ 2 ^ 53 → 0 < a + b → s .weight ≡ count a → o .weight ≡ count b → skewMerged s o ≡ skewMerge s o
 unfolding skewClear
 skew-merged s o a b h k l m p q = uncleared skewWeight (skewMerged s o) _ (a + b) m l (merged skewWeight s o (skewMerged s o) a b h k p q refl)
-
--- ---- kurtosis
-abbrev kurtosisWeight : KurtosisState → Float
-kurtosisWeight s = s .weight
-
-kurtosis-cleared : (s : KurtosisState) → kurtosisClear s .weight ≡ s .weight
-unfolding kurtosisClear
-kurtosis-cleared s = cleared kurtosisWeight (eq (s .weight) zero64) s _ refl
-
-pub kurtosis-inserts-count : (xs : List Float) (s : KurtosisState) (a : ℕ) → s .weight ≡ count a → a + length xs ≤ 2 ^ 53 → foldl kurtosisInsert s xs .weight ≡ count (a + length xs)
-kurtosis-inserts-count = inserts-count kurtosisWeight kurtosisInsert (λ s x. kurtosis-cleared _)
-
-pub kurtosis-combine-count : (s o : KurtosisState) (a b : ℕ) → a ≤ 2 ^ 53 → b ≤ 2 ^ 53 → s .weight ≡ count a → o .weight ≡ count b → kurtosisCombine s o .weight ≡ count (a + b)
-unfolding kurtosisCombine
-kurtosis-combine-count s o a b h k p q = combined-count kurtosisWeight s o (kurtosisMerge s o) a b h k p q (kurtosis-cleared _)
-
--- ---- covariance and correlation
-pub cov-inserts-count : (ps : List (Float × Float)) (s : CovState) (a : ℕ) → s .weight ≡ count a → a + length ps ≤ 2 ^ 53 → foldl (λ s p. covInsert s (p .0) (p .1)) s ps .weight ≡ count (a + length ps)
-cov-inserts-count = inserts-count (λ s. s .weight) (λ s p. covInsert s (p .0) (p .1)) (λ s p. refl)
-
-pub cov-combine-count : (s o : CovState) (a b : ℕ) → a ≤ 2 ^ 53 → b ≤ 2 ^ 53 → s .weight ≡ count a → o .weight ≡ count b → covCombine s o .weight ≡ count (a + b)
-unfolding covCombine
-cov-combine-count s o a b h k p q = combined-count (λ s. s .weight) s o (covMerge s o) a b h k p q refl
-
-pub pearson-inserts-count : (ps : List (Float × Float)) (s : PearsonState) (a : ℕ) → s .weight ≡ count a → a + length ps ≤ 2 ^ 53 → foldl (λ s p. pearsonInsert s (p .0) (p .1)) s ps .weight ≡ count (a + length ps)
-pearson-inserts-count = inserts-count (λ s. s .weight) (λ s p. pearsonInsert s (p .0) (p .1)) (λ s p. refl)
-
-pub pearson-combine-count : (s o : PearsonState) (a b : ℕ) → a ≤ 2 ^ 53 → b ≤ 2 ^ 53 → s .weight ≡ count a → o .weight ≡ count b → pearsonCombine s o .weight ≡ count (a + b)
-unfolding pearsonCombine
-pearson-combine-count s o a b h k p q = combined-count (λ s. s .weight) s o (pearsonMerge s o) a b h k p q refl

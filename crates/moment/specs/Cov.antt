@@ -7,7 +7,8 @@ use lib.Dec.{eqb}
 use lib.ListN.{length}
 use lib.Ieee.{Float, eq, le}
 use Rattle.float.specs.Operators.{_⊕_, _⊖_, _⊗_, _⊘_, zero64, one64, count}
-use Rattle.moment.specs.Sums.{sumOf, firstOf, secondOf, product}
+use Rattle.moment.specs.Sums.{sumOf, firstOf, secondOf, deviationProduct}
+use Rattle.moment.specs.Updates.{meanWith, productsWith}
 use Rattle.moment.specs.declared.cov_state.CovState.{CovState}
 use Rattle.moment.specs.declared.Figure.{Figure}
 use Rattle.moment.specs.declared.Figure.the-variants.{Missing, Present}
@@ -22,7 +23,7 @@ pairMean member ps = sumOf member ps ⊗ (one64 ⊘ count (length ps))
 
 -- `CovState::new` of one or more pairs, about two means
 abbrev pub covAbout : Float → Float → Float → List (Float × Float) → CovState
-covAbout w meanX meanY ps = record { weight = w; «mean_x» = meanX; «mean_y» = meanY; «dp_xy» = sumOf (product meanX meanY) ps }
+covAbout w meanX meanY ps = record { weight = w; «mean_x» = meanX; «mean_y» = meanY; «dp_xy» = sumOf (deviationProduct meanX meanY) ps }
 
 -- `CovState::new`
 unfoldable pub covNew : List (Float × Float) → CovState
@@ -32,29 +33,18 @@ covNew ps =
 -- `CovState::insert_one`
 abbrev pub covInsert : CovState → Float → Float → CovState
 covInsert s x y =
-    let w = s .weight ⊕ one64 in
-    let frac = one64 ⊘ w in
-    let deltaX = x ⊖ s .«mean_x» in
-    let deltaY = y ⊖ s .«mean_y» in
-    let meanX = s .«mean_x» ⊕ deltaX ⊗ frac in
-    let meanY = s .«mean_y» ⊕ deltaY ⊗ frac in
-    record { weight = w; «mean_x» = meanX; «mean_y» = meanY; «dp_xy» = s .«dp_xy» ⊕ (x ⊖ meanX) ⊗ deltaY }
+    let meanX = meanWith (s .weight) (s .«mean_x») one64 x in
+    let meanY = meanWith (s .weight) (s .«mean_y») one64 y in
+    let dp = s .«dp_xy» ⊕ (x ⊖ meanX) ⊗ (y ⊖ s .«mean_y») in
+    record { weight = s .weight ⊕ one64; «mean_x» = meanX; «mean_y» = meanY; «dp_xy» = dp }
 
 -- `CovState::combine`, where neither weight is zero
 abbrev pub covMerge : CovState → CovState → CovState
 covMerge s o =
-    let w = s .weight ⊕ o .weight in
-    let frac = o .weight ⊘ w in
-    let deltaX = o .«mean_x» ⊖ s .«mean_x» in
-    let deltaY = o .«mean_y» ⊖ s .«mean_y» in
-    let meanX = s .«mean_x» ⊕ deltaX ⊗ frac in
-    let meanY = s .«mean_y» ⊕ deltaY ⊗ frac in
-    record {
-      weight = w;
-      «mean_x» = meanX;
-      «mean_y» = meanY;
-      «dp_xy» = s .«dp_xy» ⊕ (o .«dp_xy» ⊕ o .weight ⊗ (o .«mean_x» ⊖ meanX) ⊗ deltaY);
-    }
+    let meanX = meanWith (s .weight) (s .«mean_x») (o .weight) (o .«mean_x») in
+    let meanY = meanWith (s .weight) (s .«mean_y») (o .weight) (o .«mean_y») in
+    let dp = productsWith (s .«dp_xy») (o .«dp_xy») (o .weight) (o .«mean_x» ⊖ meanX) (o .«mean_y» ⊖ s .«mean_y») in
+    record { weight = s .weight ⊕ o .weight; «mean_x» = meanX; «mean_y» = meanY; «dp_xy» = dp }
 
 -- `CovState::combine`
 unfoldable pub covCombine : CovState → CovState → CovState

@@ -7,7 +7,8 @@ use lib.Ieee.{Float, nan, eq, le}
 use Rattle.float.specs.Operators.{_⊕_, _⊖_, _⊗_, _⊘_, zero64, one64, two64, three64, four64, six64, count}
 use Rattle.moment.specs.Sums.{sumOf, square, cube, fourth}
 use Rattle.moment.specs.Var.{meanOf}
-use Rattle.moment.specs.Skew.{isZero}
+use Rattle.moment.specs.Skew.{isZero, skewInserted, skewMerged}
+use Rattle.moment.specs.declared.skew_state.SkewState.{SkewState}
 use Rattle.moment.specs.declared.kurtosis_state.KurtosisState.{KurtosisState}
 use Rattle.moment.specs.declared.Figure.{Figure}
 use Rattle.moment.specs.declared.Figure.the-variants.{Missing, Present}
@@ -38,45 +39,34 @@ kurtosisClear s =
     (record { weight = s .weight; mean = zero64; m2 = zero64; m3 = zero64; m4 = zero64 })
     s
 
+-- its first four members, which move as those of skewness do
+abbrev pub skewPart : KurtosisState → SkewState
+skewPart s = record { weight = s .weight; mean = s .mean; m2 = s .m2; m3 = s .m3 }
+
+abbrev pub withM4 : SkewState → Float → KurtosisState
+withM4 s m4 = record { weight = s .weight; mean = s .mean; m2 = s .m2; m3 = s .m3; m4 = m4 }
+
 -- `KurtosisState::insert_one`
 abbrev pub kurtosisInsert : KurtosisState → Float → KurtosisState
 kurtosisInsert s x =
-    let w = s .weight ⊕ one64 in
+    let t = skewInserted (skewPart s) x in
     let delta = x ⊖ s .mean in
-    let deltaW = delta ⊘ w in
-    let mean = s .mean ⊕ deltaW in
-    let diff = s .weight ⊖ one64 in
-    let update = (x ⊖ mean) ⊗ delta in
-    kurtosisClear record {
-      weight = w;
-      mean = mean;
-      m2 = s .m2 ⊕ update;
-      m3 = s .m3 ⊕ deltaW ⊗ (update ⊗ diff ⊖ three64 ⊗ s .m2);
-      m4 = s .m4 ⊕ deltaW ⊗ (deltaW ⊗ (update ⊗ (s .weight ⊗ diff ⊕ one64) ⊕ six64 ⊗ s .m2) ⊖ four64 ⊗ s .m3);
-    }
+    let deltaW = delta ⊘ t .weight in
+    let update = (x ⊖ t .mean) ⊗ delta in
+    let spread = update ⊗ (s .weight ⊗ (s .weight ⊖ one64) ⊕ one64) in
+    kurtosisClear (withM4 t (s .m4 ⊕ deltaW ⊗ (deltaW ⊗ (spread ⊕ six64 ⊗ s .m2) ⊖ four64 ⊗ s .m3)))
 
 -- `KurtosisState::combine`, where neither weight is zero
 abbrev pub kurtosisMerge : KurtosisState → KurtosisState → KurtosisState
 kurtosisMerge s o =
-    let w = s .weight ⊕ o .weight in
+    let t = skewMerged (skewPart s) (skewPart o) in
     let delta = o .mean ⊖ s .mean in
-    let deltaW = delta ⊘ w in
-    let mean = s .mean ⊕ o .weight ⊗ deltaW in
-    let diff = s .weight ⊖ o .weight in
-    let selfOther = s .weight ⊗ o .m2 in
-    let otherSelf = o .weight ⊗ s .m2 in
-    let update = o .weight ⊗ (o .mean ⊖ mean) ⊗ delta in
-    kurtosisClear record {
-      weight = w;
-      mean = mean;
-      m2 = s .m2 ⊕ o .m2 ⊕ update;
-      m3 = s .m3 ⊕ o .m3 ⊕ deltaW ⊗ (update ⊗ diff ⊕ three64 ⊗ (selfOther ⊖ otherSelf));
-      m4 =
-          s .m4 ⊕ o .m4
-          ⊕ deltaW
-          ⊗ (deltaW ⊗ (update ⊗ (s .weight ⊗ diff ⊕ o .weight ⊗ o .weight) ⊕ six64 ⊗ (s .weight ⊗ selfOther ⊕ o .weight ⊗ otherSelf))
-          ⊕ four64 ⊗ (s .weight ⊗ o .m3 ⊖ o .weight ⊗ s .m3));
-    }
+    let deltaW = delta ⊘ t .weight in
+    let update = o .weight ⊗ (o .mean ⊖ t .mean) ⊗ delta in
+    let spread = update ⊗ (s .weight ⊗ (s .weight ⊖ o .weight) ⊕ o .weight ⊗ o .weight) in
+    let squares = s .weight ⊗ (s .weight ⊗ o .m2) ⊕ o .weight ⊗ (o .weight ⊗ s .m2) in
+    let cubes = s .weight ⊗ o .m3 ⊖ o .weight ⊗ s .m3 in
+    kurtosisClear (withM4 t (s .m4 ⊕ o .m4 ⊕ deltaW ⊗ (deltaW ⊗ (spread ⊕ six64 ⊗ squares) ⊕ four64 ⊗ cubes)))
 
 -- `KurtosisState::combine`
 unfoldable pub kurtosisCombine : KurtosisState → KurtosisState → KurtosisState

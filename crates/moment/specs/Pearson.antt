@@ -7,8 +7,9 @@ use lib.ListN.{length}
 use lib.Ieee.{Float, nan, eq, lt}
 use Rattle.float.specs.Operators.{_⊕_, _⊖_, _⊗_, _⊘_, zero64, one64, count}
 use Rattle.root.specs.Root.{root}
-use Rattle.moment.specs.Sums.{sumOf, firstOf, secondOf, square, product}
+use Rattle.moment.specs.Sums.{sumOf, firstOf, secondOf, square, deviationProduct}
 use Rattle.moment.specs.Cov.{pairMean}
+use Rattle.moment.specs.Updates.{meanWith, productsWith}
 use Rattle.moment.specs.declared.pearson_state.PearsonState.{PearsonState}
 
 -- `PearsonState::default`
@@ -38,7 +39,7 @@ pearsonAbout w meanX meanY ps =
       «mean_x» = meanX;
       «mean_y» = meanY;
       «dp_xx» = sumOf (squareX meanX) ps;
-      «dp_xy» = sumOf (product meanX meanY) ps;
+      «dp_xy» = sumOf (deviationProduct meanX meanY) ps;
       «dp_yy» = sumOf (squareY meanY) ps;
     }
 
@@ -51,37 +52,31 @@ pearsonNew ps =
 -- `PearsonState::insert_one`
 abbrev pub pearsonInsert : PearsonState → Float → Float → PearsonState
 pearsonInsert s x y =
-    let w = s .weight ⊕ one64 in
-    let frac = one64 ⊘ w in
-    let deltaX = x ⊖ s .«mean_x» in
-    let deltaY = y ⊖ s .«mean_y» in
-    let meanX = s .«mean_x» ⊕ deltaX ⊗ frac in
-    let meanY = s .«mean_y» ⊕ deltaY ⊗ frac in
+    let meanX = meanWith (s .weight) (s .«mean_x») one64 x in
+    let meanY = meanWith (s .weight) (s .«mean_y») one64 y in
     record {
-      weight = w;
+      weight = s .weight ⊕ one64;
       «mean_x» = meanX;
       «mean_y» = meanY;
-      «dp_xx» = s .«dp_xx» ⊕ (x ⊖ meanX) ⊗ deltaX;
-      «dp_xy» = s .«dp_xy» ⊕ (x ⊖ meanX) ⊗ deltaY;
-      «dp_yy» = s .«dp_yy» ⊕ (y ⊖ meanY) ⊗ deltaY;
+      «dp_xx» = s .«dp_xx» ⊕ (x ⊖ meanX) ⊗ (x ⊖ s .«mean_x»);
+      «dp_xy» = s .«dp_xy» ⊕ (x ⊖ meanX) ⊗ (y ⊖ s .«mean_y»);
+      «dp_yy» = s .«dp_yy» ⊕ (y ⊖ meanY) ⊗ (y ⊖ s .«mean_y»);
     }
 
 -- `PearsonState::combine`, where neither weight is zero
 abbrev pub pearsonMerge : PearsonState → PearsonState → PearsonState
 pearsonMerge s o =
-    let w = s .weight ⊕ o .weight in
-    let frac = o .weight ⊘ w in
-    let deltaX = o .«mean_x» ⊖ s .«mean_x» in
-    let deltaY = o .«mean_y» ⊖ s .«mean_y» in
-    let meanX = s .«mean_x» ⊕ deltaX ⊗ frac in
-    let meanY = s .«mean_y» ⊕ deltaY ⊗ frac in
+    let meanX = meanWith (s .weight) (s .«mean_x») (o .weight) (o .«mean_x») in
+    let meanY = meanWith (s .weight) (s .«mean_y») (o .weight) (o .«mean_y») in
+    let dx = o .«mean_x» ⊖ s .«mean_x» in
+    let dy = o .«mean_y» ⊖ s .«mean_y» in
     record {
-      weight = w;
+      weight = s .weight ⊕ o .weight;
       «mean_x» = meanX;
       «mean_y» = meanY;
-      «dp_xx» = s .«dp_xx» ⊕ (o .«dp_xx» ⊕ o .weight ⊗ (o .«mean_x» ⊖ meanX) ⊗ deltaX);
-      «dp_xy» = s .«dp_xy» ⊕ (o .«dp_xy» ⊕ o .weight ⊗ (o .«mean_x» ⊖ meanX) ⊗ deltaY);
-      «dp_yy» = s .«dp_yy» ⊕ (o .«dp_yy» ⊕ o .weight ⊗ (o .«mean_y» ⊖ meanY) ⊗ deltaY);
+      «dp_xx» = productsWith (s .«dp_xx») (o .«dp_xx») (o .weight) (o .«mean_x» ⊖ meanX) dx;
+      «dp_xy» = productsWith (s .«dp_xy») (o .«dp_xy») (o .weight) (o .«mean_x» ⊖ meanX) dy;
+      «dp_yy» = productsWith (s .«dp_yy») (o .«dp_yy») (o .weight) (o .«mean_y» ⊖ meanY) dy;
     }
 
 -- `PearsonState::combine`

@@ -32,5 +32,5 @@ abbrev pub secondOf : Float × Float → Float
 secondOf p = p .1
 
 -- (x - mean_x) * (y - mean_y)
-abbrev pub product : Float → Float → Float × Float → Float
-product meanX meanY p = (p .0 ⊖ meanX) ⊗ (p .1 ⊖ meanY)
+abbrev pub deviationProduct : Float → Float → Float × Float → Float
+deviationProduct meanX meanY p = (p .0 ⊖ meanX) ⊗ (p .1 ⊖ meanY)

@@ -8,6 +8,7 @@ use lib.ListN.{length}
 use lib.Ieee.{Float, isNan, eq, lt, le}
 use Rattle.float.specs.Operators.{_⊕_, _⊖_, _⊗_, _⊘_, zero64, one64, count}
 use Rattle.moment.specs.Sums.{sumOf, itself, square}
+use Rattle.moment.specs.Updates.{meanWith, productsWith}
 use Rattle.moment.specs.declared.var_state.VarState.{VarState}
 use Rattle.moment.specs.declared.Figure.{Figure}
 use Rattle.moment.specs.declared.Figure.the-variants.{Missing, Present}
@@ -45,11 +46,9 @@ varInsert s x = varClear (varInserted s x)
 -- `VarState::combine` after its test of the other weight and before its clear_zero_weight_nan
 abbrev pub varMerged : VarState → VarState → VarState
 varMerged s o =
-    let w = s .weight ⊕ o .weight in
-    let frac = o .weight ⊘ w in
-    let delta = o .mean ⊖ s .mean in
-    let mean = s .mean ⊕ delta ⊗ frac in
-    record { weight = w; mean = mean; dp = s .dp ⊕ (o .dp ⊕ o .weight ⊗ (o .mean ⊖ mean) ⊗ delta) }
+    let mean = meanWith (s .weight) (s .mean) (o .weight) (o .mean) in
+    let dp = productsWith (s .dp) (o .dp) (o .weight) (o .mean ⊖ mean) (o .mean ⊖ s .mean) in
+    record { weight = s .weight ⊕ o .weight; mean = mean; dp = dp }
 
 -- `VarState::combine`, where the other weight is not zero
 abbrev pub varMerge : VarState → VarState → VarState

@@ -2,7 +2,7 @@
 ghost use mathlib.Core.Path.{_≡_};
 ghost use lib.ListN.{length};
 ghost use Rattle.trace.specs.Trace.{validAt, bothAt};
-ghost use Rattle.moment.specs.Chunks.{Filled};
+ghost use Rattle.moment.specs.Invariants.Filling.{Filled, Fillable, FilledBoth};
 
 // How many readings a chunk holds.
 const CHUNK_SIZE: usize = 128;
@@ -50,9 +50,9 @@ pub(crate) fn fill_pairs(
     x_chunk: &mut [f64],
     y_chunk: &mut [f64],
 ) -> Stop
-    requires { ⌜ (length (now x) ≡ length (now y)) × (length (now «x_chunk») ≡ 128) × (length (now «y_chunk») ≡ 128) ⌝ }
-    ensures { λ r. ⌜ Filled (bothAt «x_has_map» (now («x_map» .entry)) «y_has_map» (now («y_map» .entry))) (now (x .entry)) place (r .place) (r .count) (now («x_chunk» .exit)) ⌝ }
-    ensures { λ r. ⌜ Filled (bothAt «x_has_map» (now («x_map» .entry)) «y_has_map» (now («y_map» .entry))) (now (y .entry)) place (r .place) (r .count) (now («y_chunk» .exit)) ⌝ }
+    requires { ⌜ Fillable (now x) (now y) (now «x_chunk») (now «y_chunk») ⌝ }
+    ensures { λ r. ⌜ FilledBoth (bothAt «x_has_map» (now («x_map» .entry)) «y_has_map» (now («y_map» .entry)))
+        (now (x .entry)) (now (y .entry)) place (r .place) (r .count) (now («x_chunk» .exit)) (now («y_chunk» .exit)) ⌝ }
 {
     let mut at = place;
     let mut count = 0;

@@ -3,8 +3,9 @@ ghost use mathlib.Core.Path.{_≡_};
 ghost use Rattle.float.specs.Operators.{zero64};
 ghost use Prim.Native.Nat.{_+_, _^_, _<_};
 ghost use lib.ListN.{length};
-ghost use Rattle.trace.specs.Trace.{validAt, validFrom};
-ghost use Rattle.moment.specs.Kurtosis.{kurtosisEmpty, kurtosisAbout, kurtosisNew, kurtosisInsert, kurtosisMerge, kurtosisCombine, kurtosisBiased, kurtosisUnbiased, lessThree, kurtosisFinalize};
+ghost use Rattle.moment.specs.Kurtosis.{kurtosisEmpty, kurtosisAbout, kurtosisNew, kurtosisInsert, kurtosisMerge};
+ghost use Rattle.moment.specs.Kurtosis.{kurtosisCombine, kurtosisBiased, kurtosisUnbiased, lessThree, kurtosisFinalize};
+ghost use Rattle.moment.specs.Invariants.Parts.{validPart};
 ghost use Rattle.moment.specs.Arrays.{kurtosisRange};
 use crate::Figure;
 use crate::KurtosisAnswer;
@@ -43,7 +44,7 @@ impl KurtosisState {
         mean: f64,
     ) -> Self
         requires { ⌜ start + length (now part) < 2 ^ 64 ⌝ }
-        ensures { λ r. ⌜ r ≡ kurtosisAbout weight mean (validFrom (validAt «has_map» (now (map .entry))) start (now (part .entry))) ⌝ }
+        ensures { λ r. ⌜ r ≡ kurtosisAbout weight mean (validPart «has_map» (now (map .entry)) start (now (part .entry))) ⌝ }
     {
         let mut m2 = 0.0;
         let mut m3 = 0.0;
@@ -74,7 +75,7 @@ impl KurtosisState {
     // trace.
     fn from_valid(part: &[f64], has_map: bool, map: &[u8], start: usize) -> Self
         requires { ⌜ start + length (now part) < 2 ^ 64 ⌝ }
-        ensures { λ r. ⌜ r ≡ kurtosisNew (validFrom (validAt «has_map» (now (map .entry))) start (now (part .entry))) ⌝ }
+        ensures { λ r. ⌜ r ≡ kurtosisNew (validPart «has_map» (now (map .entry)) start (now (part .entry))) ⌝ }
     {
         let total = sums::valid_total(part, has_map, map, start);
         let count = total.count;

@@ -4,7 +4,8 @@ ghost use mathlib.Core.Path.{_≡_};
 ghost use lib.ListN.{length};
 ghost use Rattle.trace.specs.Trace.{validReadings, validPairs};
 ghost use Rattle.moment.specs.Skew.{isZero};
-ghost use Rattle.moment.specs.Arrays.{varWhole, covWhole, pearsonWhole, skewWhole, kurtosisWhole, varAnswer, covAnswer, pearsonAnswer, skewAnswer, kurtosisAnswer};
+ghost use Rattle.moment.specs.Arrays.{varWhole, covWhole, pearsonWhole, skewWhole, kurtosisWhole};
+ghost use Rattle.moment.specs.Arrays.{varAnswer, covAnswer, pearsonAnswer, skewAnswer, kurtosisAnswer};
 
 mod chunk;
 pub mod cov_state;
@@ -83,7 +84,8 @@ fn cov_chunks(
     y_map: &[u8],
 ) -> CovState
     requires { ⌜ length (now x) ≡ length (now y) ⌝ }
-    ensures { λ r. ⌜ r ≡ covWhole (validPairs «x_has_map» (now («x_map» .entry)) (now (x .entry)) «y_has_map» (now («y_map» .entry)) (now (y .entry))) ⌝ }
+    ensures { λ r. ⌜ r ≡ covWhole (validPairs
+        «x_has_map» (now («x_map» .entry)) (now (x .entry)) «y_has_map» (now («y_map» .entry)) (now (y .entry))) ⌝ }
 {
     let mut x_chunk = [0.0; 128];
     let mut y_chunk = [0.0; 128];
@@ -116,7 +118,8 @@ pub fn cov(
     y_has_map: bool,
     y_map: &[u8],
 ) -> CovAnswer
-    ensures { λ r. ⌜ r ≡ covAnswer (now (x .entry)) «x_has_map» (now («x_map» .entry)) (now (y .entry)) «y_has_map» (now («y_map» .entry)) ⌝ }
+    ensures { λ r. ⌜ r ≡ covAnswer
+        (now (x .entry)) «x_has_map» (now («x_map» .entry)) (now (y .entry)) «y_has_map» (now («y_map» .entry)) ⌝ }
 {
     let number = trace::pair_refusal(x.len(), x_has_map, x_map, y.len(), y_has_map, y_map);
     if number != 0 {
@@ -139,7 +142,8 @@ fn pearson_chunks(
     y_map: &[u8],
 ) -> PearsonState
     requires { ⌜ length (now x) ≡ length (now y) ⌝ }
-    ensures { λ r. ⌜ r ≡ pearsonWhole (validPairs «x_has_map» (now («x_map» .entry)) (now (x .entry)) «y_has_map» (now («y_map» .entry)) (now (y .entry))) ⌝ }
+    ensures { λ r. ⌜ r ≡ pearsonWhole (validPairs
+        «x_has_map» (now («x_map» .entry)) (now (x .entry)) «y_has_map» (now («y_map» .entry)) (now (y .entry))) ⌝ }
 {
     let mut x_chunk = [0.0; 128];
     let mut y_chunk = [0.0; 128];
@@ -172,7 +176,8 @@ pub fn pearson_corr(
     y_has_map: bool,
     y_map: &[u8],
 ) -> PearsonAnswer
-    ensures { λ r. ⌜ r ≡ pearsonAnswer (now (x .entry)) «x_has_map» (now («x_map» .entry)) (now (y .entry)) «y_has_map» (now («y_map» .entry)) ⌝ }
+    ensures { λ r. ⌜ r ≡ pearsonAnswer
+        (now (x .entry)) «x_has_map» (now («x_map» .entry)) (now (y .entry)) «y_has_map» (now («y_map» .entry)) ⌝ }
 {
     let number = trace::pair_refusal(x.len(), x_has_map, x_map, y.len(), y_has_map, y_map);
     if number != 0 {

@@ -2,7 +2,8 @@
 ghost use mathlib.Core.Path.{_≡_};
 ghost use mathlib.Core.List.{zip};
 ghost use lib.ListN.{length};
-ghost use Rattle.moment.specs.Pearson.{pearsonEmpty, pearsonAbout, pearsonNew, pearsonInsert, pearsonMerge, pearsonCombine, pearsonFinalize};
+ghost use Rattle.moment.specs.Pearson.{pearsonEmpty, pearsonAbout, pearsonNew, pearsonInsert};
+ghost use Rattle.moment.specs.Pearson.{pearsonMerge, pearsonCombine, pearsonFinalize};
 use crate::sums;
 
 #[repr(C)]

@@ -3,8 +3,9 @@ ghost use mathlib.Core.Path.{_≡_};
 ghost use Rattle.float.specs.Operators.{zero64};
 ghost use Prim.Native.Nat.{_+_, _^_, _<_};
 ghost use lib.ListN.{length};
-ghost use Rattle.trace.specs.Trace.{validAt, validFrom};
-ghost use Rattle.moment.specs.Skew.{skewEmpty, skewAbout, skewNew, skewInserted, skewInsert, skewMerged, skewCombine, skewBiased, skewCorrection, skewFinalize};
+ghost use Rattle.moment.specs.Skew.{skewEmpty, skewAbout, skewNew, skewInserted, skewInsert};
+ghost use Rattle.moment.specs.Skew.{skewMerged, skewCombine, skewBiased, skewCorrection, skewFinalize};
+ghost use Rattle.moment.specs.Invariants.Parts.{validPart};
 ghost use Rattle.moment.specs.Arrays.{skewRange};
 use crate::Figure;
 use crate::SkewAnswer;
@@ -41,7 +42,7 @@ impl SkewState {
         mean: f64,
     ) -> Self
         requires { ⌜ start + length (now part) < 2 ^ 64 ⌝ }
-        ensures { λ r. ⌜ r ≡ skewAbout weight mean (validFrom (validAt «has_map» (now (map .entry))) start (now (part .entry))) ⌝ }
+        ensures { λ r. ⌜ r ≡ skewAbout weight mean (validPart «has_map» (now (map .entry)) start (now (part .entry))) ⌝ }
     {
         let mut m2 = 0.0;
         let mut m3 = 0.0;
@@ -68,7 +69,7 @@ impl SkewState {
     // trace.
     fn from_valid(part: &[f64], has_map: bool, map: &[u8], start: usize) -> Self
         requires { ⌜ start + length (now part) < 2 ^ 64 ⌝ }
-        ensures { λ r. ⌜ r ≡ skewNew (validFrom (validAt «has_map» (now (map .entry))) start (now (part .entry))) ⌝ }
+        ensures { λ r. ⌜ r ≡ skewNew (validPart «has_map» (now (map .entry)) start (now (part .entry))) ⌝ }
     {
         let total = sums::valid_total(part, has_map, map, start);
         let count = total.count;

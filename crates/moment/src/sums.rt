@@ -3,7 +3,7 @@ ghost use mathlib.Core.Path.{_≡_};
 ghost use Prim.Native.Nat.{_+_, _^_, _<_};
 ghost use lib.ListN.{length};
 ghost use Rattle.moment.specs.Sums.{sumOf, itself, square};
-ghost use Rattle.trace.specs.Trace.{validAt, validFrom};
+ghost use Rattle.moment.specs.Invariants.Parts.{validPart, Totalled};
 
 pub fn sum(x: &[f64]) -> f64
     ensures { λ r. ⌜ r ≡ sumOf itself (now (x .entry)) ⌝ }
@@ -39,8 +39,7 @@ pub(crate) struct Total {
 // The total of the valid readings of a part that starts at place `start` of its trace.
 pub(crate) fn valid_total(part: &[f64], has_map: bool, map: &[u8], start: usize) -> Total
     requires { ⌜ start + length (now part) < 2 ^ 64 ⌝ }
-    ensures count { λ r. ⌜ r .count ≡ length (validFrom (validAt «has_map» (now (map .entry))) start (now (part .entry))) ⌝ }
-    ensures sum { λ r. ⌜ r .sum ≡ sumOf itself (validFrom (validAt «has_map» (now (map .entry))) start (now (part .entry))) ⌝ }
+    ensures { λ r. ⌜ Totalled (validPart «has_map» (now (map .entry)) start (now (part .entry))) (r .count) (r .sum) ⌝ }
 {
     let mut count = 0;
     let mut sum = 0.0;

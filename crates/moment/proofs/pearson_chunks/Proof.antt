@@ -1,115 +1,36 @@
 -- Two chunks side by side (`Chunked`). Assumes nothing.
 use borrow.Author.Needs.{needs}
-use Prim.Native.Nat.{_-_}
-use mathlib.Core.Path.{_≡_, refl, sym, _∙_}
-use mathlib.Core.List.{[]}
+use Prim.Native.Nat.{ℕ, _-_}
+use mathlib.Core.Path.{refl, sym, _∙_}
+use mathlib.Core.Bool.{Bool}
+use mathlib.Core.List.{zip}
 use native.Mathlib.Omega.{arith}
 use lib.ListN.{length}
-use lib.Ieee.{eq, ofBits}
-use Rattle.moment.specs.declared.pearson_state.PearsonState.{PearsonState}
 use Rattle.trace.specs.Trace.{bothAt}
-use Rattle.moment.specs.Pearson.{pearsonEmpty, pearsonNew, pearsonCombine}
-use Rattle.moment.proofs.Filling.{part-long}
-use Rattle.moment.proofs.Chunked.{ReachedBoth, reached-start, combined-pairs, combined-pairs-end}
+use Rattle.moment.specs.Invariants.Filling.{Fillable}
+use Rattle.moment.proofs.Chunked.{pearson-chunked, Reached, reached-start, both-next, both-end, x-part, y-part, in-both}
 use Rattle.moment.proofs.pearson_chunks.Statement.{statement}
 use Rattle.moment.proofs.pearson_chunks.Tie as tie
 
--- a chunk of no pairs adds nothing
-none : (s : PearsonState) → pearsonCombine s (pearsonNew []) ≡ s
-unfolding pearsonCombine pearsonNew eq ofBits
-none s = refl
-
 abbrev Inv-loop : tie.InvT-loop
-Inv-loop x x-has-map x-map y y-has-map y-map x-chunk₀ y-chunk₀ out₀ place₀ x-chunk y-chunk out place =
-    (length x-chunk ≡ 128)
-    × (length y-chunk ≡ 128)
-    × ReachedBoth pearsonNew pearsonCombine pearsonEmpty (bothAt x-has-map x-map y-has-map y-map) x y out place
+Inv-loop x x-has-map x-map y y-has-map y-map _ _ _ _ x-chunk y-chunk out place =
+    Fillable x y x-chunk y-chunk × Reached pearson-chunked (bothAt x-has-map x-map y-has-map y-map) (zip x y) out place
 
-abbrev μ-loop : tie.MeasureT-loop
-μ-loop x x-has-map x-map y y-has-map y-map x-chunk₀ y-chunk₀ out₀ place₀ x-chunk y-chunk out place = length x - place
-
-default-requires : tie.Need-default-requires Inv-loop μ-loop
-default-requires c κs = search needs
-
-loop-holds : tie.Need-loop-holds Inv-loop μ-loop
-loop-holds c = (refl, refl, rw (c .default .ensures) (reached-start pearsonNew pearsonCombine pearsonEmpty _))
-
-slice-aggregate-fill-pairs : tie.Need-slice-aggregate-fill-pairs Inv-loop μ-loop
-slice-aggregate-fill-pairs c = search needs
-
-slice-aggregate-fill-pairs-2 : tie.Need-slice-aggregate-fill-pairs-2 Inv-loop μ-loop
-slice-aggregate-fill-pairs-2 c = search needs
-
-fill-pairs-requires : tie.Need-fill-pairs-requires Inv-loop μ-loop
-fill-pairs-requires c κs =
-    let inv = c .before .before .before .loop .inv in
-    (c .before .before .before .before .before .before .before .before .before .pre, inv .0, inv .1)
-
-array-share-prefix-x-chunk : tie.Need-array-share-prefix-x-chunk Inv-loop μ-loop
-array-share-prefix-x-chunk c = search needs
-
-slice-aggregate-new : tie.Need-slice-aggregate-new Inv-loop μ-loop
-slice-aggregate-new c =
-    let f = c .before .before .before in
-    part-long 128 _ _ (f .fill-pairs .kept .1 .1 .1 .1 .1 .1 .1 .0) (f .before .before .before .before .loop .inv .0) (f .fill-pairs .ensures .0 .within)
-
-array-share-prefix-y-chunk : tie.Need-array-share-prefix-y-chunk Inv-loop μ-loop
-array-share-prefix-y-chunk c = search needs
-
-slice-aggregate-new-2 : tie.Need-slice-aggregate-new-2 Inv-loop μ-loop
-slice-aggregate-new-2 c =
-    let f = c .before .before .before .before in
-    part-long 128 _ _ (f .fill-pairs .kept .1 .1 .1 .1 .1 .1 .1 .1 .0) (f .before .before .before .before .loop .inv .1) (f .fill-pairs .ensures .1 .within)
-
-new-requires : tie.Need-new-requires Inv-loop μ-loop
-new-requires c κs =
-    let f = c .before .before .before .before in
-    let inv = f .before .before .before .before .loop .inv in
-    sym (part-long 128 _ _ (f .fill-pairs .kept .1 .1 .1 .1 .1 .1 .1 .0) (inv .0) (f .fill-pairs .ensures .0 .within))
-    ∙ part-long 128 _ _ (f .fill-pairs .kept .1 .1 .1 .1 .1 .1 .1 .1 .0) (inv .1) (f .fill-pairs .ensures .1 .within)
-
-combine-requires : tie.Need-combine-requires Inv-loop μ-loop
-combine-requires c κs = search needs
-
-loop-less : tie.Need-loop-less Inv-loop μ-loop
-loop-less c =
-    let f = c .before .before .before .before .before .before in
-    omega (arith, f .fill-pairs .ensures .0 .further (f .before .before .before .loop-test .taken))
-
-loop-again : tie.Need-loop-again Inv-loop μ-loop
-loop-again c =
-    let f = c .before .before .before .before .before .before in
-    let head = f .before .before .before .before in
-    let inv = head .loop .inv in
-    let a = head .before .before .before .before .before .before .args in
-    let both = bothAt (a .x-has-map) (a .x-map .now) (a .y-has-map) (a .y-map .now) in
-    let filled = f .fill-pairs .ensures in (
-      f .fill-pairs .kept .1 .1 .1 .1 .1 .1 .1 .0 ∙ inv .0,
-      f .fill-pairs .kept .1 .1 .1 .1 .1 .1 .1 .1 .0 ∙ inv .1,
-      rw (c .combine .ensures, c .before .new .ensures)
-          (combined-pairs pearsonNew pearsonCombine pearsonEmpty both _ _ _ _ _ _ _ _ (filled .0) (filled .1) (none _) (inv .2)),
-    )
-
-returns : tie.Need-returns Inv-loop μ-loop
-returns c = combined-pairs-end pearsonNew pearsonCombine pearsonEmpty _ _ _ _ _ (c .loop-test .left) (c .before .loop .inv .2)
+abbrev both : tie.At-loop Inv-loop (λ x _ _ _ _ _ _ _ _ _ _ _ _ place. length x - place) → ℕ → Bool
+both l = let a = l .before .before .before .before .before .before .args in bothAt (a .x-has-map) (a .x-map .now) (a .y-has-map) (a .y-map .now)
 
 pub pearson-chunks-spec : {M : Type 1} → statement M
 pearson-chunks-spec =
-    tie.close
-    (tie.spec
-    Inv-loop
-    μ-loop
-    default-requires
-    loop-holds
-    slice-aggregate-fill-pairs
-    slice-aggregate-fill-pairs-2
-    fill-pairs-requires
-    array-share-prefix-x-chunk
-    slice-aggregate-new
-    array-share-prefix-y-chunk
-    slice-aggregate-new-2
-    new-requires
-    combine-requires
-    loop-less
-    loop-again
-    returns)
+    let met = tie.spec Inv-loop (λ x _ _ _ _ _ _ _ _ _ _ _ _ place. length x - place) (λ c κs. search needs)
+    (λ c. (record { paired = c .before .before .before .before .before .pre; x-room = refl; y-room = refl }, reached-start (c .default .ensures)))
+    (λ c. search needs) (λ c. search needs) (λ c κs. c .before .before .before .loop .inv .0)
+    (λ c. search needs) (λ c. let f = c .before .before .before .fill-pairs .ensures in x-part (f .again) (f .pairs .within))
+    (λ c. search needs) (λ c. let f = c .before .before .before .before .fill-pairs .ensures in y-part (f .again) (f .pairs .within))
+    (λ c κs. let f = c .before .before .before .before .fill-pairs .ensures in let h = f .pairs .within in sym (x-part (f .again) h) ∙ y-part (f .again) h)
+    (λ c κs. search needs)
+    (λ c. let f = c .before .before .before .before .before .before in let e = f .fill-pairs .ensures in
+    omega (arith, e .pairs .further (in-both (e .again) (f .before .before .before .loop-test .taken))))
+    (λ c. let f = c .before .before .before .before .before .before in let l = f .before .before .before .before in
+    both-next {both = both l} (f .fill-pairs .ensures) (l .loop .inv .1) (c .before .new .ensures) (c .combine .ensures))
+    (λ c. let l = c .before in both-end {both = both l} (l .loop .inv .0) (l .loop .inv .1) (c .loop-test .left)) in
+    tie.close met

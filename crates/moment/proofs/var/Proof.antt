@@ -4,17 +4,8 @@ use Rattle.moment.proofs.Answers.{answer-refused, answer-state}
 use Rattle.moment.proofs.var.Statement.{statement}
 use Rattle.moment.proofs.var.Tie as tie
 
-array-refusal-requires : tie.Need-array-refusal-requires
-array-refusal-requires c κs = search needs
-
-returns : tie.Need-returns
-returns c = answer-refused _ _ _ _ (c .before .array-refusal .ensures) _ (c .if1 .taken)
-
-var-chunks-requires : tie.Need-var-chunks-requires
-var-chunks-requires c κs = search needs
-
-returns-2 : tie.Need-returns-2
-returns-2 c = answer-state _ _ _ _ (c .before .before .array-refusal .ensures) _ _ (c .before .if1 .left) (c .var-chunks .ensures)
-
 pub var-spec : {M : Type 1} → statement M
-var-spec = tie.close (tie.spec array-refusal-requires returns var-chunks-requires returns-2)
+var-spec =
+    let met = tie.spec (λ c κs. search needs) (λ c. answer-refused _ _ _ _ (c .before .array-refusal .ensures) _ (c .if1 .taken)) (λ c κs. search needs)
+    (λ c. answer-state _ _ _ _ (c .before .before .array-refusal .ensures) _ _ (c .before .if1 .left) (c .var-chunks .ensures)) in
+    tie.close met

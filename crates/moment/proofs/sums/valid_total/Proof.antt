@@ -1,4 +1,4 @@
--- Two folds over the valid ones, a count and a sum. Assumes nothing.
+-- A count and a sum over the valid ones. Assumes nothing.
 use borrow.Author.Needs.{needs}
 use Prim.Native.Nat.{_-_, _≤_}
 use mathlib.Core.Logic.{⊎-elim}
@@ -18,63 +18,14 @@ Inv-loop part has-map map start count₀ sum₀ i₀ count sum i =
 abbrev μ-loop : tie.MeasureT-loop
 μ-loop part has-map map start count₀ sum₀ i₀ count sum i = length part - i
 
-loop-holds : tie.Need-loop-holds Inv-loop μ-loop
-loop-holds c = (search needs, valid-start oneMore 0 _ _ _, valid-start _⊕_ zero64 _ _ _)
-
-add-valid : tie.Need-add-valid Inv-loop μ-loop
-add-valid c = omega arith
-
-valid-requires : tie.Need-valid-requires Inv-loop μ-loop
-valid-requires c κs = search needs
-
-add-count : tie.Need-add-count Inv-loop μ-loop
-add-count c = omega arith
-
-mul-sum : tie.Need-mul-sum Inv-loop μ-loop
-mul-sum c = omega arith
-
-shared-slice-read-sum : tie.Need-shared-slice-read-sum Inv-loop μ-loop
-shared-slice-read-sum c = omega arith
-
-add-i : tie.Need-add-i Inv-loop μ-loop
-add-i c = omega arith
-
-loop-less : tie.Need-loop-less Inv-loop μ-loop
-loop-less c = omega arith
-
-loop-again : tie.Need-loop-again Inv-loop μ-loop
-loop-again c =
-    let inv = c .before .before .before .loop .inv in
-    let h = c .before .before .loop-test .taken in
-    let v = c .before .valid .ensures in
-    ⊎-elim
-    (λ w.
-    let t = w .0 .taken in
-    rw (w .2, w .3) (omega arith, valid-step oneMore 0 _ _ _ _ _ h v t (inv .1), valid-step _⊕_ zero64 _ _ _ _ _ h v t (inv .2)))
-    (λ w.
-    let t = w .0 .left in
-    rw (w .1, w .2) (omega arith, missing-step oneMore 0 _ _ _ _ _ h v t (inv .1), missing-step _⊕_ zero64 _ _ _ _ _ h v t (inv .2)))
-    (c .if1 .came)
-
-returns : tie.Need-returns Inv-loop μ-loop
-returns c =
-    let inv = c .before .loop .inv in
-    let h = c .loop-test .left in
-    (counted-end _ _ _ _ _ h (inv .1), valid-end _⊕_ zero64 _ _ _ _ _ h (inv .2))
-
 pub valid-total-spec : {M : Type 1} → statement M
 valid-total-spec =
-    tie.close
-    (tie.spec
-    Inv-loop
-    μ-loop
-    loop-holds
-    add-valid
-    valid-requires
-    add-count
-    mul-sum
-    shared-slice-read-sum
-    add-i
-    loop-less
-    loop-again
-    returns)
+    let met = tie.spec Inv-loop μ-loop
+    (λ c. (search needs, valid-start oneMore 0 _ _ _, valid-start _⊕_ zero64 _ _ _)) (λ c. omega arith) (λ c κs. search needs) (λ c. omega arith) (λ c. omega arith) (λ c. omega arith) (λ c. omega arith) (λ c. omega arith)
+    (λ c. let inv = c .before .before .before .loop .inv in let h = c .before .before .loop-test .taken in let v = c .before .valid .ensures in
+    ⊎-elim
+    (λ w. let t = w .0 .taken in rw (w .2, w .3) (omega arith, valid-step oneMore 0 _ _ _ _ _ h v t (inv .1), valid-step _⊕_ zero64 _ _ _ _ _ h v t (inv .2)))
+    (λ w. let t = w .0 .left in rw (w .1, w .2) (omega arith, missing-step oneMore 0 _ _ _ _ _ h v t (inv .1), missing-step _⊕_ zero64 _ _ _ _ _ h v t (inv .2)))
+    (c .if1 .came))
+    (λ c. let inv = c .before .loop .inv in let h = c .loop-test .left in record { counted = counted-end _ _ _ _ _ h (inv .1); summed = valid-end _⊕_ zero64 _ _ _ _ _ h (inv .2) }) in
+    tie.close met

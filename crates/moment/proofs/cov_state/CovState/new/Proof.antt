@@ -1,43 +1,16 @@
 -- From the sums of the two lists, which are those of the pairs. Assumes nothing.
+use borrow.Author.Needs.{needs}
 use borrow.Author.Tests.{eq-eqb, ne-eqb}
 use Rattle.moment.specs.Cov.{covEmpty, covAbout, covNew}
 use Rattle.moment.proofs.Pairs.{pairs-lists}
-use borrow.Author.Needs.{needs}
 use Rattle.moment.proofs.cov_state.CovState.new.Statement.{statement}
 use Rattle.moment.proofs.cov_state.CovState.new.Tie as tie
 
-default-requires : tie.Need-default-requires
-default-requires c κs = search needs
-
-returns : tie.Need-returns
-unfolding covNew
-returns c = rw (pairs-lists covEmpty covAbout _ _ (c .before .before .before .before .pre), eq-eqb _ _ (c .before .if1 .taken)) (c .default .ensures)
-
-nearest-u64-to-f64-requires : tie.Need-nearest-u64-to-f64-requires
-nearest-u64-to-f64-requires c κs = search needs
-
-sum-requires : tie.Need-sum-requires
-sum-requires c κs = search needs
-
-sum-requires-2 : tie.Need-sum-requires-2
-sum-requires-2 c κs = search needs
-
-about-requires : tie.Need-about-requires
-about-requires c κs = search needs
-
-returns-2 : tie.Need-returns-2
-unfolding covNew
-returns-2 c =
-    rw (pairs-lists covEmpty covAbout _ _ (c .before .before .before .before .before .before .before .pre), ne-eqb _ _ (c .before .before .before .before .if1 .left), c .about .ensures, c .before .sum2 .ensures, c .before .before .sum .ensures, c .before .before .before .nearest-u64-to-f64 .ensures)
-
 pub new-spec : {M : Type 1} → statement M
+unfolding covNew
 new-spec =
-    tie.close
-    (tie.spec
-    default-requires
-    returns
-    nearest-u64-to-f64-requires
-    sum-requires
-    sum-requires-2
-    about-requires
-    returns-2)
+    let met = tie.spec (λ c κs. search needs)
+    (λ c. rw (pairs-lists covEmpty covAbout _ _ (c .before .before .before .before .pre), eq-eqb _ _ (c .before .if1 .taken)) (c .default .ensures))
+    (λ c κs. search needs) (λ c κs. search needs) (λ c κs. search needs) (λ c κs. search needs) (λ c. let n = c .before .before .before in
+    rw (pairs-lists covEmpty covAbout _ _ (n .before .before .before .before .pre), ne-eqb _ _ (n .before .if1 .left), c .about .ensures, c .before .sum2 .ensures, c .before .before .sum .ensures, n .nearest-u64-to-f64 .ensures)) in
+    tie.close met

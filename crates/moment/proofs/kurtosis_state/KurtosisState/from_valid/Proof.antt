@@ -6,35 +6,11 @@ use Rattle.moment.specs.Kurtosis.{kurtosisNew}
 use Rattle.moment.proofs.kurtosis_state.KurtosisState.from_valid.Statement.{statement}
 use Rattle.moment.proofs.kurtosis_state.KurtosisState.from_valid.Tie as tie
 
-valid-total-requires : tie.Need-valid-total-requires
-valid-total-requires c κs = search needs
-
-default-requires : tie.Need-default-requires
-default-requires c κs = search needs
-
-returns : tie.Need-returns
-unfolding kurtosisNew
-returns c = rw (eq-eqb _ _ (sym (c .before .before .valid-total .ensures .0) ∙ c .before .if1 .taken)) (c .default .ensures)
-
-nearest-u64-to-f64-requires : tie.Need-nearest-u64-to-f64-requires
-nearest-u64-to-f64-requires c κs = search needs
-
-about-valid-requires : tie.Need-about-valid-requires
-about-valid-requires c κs = search needs
-
-returns-2 : tie.Need-returns-2
-unfolding kurtosisNew
-returns-2 c =
-    let t = c .before .before .before .before .valid-total .ensures in
-    rw (ne-eqb _ _ (λ z. c .before .before .before .if1 .left (t .0 ∙ z)), c .about-valid .ensures, c .before .before .nearest-u64-to-f64 .ensures, t .0, t .1)
-
 pub from-valid-spec : {M : Type 1} → statement M
+unfolding kurtosisNew
 from-valid-spec =
-    tie.close
-    (tie.spec
-    valid-total-requires
-    default-requires
-    returns
-    nearest-u64-to-f64-requires
-    about-valid-requires
-    returns-2)
+    let met = tie.spec (λ c κs. search needs) (λ c κs. search needs)
+    (λ c. rw (eq-eqb _ _ (sym (c .before .before .valid-total .ensures .counted) ∙ c .before .if1 .taken)) (c .default .ensures))
+    (λ c κs. search needs) (λ c κs. search needs) (λ c. let n = c .before .before in let t = n .before .before .valid-total .ensures in
+    rw (ne-eqb _ _ (λ z. n .before .if1 .left (t .counted ∙ z)), c .about-valid .ensures, n .nearest-u64-to-f64 .ensures, t .counted, t .summed)) in
+    tie.close met

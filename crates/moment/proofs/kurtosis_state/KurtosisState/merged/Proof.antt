@@ -4,16 +4,9 @@ use Rattle.moment.specs.Kurtosis.{kurtosisClear}
 use Rattle.moment.proofs.kurtosis_state.KurtosisState.merged.Statement.{statement}
 use Rattle.moment.proofs.kurtosis_state.KurtosisState.merged.Tie as tie
 
-zero-weight-requires : tie.Need-zero-weight-requires
-zero-weight-requires c κs = search needs
-
-returns : tie.Need-returns
-unfolding kurtosisClear
-returns c = rw (c .before .if1 .taken) (c .zero-weight .ensures)
-
-returns-2 : tie.Need-returns-2
-unfolding kurtosisClear
-returns-2 c = rw (c .before .before .before .before .before .before .before .before .before .before .before .before .before .before .before .before .before .before .before .before .before .before .before .before .before .before .if1 .left)
-
 pub merged-spec : {M : Type 1} → statement M
-merged-spec = tie.close (tie.spec zero-weight-requires returns returns-2)
+unfolding kurtosisClear
+merged-spec =
+    let met = tie.spec (λ c κs. search needs) (λ c. rw (c .before .if1 .taken) (c .zero-weight .ensures))
+    (λ c. rw (c .before .before .before .before .before .before .before .before .before .before .before .before .before .before .before .before .before .before .before .before .before .before .before .before .before .before .if1 .left)) in
+    tie.close met

@@ -1,30 +1,14 @@
 -- From the two sums. Assumes nothing.
 use borrow.Author.Needs.{needs}
 use borrow.Author.Tests.{eq-eqb, ne-eqb}
+use Rattle.moment.specs.Var.{varNew}
 use Rattle.moment.proofs.var_state.VarState.new.Statement.{statement}
 use Rattle.moment.proofs.var_state.VarState.new.Tie as tie
-use Rattle.moment.specs.Var.{varNew}
-
-default-requires : tie.Need-default-requires
-default-requires c κs = search needs
-
-returns : tie.Need-returns
-unfolding varNew
-returns c = rw (eq-eqb _ _ (c .before .if1 .taken)) (c .default .ensures)
-
-nearest-u64-to-f64-requires : tie.Need-nearest-u64-to-f64-requires
-nearest-u64-to-f64-requires c κs = search needs
-
-sum-requires : tie.Need-sum-requires
-sum-requires c κs = search needs
-
-squares-requires : tie.Need-squares-requires
-squares-requires c κs = search needs
-
-returns-2 : tie.Need-returns-2
-unfolding varNew
-returns-2 c =
-    rw (ne-eqb _ _ (c .before .before .before .if1 .left), c .squares .ensures, c .before .sum .ensures, c .before .before .nearest-u64-to-f64 .ensures)
 
 pub new-spec : {M : Type 1} → statement M
-new-spec = tie.close (tie.spec default-requires returns nearest-u64-to-f64-requires sum-requires squares-requires returns-2)
+unfolding varNew
+new-spec =
+    let met = tie.spec (λ c κs. search needs) (λ c. rw (eq-eqb _ _ (c .before .if1 .taken)) (c .default .ensures))
+    (λ c κs. search needs) (λ c κs. search needs) (λ c κs. search needs) (λ c. let n = c .before .before in
+    rw (ne-eqb _ _ (n .before .if1 .left), c .squares .ensures, c .before .sum .ensures, n .nearest-u64-to-f64 .ensures)) in
+    tie.close met
