@@ -17,14 +17,14 @@ The forms that the documents use, and where each is looked up:
 """
 import fnmatch, glob, os, re, sys
 
-DOCUMENTS = ["docs/PROMISES.md", "README.md", "docs/DECISIONS.md", "docs/TRUST.md", "docs/DIFFERENCES.md"]
+DOCUMENTS = ["README.md"] + [f"docs/{name}.md" for name in ("PROMISES", "DECISIONS", "TRUST", "DIFFERENCES", "BENCHMARK", "ABI")]
 # The Rust's own names: its text is not in the repository.
 SOURCE = """KurtosisState::from_iter MomentWindow State alg_add_f64 alg_sum_f64 compute_var_weights create_validity det_offsets_center from_iter
     has_nulls moment.rs powf powi(2) powf(1.5) rolling/ rolling_apply_agg_window rolling_apply_weights sqrt""".split() + ["i + right_window"]
 # Words of the languages, of the shell and of files that the collector reads, one parameter, and forms in which capitals stand for any name.
-WORDS = """ensures requires u8 usize Vec<Option<f64>> Option<f64> rt Cargo.toml MOMENTS_LIB_DIR ORACLE_SRC ORACLE_SEED shared/docs/src
+WORDS = """ensures requires u8 u32 usize libmoments.a Vec<Option<f64>> Option<f64> rt Cargo.toml MOMENTS_LIB_DIR ORACLE_SRC ORACLE_SEED shared/docs/src
     logic-built=trusted libraries-built=trusted NA nan inf 1e999 start,end label,start,end time,temperature has_map""".split()
-WORDS += ["# refuses: FUNCTION", "Rattle.NAME.proofs.LAW", 'moments = { path = "host" }']
+WORDS += ["# refuses: FUNCTION", "Rattle.NAME.proofs.LAW", "var insert_one", 'moments = { path = "host" }']
 
 
 def files(*patterns):
@@ -87,15 +87,15 @@ def in_specs(crate, stem, name, field):
 
 def known(name, before, words):
     """Whether a name that is no edit exists: `before` is the last whole name, `words` what stands between."""
-    if name in SOURCE or name in WORDS or re.match(r"(rt|cargo) \w", name):
+    if name in SOURCE or name in WORDS or re.match(r"(rt|cargo|bench) ", name):
         return True
     if found := re.fullmatch(r"(\w+) ([A-Z]\w*)(?:\.([\w-]+))?(?:\.([\w-]+))?", name):
         return in_specs(*found.groups())
     if re.fullmatch(r"_\w*[^\W_]", name):
         ends = [name] if words.endswith(" end in ") else [before[:i] + name for i in range(1, len(before) + 1)]
         return any(fnmatch.filter(bare, end if end != name else "*" + name) for end in ends)
-    if re.fullmatch(r"[\w.*-]+/[\w./*-]*", name):
-        return bool(files(name, name + ".*", "crates/*/" + name))
+    if found := re.fullmatch(r"([\w.*-]+/[\w./*-]*)(?: .*)?", name):  # a path, or a script and its arguments
+        return bool(files(found[1], found[1] + ".*", "crates/*/" + found[1]))
     if re.fullmatch(r"[\w*]+\.r[st]", name):
         return bool(files("crates/**/" + name, "host/**/" + name))
     if found := re.fullmatch(r"(\w+)\.([\w-]+)", name):
@@ -138,10 +138,12 @@ for document in sys.argv[1:] or DOCUMENTS:
     for found in re.finditer(r"`([^`\s]+)[^`\n]*` (?:\(|of\s+)(?:`(\w+)` )?proofs/(\w+)", whole):
         if not any(found[1] in logic[at] for at in logic if at[1:] == ("proofs", found[3]) and found[2] in (None, at[0])):
             bad.append(f"{document}: {found[0]}")
-    # What is named without backticks: files of specs/ and proofs/, and other files.
+    # What is named without backticks: files of specs/ and proofs/, those of the README's table of crates, and other files.
     for found in re.finditer(r"(?:`(\w+)` )?\b(specs|proofs)/([A-Z]\w*\*?)", whole):
         if not any(at[1] == found[2] and fnmatch.fnmatch(at[2], found[3]) and found[1] in (None, at[0]) for at in logic):
             bad.append(f"{document}: {found[0]}")
+    for crate, stems in re.findall(r"^\| (\w+) \|.*\| ([A-Z][\w, ]*) \|$", whole, re.M):
+        bad += [f"{document}: specs/{stem} of {crate}" for stem in stems.split(", ") if not in_specs(crate, stem, None, None)]
     for found in re.finditer(r"(?<![\w/`.])(?:docs|tools|host|oracle|bench|crates)/[\w./-]*\w", whole):
         if not glob.glob(found[0]):
             bad.append(f"{document}: {found[0]}")
