@@ -1,7 +1,7 @@
 #!/usr/bin/env bash
 # The host's side: every test in Rust, with the compiler's checks of arithmetic and without; layout and lints where cargo has the tools for
-# them. Random calls are compared with the Rust, and the benchmark is built and run over a few readings, where ORACLE_SRC names the folder of
-# the Rust's sources, or a folder beside the repository has them.
+# them; that no row loop of the archive calls another function. Random calls are compared with the Rust, and the benchmark is built and run
+# over a few readings, where ORACLE_SRC names the folder of the Rust's sources, or a folder beside the repository has them.
 set -euo pipefail
 cd "$(dirname "$0")/.."
 if [ -z "${ORACLE_SRC:-}" ] && [ -d ../shared/docs/src ]; then
@@ -23,6 +23,8 @@ cd host
 cargo test --offline -- --skip limits --skip oracle --skip valgrind
 cargo test --release --offline
 cargo test --release --offline --test collector -- --ignored
+# the archive that the tests were linked with: build.rs takes a relative folder from here too
+bash ../tools/norowcall.sh "${MOMENTS_LIB_DIR:-../target/staticlib}/libmoments.a"
 cd ..
 if [ -n "${ORACLE_SRC:-}" ]; then
   cargo build --release --offline --manifest-path bench/Cargo.toml
