@@ -18,7 +18,7 @@ use Rattle.moment.specs.Pearson.{pearsonEmpty, pearsonNew, pearsonCombin
 use Rattle.moment.specs.Skew.{skewEmpty, skewNew, skewCombine}
 use Rattle.moment.specs.Kurtosis.{kurtosisEmpty, kurtosisNew, kurtosisCombine}
 use Rattle.moment.specs.Chunks.{chunks, chunksOf, foldChunks, inChunks}
-use Rattle.moment.specs.Invariants.Filling.{Filled, Fillable, FilledBoth}
+use Rattle.moment.specs.Code.Filling.{Filled, Fillable, FilledBoth}
 use Rattle.moment.proofs.Folds.{from-end}
 use Rattle.moment.proofs.Filling.{rest, part-long}
 use Rattle.moment.proofs.Pairs.{take-zip, length-zip}

@@ -11,7 +11,7 @@ use lib.Seq.{take-suc-set, take-set-le, take-all, take-at, drop-at, length-take-
 use lib.Ieee.{Float, nan}
 use mir.Val.{boolByte}
 use Rattle.trace.specs.Trace.{validFrom}
-use Rattle.moment.specs.Invariants.Filling.{Filled, Fillable, FilledBoth}
+use Rattle.moment.specs.Code.Filling.{Filled, Fillable, FilledBoth}
 use Rattle.moment.proofs.Folds.{from-valid, from-missing, from-end}
 use Rattle.moment.proofs.Pairs.{length-zip, getD-zip, zip-set}
 

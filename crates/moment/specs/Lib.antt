@@ -27,4 +27,4 @@ pub mod Skew
 pub mod Kurtosis
 pub mod Chunks
 pub mod Arrays
-pub mod Invariants
+pub mod Code

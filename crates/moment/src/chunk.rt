@@ -2,7 +2,7 @@
 ghost use mathlib.Core.Path.{_≡_};
 ghost use lib.ListN.{length};
 ghost use Rattle.trace.specs.Trace.{validAt, bothAt};
-ghost use Rattle.moment.specs.Invariants.Filling.{Filled, Fillable, FilledBoth};
+ghost use Rattle.moment.specs.Code.Filling.{Filled, Fillable, FilledBoth};
 
 // How many readings a chunk holds.
 const CHUNK_SIZE: usize = 128;

@@ -5,7 +5,7 @@ ghost use Prim.Native.Nat.{_+_, _^_, _<_};
 ghost use lib.ListN.{length};
 ghost use Rattle.moment.specs.Kurtosis.{kurtosisEmpty, kurtosisAbout, kurtosisNew, kurtosisInsert, kurtosisMerge};
 ghost use Rattle.moment.specs.Kurtosis.{kurtosisCombine, kurtosisBiased, kurtosisUnbiased, lessThree, kurtosisFinalize};
-ghost use Rattle.moment.specs.Invariants.Parts.{validPart};
+ghost use Rattle.moment.specs.Code.Parts.{validPart};
 ghost use Rattle.moment.specs.Arrays.{kurtosisRange};
 use crate::Figure;
 use crate::KurtosisAnswer;

@@ -5,7 +5,7 @@ ghost use Prim.Native.Nat.{_+_, _^_, _<_};
 ghost use lib.ListN.{length};
 ghost use Rattle.moment.specs.Skew.{skewEmpty, skewAbout, skewNew, skewInserted, skewInsert};
 ghost use Rattle.moment.specs.Skew.{skewMerged, skewCombine, skewBiased, skewCorrection, skewFinalize};
-ghost use Rattle.moment.specs.Invariants.Parts.{validPart};
+ghost use Rattle.moment.specs.Code.Parts.{validPart};
 ghost use Rattle.moment.specs.Arrays.{skewRange};
 use crate::Figure;
 use crate::SkewAnswer;

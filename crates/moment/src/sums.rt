@@ -3,7 +3,7 @@ ghost use mathlib.Core.Path.{_≡_};
 ghost use Prim.Native.Nat.{_+_, _^_, _<_};
 ghost use lib.ListN.{length};
 ghost use Rattle.moment.specs.Sums.{sumOf, itself, square};
-ghost use Rattle.moment.specs.Invariants.Parts.{validPart, Totalled};
+ghost use Rattle.moment.specs.Code.Parts.{validPart, Totalled};
 
 pub fn sum(x: &[f64]) -> f64
     ensures { λ r. ⌜ r ≡ sumOf itself (now (x .entry)) ⌝ }

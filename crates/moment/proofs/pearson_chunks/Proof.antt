@@ -7,7 +7,7 @@ use mathlib.Core.List.{zip}
 use native.Mathlib.Omega.{arith}
 use lib.ListN.{length}
 use Rattle.trace.specs.Trace.{bothAt}
-use Rattle.moment.specs.Invariants.Filling.{Fillable}
+use Rattle.moment.specs.Code.Filling.{Fillable}
 use Rattle.moment.proofs.Chunked.{pearson-chunked, Reached, reached-start, both-next, both-end, x-part, y-part, in-both}
 use Rattle.moment.proofs.pearson_chunks.Statement.{statement}
 use Rattle.moment.proofs.pearson_chunks.Tie as tie
