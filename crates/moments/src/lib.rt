@@ -7,11 +7,18 @@ ghost use Rattle.moment.specs.Cov.{covInsert, covCombine, covFinalize};
 ghost use Rattle.moment.specs.Pearson.{pearsonInsert, pearsonCombine, pearsonFinalize};
 ghost use Rattle.moment.specs.Skew.{skewInsert, skewCombine, skewFinalize};
 ghost use Rattle.moment.specs.Kurtosis.{kurtosisInsert, kurtosisCombine, kurtosisFinalize};
-ghost use Rattle.moment.specs.Arrays.{varAnswer, varNumber, varMembers, covAnswer, covNumber, covMembers, pearsonAnswer, pearsonNumber, pearsonMembers, skewAnswer, skewRange, skewNumber, skewMembers, kurtosisAnswer, kurtosisRange, kurtosisNumber, kurtosisMembers};
+ghost use Rattle.moment.specs.Arrays.{varAnswer, varNumber, varMembers};
+ghost use Rattle.moment.specs.Arrays.{covAnswer, covNumber, covMembers};
+ghost use Rattle.moment.specs.Arrays.{pearsonAnswer, pearsonNumber, pearsonMembers};
+ghost use Rattle.moment.specs.Arrays.{skewAnswer, skewRange, skewNumber, skewMembers};
+ghost use Rattle.moment.specs.Arrays.{kurtosisAnswer, kurtosisRange, kurtosisNumber, kurtosisMembers};
+ghost use Rattle.trace.specs.Slices.{entering, leaving};
+ghost use Rattle.trace.specs.Trace.{tracing};
 ghost use Rattle.rolling.specs.Moments.{Variance, Skewness, Kurtosis};
-ghost use Rattle.rolling.specs.Calls.{ask, lent, traceOf, CalledBytes};
-ghost use Rattle.rolling.specs.Fixed.{CalledFixed};
-ghost use Rattle.rolling.specs.Weights.{CalledWeights};
+ghost use Rattle.rolling.specs.Calls.{querying, lending};
+ghost use Rattle.rolling.specs.Fixed.{CallsFixed};
+ghost use Rattle.weighted.specs.Weights.{CallsWeights, lendingColumn};
+ghost use Rattle.moments.specs.HostCall.{hosting, decoding, CallsBytes};
 ghost use Rattle.moments.specs.Results.{StateResult, FigureResult};
 use moment::CovAnswer;
 use moment::CovState;
@@ -24,9 +31,12 @@ use moment::SkewAnswer;
 use moment::SkewState;
 use moment::VarAnswer;
 use moment::VarState;
+use rolling::KurtosisMoment;
+use rolling::SkewMoment;
+use rolling::VarianceMoment;
 
 // Plans: the trace as little-endian bytes, decoded into `readings`; 0, or the number of the first refusal and every list as it
-// was.
+// was. Nothing is decoded before every number is known, and the plan call then checks once more: one pass without branches.
 #[no_mangle]
 pub extern "C" fn moments_plan_var(
     trace: &[u8],
@@ -41,13 +51,29 @@ pub extern "C" fn moments_plan_var(
     figures: &mut [f64],
     present: &mut [u8],
 ) -> u32
-    ensures { λ r. ⌜ CalledBytes (ask (now (starts .entry)) (now (ends .entry)) «min_periods» (Variance ddof)) (now (trace .entry)) «has_map» (now (map .entry))
-        (now (readings .entry)) (now (readings .exit)) (lent (now (figures .entry)) (now (present .entry)) (now (work .entry)))
-        (lent (now (figures .exit)) (now (present .exit)) (now (work .exit))) r ⌝ }
+    ensures { λ r. ⌜ CallsBytes (querying starts ends «min_periods» (Variance ddof)) (hosting trace «has_map» map)
+        (decoding readings) (lending work figures present) r ⌝ }
 {
-    rolling::plan_var_bytes(
-        trace,
-        readings,
+    if trace.len() % 8 != 0 {
+        return 14;
+    }
+    let n = trace.len() / 8;
+    let checked = plan::plan_refusal(
+        trace::array_refusal(n, has_map, map),
+        starts,
+        ends,
+        n,
+        readings.len() < n,
+        plan::shorter(figures.len(), present.len()),
+        VarianceMoment::PLACE,
+        work.len(),
+    );
+    if checked.number != 0 {
+        return checked.number;
+    }
+    float::decode(trace, readings);
+    rolling::plan_var(
+        &readings[..n],
         has_map,
         map,
         starts,
@@ -74,13 +100,29 @@ pub extern "C" fn moments_plan_skew(
     figures: &mut [f64],
     present: &mut [u8],
 ) -> u32
-    ensures { λ r. ⌜ CalledBytes (ask (now (starts .entry)) (now (ends .entry)) «min_periods» (Skewness bias)) (now (trace .entry)) «has_map» (now (map .entry))
-        (now (readings .entry)) (now (readings .exit)) (lent (now (figures .entry)) (now (present .entry)) (now (work .entry)))
-        (lent (now (figures .exit)) (now (present .exit)) (now (work .exit))) r ⌝ }
+    ensures { λ r. ⌜ CallsBytes (querying starts ends «min_periods» (Skewness bias)) (hosting trace «has_map» map)
+        (decoding readings) (lending work figures present) r ⌝ }
 {
-    rolling::plan_skew_bytes(
-        trace,
-        readings,
+    if trace.len() % 8 != 0 {
+        return 14;
+    }
+    let n = trace.len() / 8;
+    let checked = plan::plan_refusal(
+        trace::array_refusal(n, has_map, map),
+        starts,
+        ends,
+        n,
+        readings.len() < n,
+        plan::shorter(figures.len(), present.len()),
+        SkewMoment::PLACE,
+        work.len(),
+    );
+    if checked.number != 0 {
+        return checked.number;
+    }
+    float::decode(trace, readings);
+    rolling::plan_skew(
+        &readings[..n],
         has_map,
         map,
         starts,
@@ -108,13 +150,29 @@ pub extern "C" fn moments_plan_kurtosis(
     figures: &mut [f64],
     present: &mut [u8],
 ) -> u32
-    ensures { λ r. ⌜ CalledBytes (ask (now (starts .entry)) (now (ends .entry)) «min_periods» (Kurtosis fisher bias)) (now (trace .entry)) «has_map» (now (map .entry))
-        (now (readings .entry)) (now (readings .exit)) (lent (now (figures .entry)) (now (present .entry)) (now (work .entry)))
-        (lent (now (figures .exit)) (now (present .exit)) (now (work .exit))) r ⌝ }
+    ensures { λ r. ⌜ CallsBytes (querying starts ends «min_periods» (Kurtosis fisher bias)) (hosting trace «has_map» map)
+        (decoding readings) (lending work figures present) r ⌝ }
 {
-    rolling::plan_kurtosis_bytes(
-        trace,
-        readings,
+    if trace.len() % 8 != 0 {
+        return 14;
+    }
+    let n = trace.len() / 8;
+    let checked = plan::plan_refusal(
+        trace::array_refusal(n, has_map, map),
+        starts,
+        ends,
+        n,
+        readings.len() < n,
+        plan::shorter(figures.len(), present.len()),
+        KurtosisMoment::PLACE,
+        work.len(),
+    );
+    if checked.number != 0 {
+        return checked.number;
+    }
+    float::decode(trace, readings);
+    rolling::plan_kurtosis(
+        &readings[..n],
         has_map,
         map,
         starts,
@@ -142,8 +200,8 @@ pub extern "C" fn moments_rolling_var(
     figures: &mut [f64],
     present: &mut [u8],
 ) -> u32
-    ensures { λ r. ⌜ CalledFixed center «window_size» «min_periods» (Variance ddof) (traceOf (now (trace .entry)) «has_map» (now (map .entry)))
-        (lent (now (figures .entry)) (now (present .entry)) (now (work .entry))) (lent (now (figures .exit)) (now (present .exit)) (now (work .exit))) r ⌝ }
+    ensures { λ r. ⌜ CallsFixed center «window_size» «min_periods» (Variance ddof) (tracing trace «has_map» map)
+        (lending work figures present) r ⌝ }
 {
     rolling::rolling_var(
         trace,
@@ -172,8 +230,8 @@ pub extern "C" fn moments_rolling_skew(
     figures: &mut [f64],
     present: &mut [u8],
 ) -> u32
-    ensures { λ r. ⌜ CalledFixed center «window_size» «min_periods» (Skewness bias) (traceOf (now (trace .entry)) «has_map» (now (map .entry)))
-        (lent (now (figures .entry)) (now (present .entry)) (now (work .entry))) (lent (now (figures .exit)) (now (present .exit)) (now (work .exit))) r ⌝ }
+    ensures { λ r. ⌜ CallsFixed center «window_size» «min_periods» (Skewness bias) (tracing trace «has_map» map)
+        (lending work figures present) r ⌝ }
 {
     rolling::rolling_skew(
         trace,
@@ -203,8 +261,8 @@ pub extern "C" fn moments_rolling_kurtosis(
     figures: &mut [f64],
     present: &mut [u8],
 ) -> u32
-    ensures { λ r. ⌜ CalledFixed center «window_size» «min_periods» (Kurtosis fisher bias) (traceOf (now (trace .entry)) «has_map» (now (map .entry)))
-        (lent (now (figures .entry)) (now (present .entry)) (now (work .entry))) (lent (now (figures .exit)) (now (present .exit)) (now (work .exit))) r ⌝ }
+    ensures { λ r. ⌜ CallsFixed center «window_size» «min_periods» (Kurtosis fisher bias) (tracing trace «has_map» map)
+        (lending work figures present) r ⌝ }
 {
     rolling::rolling_kurtosis(
         trace,
@@ -233,10 +291,10 @@ pub extern "C" fn moments_rolling_var_weights(
     figures: &mut [f64],
     present: &mut [u8],
 ) -> u32
-    ensures { λ r. ⌜ CalledWeights center «window_size» «min_periods» (now (weights .entry)) (traceOf (now (trace .entry)) «has_map» (now (map .entry)))
-        (now (figures .entry)) (now (figures .exit)) (now (present .entry)) (now (present .exit)) r ⌝ }
+    ensures { λ r. ⌜ CallsWeights center «window_size» «min_periods» weights (tracing trace «has_map» map)
+        (lendingColumn figures present) r ⌝ }
 {
-    rolling::rolling_var_weights(
+    weighted::rolling_var_weights(
         trace,
         has_map,
         map,
@@ -251,7 +309,7 @@ pub extern "C" fn moments_rolling_var_weights(
 
 // Whole arrays and ranges: 0 and the state's members, or a refusal's number and the state as it was.
 fn store_var(answer: VarAnswer, state: &mut [f64; 3]) -> u32
-    ensures { λ r. ⌜ StateResult varNumber varMembers answer (now (state .entry)) r (now (state .exit)) ⌝ }
+    ensures { λ r. ⌜ StateResult varNumber varMembers answer (entering state) r (leaving state) ⌝ }
 {
     match answer {
         VarAnswer::State(s) => {
@@ -264,13 +322,14 @@ fn store_var(answer: VarAnswer, state: &mut [f64; 3]) -> u32
 
 #[no_mangle]
 pub extern "C" fn moments_var(trace: &[f64], has_map: bool, map: &[u8], state: &mut [f64; 3]) -> u32
-    ensures { λ r. ⌜ StateResult varNumber varMembers (varAnswer (now (trace .entry)) «has_map» (now (map .entry))) (now (state .entry)) r (now (state .exit)) ⌝ }
+    ensures { λ r. ⌜ StateResult varNumber varMembers (varAnswer (entering trace) «has_map» (entering map))
+        (entering state) r (leaving state) ⌝ }
 {
     store_var(moment::var(trace, has_map, map), state)
 }
 
 fn store_skew(answer: SkewAnswer, state: &mut [f64; 4]) -> u32
-    ensures { λ r. ⌜ StateResult skewNumber skewMembers answer (now (state .entry)) r (now (state .exit)) ⌝ }
+    ensures { λ r. ⌜ StateResult skewNumber skewMembers answer (entering state) r (leaving state) ⌝ }
 {
     match answer {
         SkewAnswer::State(s) => {
@@ -288,7 +347,8 @@ pub extern "C" fn moments_skew(
     map: &[u8],
     state: &mut [f64; 4],
 ) -> u32
-    ensures { λ r. ⌜ StateResult skewNumber skewMembers (skewAnswer (now (trace .entry)) «has_map» (now (map .entry))) (now (state .entry)) r (now (state .exit)) ⌝ }
+    ensures { λ r. ⌜ StateResult skewNumber skewMembers (skewAnswer (entering trace) «has_map» (entering map))
+        (entering state) r (leaving state) ⌝ }
 {
     store_skew(moment::skew(trace, has_map, map), state)
 }
@@ -302,7 +362,8 @@ pub extern "C" fn moments_skew_range(
     length: usize,
     state: &mut [f64; 4],
 ) -> u32
-    ensures { λ r. ⌜ StateResult skewNumber skewMembers (skewRange (now (trace .entry)) «has_map» (now (map .entry)) start length) (now (state .entry)) r (now (state .exit)) ⌝ }
+    ensures { λ r. ⌜ StateResult skewNumber skewMembers (skewRange (entering trace) «has_map» (entering map) start length)
+        (entering state) r (leaving state) ⌝ }
 {
     store_skew(
         SkewState::from_array(trace, has_map, map, start, length),
@@ -311,7 +372,7 @@ pub extern "C" fn moments_skew_range(
 }
 
 fn store_kurtosis(answer: KurtosisAnswer, state: &mut [f64; 5]) -> u32
-    ensures { λ r. ⌜ StateResult kurtosisNumber kurtosisMembers answer (now (state .entry)) r (now (state .exit)) ⌝ }
+    ensures { λ r. ⌜ StateResult kurtosisNumber kurtosisMembers answer (entering state) r (leaving state) ⌝ }
 {
     match answer {
         KurtosisAnswer::State(s) => {
@@ -329,7 +390,8 @@ pub extern "C" fn moments_kurtosis(
     map: &[u8],
     state: &mut [f64; 5],
 ) -> u32
-    ensures { λ r. ⌜ StateResult kurtosisNumber kurtosisMembers (kurtosisAnswer (now (trace .entry)) «has_map» (now (map .entry))) (now (state .entry)) r (now (state .exit)) ⌝ }
+    ensures { λ r. ⌜ StateResult kurtosisNumber kurtosisMembers (kurtosisAnswer (entering trace) «has_map» (entering map))
+        (entering state) r (leaving state) ⌝ }
 {
     store_kurtosis(moment::kurtosis(trace, has_map, map), state)
 }
@@ -343,7 +405,8 @@ pub extern "C" fn moments_kurtosis_range(
     length: usize,
     state: &mut [f64; 5],
 ) -> u32
-    ensures { λ r. ⌜ StateResult kurtosisNumber kurtosisMembers (kurtosisRange (now (trace .entry)) «has_map» (now (map .entry)) start length) (now (state .entry)) r (now (state .exit)) ⌝ }
+    ensures { λ r. ⌜ StateResult kurtosisNumber kurtosisMembers (kurtosisRange (entering trace) «has_map» (entering map) start length)
+        (entering state) r (leaving state) ⌝ }
 {
     store_kurtosis(
         KurtosisState::from_array(trace, has_map, map, start, length),
@@ -352,7 +415,7 @@ pub extern "C" fn moments_kurtosis_range(
 }
 
 fn store_cov(answer: CovAnswer, state: &mut [f64; 4]) -> u32
-    ensures { λ r. ⌜ StateResult covNumber covMembers answer (now (state .entry)) r (now (state .exit)) ⌝ }
+    ensures { λ r. ⌜ StateResult covNumber covMembers answer (entering state) r (leaving state) ⌝ }
 {
     match answer {
         CovAnswer::State(s) => {
@@ -373,13 +436,14 @@ pub extern "C" fn moments_cov(
     y_map: &[u8],
     state: &mut [f64; 4],
 ) -> u32
-    ensures { λ r. ⌜ StateResult covNumber covMembers (covAnswer (now (x .entry)) «x_has_map» (now («x_map» .entry)) (now (y .entry)) «y_has_map» (now («y_map» .entry))) (now (state .entry)) r (now (state .exit)) ⌝ }
+    ensures { λ r. ⌜ StateResult covNumber covMembers (covAnswer (entering x) «x_has_map» (entering «x_map»)
+        (entering y) «y_has_map» (entering «y_map»)) (entering state) r (leaving state) ⌝ }
 {
     store_cov(moment::cov(x, x_has_map, x_map, y, y_has_map, y_map), state)
 }
 
 fn store_pearson(answer: PearsonAnswer, state: &mut [f64; 6]) -> u32
-    ensures { λ r. ⌜ StateResult pearsonNumber pearsonMembers answer (now (state .entry)) r (now (state .exit)) ⌝ }
+    ensures { λ r. ⌜ StateResult pearsonNumber pearsonMembers answer (entering state) r (leaving state) ⌝ }
 {
     match answer {
         PearsonAnswer::State(s) => {
@@ -400,7 +464,8 @@ pub extern "C" fn moments_pearson_corr(
     y_map: &[u8],
     state: &mut [f64; 6],
 ) -> u32
-    ensures { λ r. ⌜ StateResult pearsonNumber pearsonMembers (pearsonAnswer (now (x .entry)) «x_has_map» (now («x_map» .entry)) (now (y .entry)) «y_has_map» (now («y_map» .entry))) (now (state .entry)) r (now (state .exit)) ⌝ }
+    ensures { λ r. ⌜ StateResult pearsonNumber pearsonMembers (pearsonAnswer (entering x) «x_has_map»
+        (entering «x_map») (entering y) «y_has_map» (entering «y_map»)) (entering state) r (leaving state) ⌝ }
 {
     store_pearson(
         moment::pearson_corr(x, x_has_map, x_map, y, y_has_map, y_map),

@@ -1,0 +1,2 @@
+-- Laws of the host call.
+pub mod HostCalls
