@@ -2,12 +2,12 @@
 // kurtosis), from 2 on the state's six words. Insert: 8 and 9 what is inserted, from 10 on the answer.
 // Combine: from 8 on the other state, from 14 on the answer. Finalize: 8 ddof, 9 biased, 10 fisher,
 // 11 present, 12 the figure.
-ghost use Prim.Native.Nat.{_<_};
 use crate::words::are;
 use crate::words::byte;
 use crate::words::double;
 use crate::words::flag;
 use crate::words::is;
+use crate::words::six;
 use crate::words::wide;
 use crate::words::word;
 use moment::CovState;
@@ -16,60 +16,50 @@ use moment::PearsonState;
 use moment::SkewState;
 use moment::VarState;
 
-fn var(rec: &[u8], k: usize) -> VarState
-    requires { ⌜ k < 32 ⌝ }
-{
+fn var(s: &[f64; 6]) -> VarState {
     VarState {
-        weight: double(rec, k),
-        mean: double(rec, k + 1),
-        dp: double(rec, k + 2),
+        weight: s[0],
+        mean: s[1],
+        dp: s[2],
     }
 }
 
-fn cov(rec: &[u8], k: usize) -> CovState
-    requires { ⌜ k < 32 ⌝ }
-{
+fn cov(s: &[f64; 6]) -> CovState {
     CovState {
-        weight: double(rec, k),
-        mean_x: double(rec, k + 1),
-        mean_y: double(rec, k + 2),
-        dp_xy: double(rec, k + 3),
+        weight: s[0],
+        mean_x: s[1],
+        mean_y: s[2],
+        dp_xy: s[3],
     }
 }
 
-fn pearson(rec: &[u8], k: usize) -> PearsonState
-    requires { ⌜ k < 32 ⌝ }
-{
+fn pearson(s: &[f64; 6]) -> PearsonState {
     PearsonState {
-        weight: double(rec, k),
-        mean_x: double(rec, k + 1),
-        mean_y: double(rec, k + 2),
-        dp_xx: double(rec, k + 3),
-        dp_xy: double(rec, k + 4),
-        dp_yy: double(rec, k + 5),
+        weight: s[0],
+        mean_x: s[1],
+        mean_y: s[2],
+        dp_xx: s[3],
+        dp_xy: s[4],
+        dp_yy: s[5],
     }
 }
 
-fn skew(rec: &[u8], k: usize) -> SkewState
-    requires { ⌜ k < 32 ⌝ }
-{
+fn skew(s: &[f64; 6]) -> SkewState {
     SkewState {
-        weight: double(rec, k),
-        mean: double(rec, k + 1),
-        m2: double(rec, k + 2),
-        m3: double(rec, k + 3),
+        weight: s[0],
+        mean: s[1],
+        m2: s[2],
+        m3: s[3],
     }
 }
 
-fn kurtosis(rec: &[u8], k: usize) -> KurtosisState
-    requires { ⌜ k < 32 ⌝ }
-{
+fn kurtosis(s: &[f64; 6]) -> KurtosisState {
     KurtosisState {
-        weight: double(rec, k),
-        mean: double(rec, k + 1),
-        m2: double(rec, k + 2),
-        m3: double(rec, k + 3),
-        m4: double(rec, k + 4),
+        weight: s[0],
+        mean: s[1],
+        m2: s[2],
+        m3: s[3],
+        m4: s[4],
     }
 }
 
@@ -98,52 +88,43 @@ fn is_kurtosis(rec: &[u8], k: usize, s: KurtosisState) -> bool {
 }
 
 pub fn insert(rec: &[u8]) -> bool {
+    let s = six(rec, 2);
     let x = double(rec, 8);
     let y = double(rec, 9);
     match word(rec, 1) {
-        0 => is_var(rec, 10, moments::moments_var_insert_one(var(rec, 2), x)),
-        1 => is_cov(rec, 10, moments::moments_cov_insert_one(cov(rec, 2), x, y)),
+        0 => is_var(rec, 10, moments::moments_var_insert_one(var(&s), x)),
+        1 => is_cov(rec, 10, moments::moments_cov_insert_one(cov(&s), x, y)),
         2 => is_pearson(
             rec,
             10,
-            moments::moments_pearson_insert_one(pearson(rec, 2), x, y),
+            moments::moments_pearson_insert_one(pearson(&s), x, y),
         ),
-        3 => is_skew(rec, 10, moments::moments_skew_insert_one(skew(rec, 2), x)),
+        3 => is_skew(rec, 10, moments::moments_skew_insert_one(skew(&s), x)),
         4 => is_kurtosis(
             rec,
             10,
-            moments::moments_kurtosis_insert_one(kurtosis(rec, 2), x),
+            moments::moments_kurtosis_insert_one(kurtosis(&s), x),
         ),
         _ => false,
     }
 }
 
 pub fn combine(rec: &[u8]) -> bool {
+    let s = six(rec, 2);
+    let o = six(rec, 8);
     match word(rec, 1) {
-        0 => is_var(
-            rec,
-            14,
-            moments::moments_var_combine(var(rec, 2), var(rec, 8)),
-        ),
-        1 => is_cov(
-            rec,
-            14,
-            moments::moments_cov_combine(cov(rec, 2), cov(rec, 8)),
-        ),
+        0 => is_var(rec, 14, moments::moments_var_combine(var(&s), var(&o))),
+        1 => is_cov(rec, 14, moments::moments_cov_combine(cov(&s), cov(&o))),
         2 => is_pearson(
             rec,
             14,
-            moments::moments_pearson_combine(pearson(rec, 2), pearson(rec, 8)),
+            moments::moments_pearson_combine(pearson(&s), pearson(&o)),
         ),
-        3 => is_skew(
-            rec,
-            14,
-            moments::moments_skew_combine(skew(rec, 2), skew(rec, 8)),
-        ),
+        3 => is_skew(rec, 14, moments::moments_skew_combine(skew(&s), skew(&o))),
         4 => is_kurtosis(
             rec,
             14,
-            moments::moments_kurtosis_combine(kurtosis(rec, 2), kurtosis(rec, 8)),
+            moments::moments_kurtosis_combine(kurtosis(&s), kurtosis(&o)),
         ),
         _ => false,
     }
@@ -151,16 +132,17 @@ pub fn combine(rec: &[u8]) -> bool {
 
 // The figure is lent as 1.0, so that a missing one is seen to be written.
 pub fn finalize(rec: &[u8]) -> bool {
+    let s = six(rec, 2);
     let ddof = byte(rec, 8);
     let bias = flag(rec, 9);
     let mut x = 1.0;
     let present = match word(rec, 1) {
-        0 => moments::moments_var_finalize(var(rec, 2), ddof, &mut x),
-        1 => moments::moments_cov_finalize(cov(rec, 2), ddof, &mut x),
-        3 => moments::moments_skew_finalize(skew(rec, 2), bias, &mut x),
-        4 => moments::moments_kurtosis_finalize(kurtosis(rec, 2), flag(rec, 10), bias, &mut x),
+        0 => moments::moments_var_finalize(var(&s), ddof, &mut x),
+        1 => moments::moments_cov_finalize(cov(&s), ddof, &mut x),
+        3 => moments::moments_skew_finalize(skew(&s), bias, &mut x),
+        4 => moments::moments_kurtosis_finalize(kurtosis(&s), flag(rec, 10), bias, &mut x),
         _ => {
-            x = moments::moments_pearson_finalize(pearson(rec, 2));
+            x = moments::moments_pearson_finalize(pearson(&s));
             1
         }
     };
