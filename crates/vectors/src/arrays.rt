@@ -2,13 +2,15 @@
 // kurtosis), 2 the readings of the first trace, 3 whether it has a map, 4 the map's bytes, 5 to 7 the
 // same for the second trace, 8 and 9 a range's start and length, 10 to 15 what the lent state holds,
 // 16 the number answered, 17 to 22 what the state holds then. From 23 on: trace, map, trace, map.
+use crate::states::is_kurtosis;
+use crate::states::is_skew;
+use crate::states::is_var;
 use crate::words::are;
 use crate::words::bytes;
 use crate::words::count;
 use crate::words::double;
 use crate::words::doubles;
 use crate::words::flag;
-use crate::words::six;
 use crate::words::word;
 use moment::KurtosisState;
 use moment::SkewState;
@@ -39,18 +41,9 @@ fn answered6(rec: &[u8], code: u32, state: &[f64; 6]) -> bool {
 
 fn new(rec: &[u8], x: &[f64]) -> bool {
     match word(rec, 1) {
-        0 => {
-            let s = VarState::new(x);
-            are(rec, 17, &[s.weight, s.mean, s.dp])
-        }
-        3 => {
-            let s = SkewState::new(x);
-            are(rec, 17, &[s.weight, s.mean, s.m2, s.m3])
-        }
-        4 => {
-            let s = KurtosisState::new(x);
-            are(rec, 17, &[s.weight, s.mean, s.m2, s.m3, s.m4])
-        }
+        0 => is_var(rec, 17, VarState::new(x)),
+        3 => is_skew(rec, 17, SkewState::new(x)),
+        4 => is_kurtosis(rec, 17, KurtosisState::new(x)),
         _ => false,
     }
 }
@@ -75,6 +68,17 @@ fn five(rec: &[u8]) -> [f64; 5] {
         double(rec, 12),
         double(rec, 13),
         double(rec, 14),
+    ]
+}
+
+fn six(rec: &[u8]) -> [f64; 6] {
+    [
+        double(rec, 10),
+        double(rec, 11),
+        double(rec, 12),
+        double(rec, 13),
+        double(rec, 14),
+        double(rec, 15),
     ]
 }
 
@@ -136,7 +140,7 @@ fn cov(rec: &[u8], x: &[f64], x_map: &[u8], y: &[f64], y_map: &[u8]) -> bool {
 }
 
 fn pearson_corr(rec: &[u8], x: &[f64], x_map: &[u8], y: &[f64], y_map: &[u8]) -> bool {
-    let mut state = six(rec, 10);
+    let mut state = six(rec);
     let code = moments::moments_pearson_corr(
         x,
         flag(rec, 3),

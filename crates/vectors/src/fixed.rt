@@ -2,16 +2,31 @@
 // trace in doubles, 13 the weights, 15 the window size, 16 whether windows are centred; no readings are decoded. Bounds: word 1
 // is the window size, 2 whether windows are centred, 3 how many readings there are, 4 the row, 5 and 6 where its window
 // starts and ends.
+use crate::lent::Settings;
 use crate::lent::answered;
-use crate::words::byte;
 use crate::words::bytes;
 use crate::words::count;
 use crate::words::doubles;
 use crate::words::flag;
 use crate::words::word;
 
+struct Window {
+    size: usize,
+    center: bool,
+}
+
+impl Window {
+    fn of(rec: &[u8]) -> Window {
+        Window {
+            size: word(rec, 15) as usize,
+            center: flag(rec, 16),
+        }
+    }
+}
+
 fn call(
-    rec: &[u8],
+    s: Settings,
+    w: Window,
     trace: &[f64],
     map: &[u8],
     weights: &[f64],
@@ -19,56 +34,52 @@ fn call(
     figures: &mut [f64],
     present: &mut [u8],
 ) -> u32 {
-    let bias = flag(rec, 3);
-    let min = word(rec, 5) as usize;
-    let has_map = flag(rec, 6);
-    let size = word(rec, 15) as usize;
-    let center = flag(rec, 16);
-    match word(rec, 1) {
+    let figure = s.figure;
+    match figure {
         0 => moments::moments_rolling_var(
             trace,
-            has_map,
+            s.has_map,
             map,
-            size,
-            min,
-            center,
-            byte(rec, 2),
+            w.size,
+            s.min,
+            w.center,
+            s.ddof,
             work,
             figures,
             present,
         ),
         1 => moments::moments_rolling_skew(
             trace,
-            has_map,
+            s.has_map,
             map,
-            size,
-            min,
-            center,
-            bias,
+            w.size,
+            s.min,
+            w.center,
+            s.bias,
             work,
             figures,
             present,
         ),
         2 => moments::moments_rolling_kurtosis(
             trace,
-            has_map,
+            s.has_map,
             map,
-            size,
-            min,
-            center,
-            flag(rec, 4),
-            bias,
+            w.size,
+            s.min,
+            w.center,
+            s.fisher,
+            s.bias,
             work,
             figures,
             present,
         ),
         _ => moments::moments_rolling_var_weights(
             trace,
-            has_map,
+            s.has_map,
             map,
-            size,
-            min,
-            center,
+            w.size,
+            s.min,
+            w.center,
             weights,
             figures,
             present,
@@ -85,7 +96,17 @@ fn replay(
     figures: &mut [f64],
     present: &mut [u8],
 ) -> bool {
-    let number = call(rec, trace, map, weights, work, figures, present);
+    let s = Settings::of(rec);
+    let number = call(
+        s,
+        Window::of(rec),
+        trace,
+        map,
+        weights,
+        work,
+        figures,
+        present,
+    );
     answered(rec, number, work, figures, present)
 }
 

@@ -2,12 +2,12 @@
 // kurtosis), from 2 on the state's six words. Insert: 8 and 9 what is inserted, from 10 on the answer.
 // Combine: from 8 on the other state, from 14 on the answer. Finalize: 8 ddof, 9 biased, 10 fisher,
 // 11 present, 12 the figure.
+ghost use Prim.Native.Nat.{_<_};
 use crate::words::are;
 use crate::words::byte;
 use crate::words::double;
 use crate::words::flag;
 use crate::words::is;
-use crate::words::six;
 use crate::words::wide;
 use crate::words::word;
 use moment::CovState;
@@ -16,62 +16,72 @@ use moment::PearsonState;
 use moment::SkewState;
 use moment::VarState;
 
-fn var(s: &[f64; 6]) -> VarState {
+fn var(rec: &[u8], k: usize) -> VarState
+    requires { ⌜ k < 32 ⌝ }
+{
     VarState {
-        weight: s[0],
-        mean: s[1],
-        dp: s[2],
+        weight: double(rec, k),
+        mean: double(rec, k + 1),
+        dp: double(rec, k + 2),
     }
 }
 
-fn cov(s: &[f64; 6]) -> CovState {
+fn cov(rec: &[u8], k: usize) -> CovState
+    requires { ⌜ k < 32 ⌝ }
+{
     CovState {
-        weight: s[0],
-        mean_x: s[1],
-        mean_y: s[2],
-        dp_xy: s[3],
+        weight: double(rec, k),
+        mean_x: double(rec, k + 1),
+        mean_y: double(rec, k + 2),
+        dp_xy: double(rec, k + 3),
     }
 }
 
-fn pearson(s: &[f64; 6]) -> PearsonState {
+fn pearson(rec: &[u8], k: usize) -> PearsonState
+    requires { ⌜ k < 32 ⌝ }
+{
     PearsonState {
-        weight: s[0],
-        mean_x: s[1],
-        mean_y: s[2],
-        dp_xx: s[3],
-        dp_xy: s[4],
-        dp_yy: s[5],
+        weight: double(rec, k),
+        mean_x: double(rec, k + 1),
+        mean_y: double(rec, k + 2),
+        dp_xx: double(rec, k + 3),
+        dp_xy: double(rec, k + 4),
+        dp_yy: double(rec, k + 5),
     }
 }
 
-fn skew(s: &[f64; 6]) -> SkewState {
+fn skew(rec: &[u8], k: usize) -> SkewState
+    requires { ⌜ k < 32 ⌝ }
+{
     SkewState {
-        weight: s[0],
-        mean: s[1],
-        m2: s[2],
-        m3: s[3],
+        weight: double(rec, k),
+        mean: double(rec, k + 1),
+        m2: double(rec, k + 2),
+        m3: double(rec, k + 3),
     }
 }
 
-fn kurtosis(s: &[f64; 6]) -> KurtosisState {
+fn kurtosis(rec: &[u8], k: usize) -> KurtosisState
+    requires { ⌜ k < 32 ⌝ }
+{
     KurtosisState {
-        weight: s[0],
-        mean: s[1],
-        m2: s[2],
-        m3: s[3],
-        m4: s[4],
+        weight: double(rec, k),
+        mean: double(rec, k + 1),
+        m2: double(rec, k + 2),
+        m3: double(rec, k + 3),
+        m4: double(rec, k + 4),
     }
 }
 
-fn is_var(rec: &[u8], k: usize, s: VarState) -> bool {
+pub fn is_var(rec: &[u8], k: usize, s: VarState) -> bool {
     are(rec, k, &[s.weight, s.mean, s.dp])
 }
 
-fn is_cov(rec: &[u8], k: usize, s: CovState) -> bool {
+pub fn is_cov(rec: &[u8], k: usize, s: CovState) -> bool {
     are(rec, k, &[s.weight, s.mean_x, s.mean_y, s.dp_xy])
 }
 
-fn is_pearson(rec: &[u8], k: usize, s: PearsonState) -> bool {
+pub fn is_pearson(rec: &[u8], k: usize, s: PearsonState) -> bool {
     are(
         rec,
         k,
@@ -79,75 +89,157 @@ fn is_pearson(rec: &[u8], k: usize, s: PearsonState) -> bool {
     )
 }
 
-fn is_skew(rec: &[u8], k: usize, s: SkewState) -> bool {
+pub fn is_skew(rec: &[u8], k: usize, s: SkewState) -> bool {
     are(rec, k, &[s.weight, s.mean, s.m2, s.m3])
 }
 
-fn is_kurtosis(rec: &[u8], k: usize, s: KurtosisState) -> bool {
+pub fn is_kurtosis(rec: &[u8], k: usize, s: KurtosisState) -> bool {
     are(rec, k, &[s.weight, s.mean, s.m2, s.m3, s.m4])
 }
 
+fn insert_var(rec: &[u8]) -> bool {
+    is_var(
+        rec,
+        10,
+        moments::moments_var_insert_one(var(rec, 2), double(rec, 8)),
+    )
+}
+
+fn insert_cov(rec: &[u8]) -> bool {
+    let s = cov(rec, 2);
+    is_cov(
+        rec,
+        10,
+        moments::moments_cov_insert_one(s, double(rec, 8), double(rec, 9)),
+    )
+}
+
+fn insert_pearson(rec: &[u8]) -> bool {
+    let s = pearson(rec, 2);
+    is_pearson(
+        rec,
+        10,
+        moments::moments_pearson_insert_one(s, double(rec, 8), double(rec, 9)),
+    )
+}
+
+fn insert_skew(rec: &[u8]) -> bool {
+    is_skew(
+        rec,
+        10,
+        moments::moments_skew_insert_one(skew(rec, 2), double(rec, 8)),
+    )
+}
+
+fn insert_kurtosis(rec: &[u8]) -> bool {
+    is_kurtosis(
+        rec,
+        10,
+        moments::moments_kurtosis_insert_one(kurtosis(rec, 2), double(rec, 8)),
+    )
+}
+
 pub fn insert(rec: &[u8]) -> bool {
-    let s = six(rec, 2);
-    let x = double(rec, 8);
-    let y = double(rec, 9);
     match word(rec, 1) {
-        0 => is_var(rec, 10, moments::moments_var_insert_one(var(&s), x)),
-        1 => is_cov(rec, 10, moments::moments_cov_insert_one(cov(&s), x, y)),
-        2 => is_pearson(
-            rec,
-            10,
-            moments::moments_pearson_insert_one(pearson(&s), x, y),
-        ),
-        3 => is_skew(rec, 10, moments::moments_skew_insert_one(skew(&s), x)),
-        4 => is_kurtosis(
-            rec,
-            10,
-            moments::moments_kurtosis_insert_one(kurtosis(&s), x),
-        ),
+        0 => insert_var(rec),
+        1 => insert_cov(rec),
+        2 => insert_pearson(rec),
+        3 => insert_skew(rec),
+        4 => insert_kurtosis(rec),
         _ => false,
     }
+}
+
+fn combine_var(rec: &[u8]) -> bool {
+    is_var(
+        rec,
+        14,
+        moments::moments_var_combine(var(rec, 2), var(rec, 8)),
+    )
+}
+
+fn combine_cov(rec: &[u8]) -> bool {
+    is_cov(
+        rec,
+        14,
+        moments::moments_cov_combine(cov(rec, 2), cov(rec, 8)),
+    )
+}
+
+fn combine_pearson(rec: &[u8]) -> bool {
+    is_pearson(
+        rec,
+        14,
+        moments::moments_pearson_combine(pearson(rec, 2), pearson(rec, 8)),
+    )
+}
+
+fn combine_skew(rec: &[u8]) -> bool {
+    is_skew(
+        rec,
+        14,
+        moments::moments_skew_combine(skew(rec, 2), skew(rec, 8)),
+    )
+}
+
+fn combine_kurtosis(rec: &[u8]) -> bool {
+    is_kurtosis(
+        rec,
+        14,
+        moments::moments_kurtosis_combine(kurtosis(rec, 2), kurtosis(rec, 8)),
+    )
 }
 
 pub fn combine(rec: &[u8]) -> bool {
-    let s = six(rec, 2);
-    let o = six(rec, 8);
     match word(rec, 1) {
-        0 => is_var(rec, 14, moments::moments_var_combine(var(&s), var(&o))),
-        1 => is_cov(rec, 14, moments::moments_cov_combine(cov(&s), cov(&o))),
-        2 => is_pearson(
-            rec,
-            14,
-            moments::moments_pearson_combine(pearson(&s), pearson(&o)),
-        ),
-        3 => is_skew(rec, 14, moments::moments_skew_combine(skew(&s), skew(&o))),
-        4 => is_kurtosis(
-            rec,
-            14,
-            moments::moments_kurtosis_combine(kurtosis(&s), kurtosis(&o)),
-        ),
+        0 => combine_var(rec),
+        1 => combine_cov(rec),
+        2 => combine_pearson(rec),
+        3 => combine_skew(rec),
+        4 => combine_kurtosis(rec),
         _ => false,
     }
 }
 
-// The figure is lent as 1.0, so that a missing one is seen to be written.
-pub fn finalize(rec: &[u8]) -> bool {
-    let s = six(rec, 2);
-    let ddof = byte(rec, 8);
-    let bias = flag(rec, 9);
-    let mut x = 1.0;
-    let present = match word(rec, 1) {
-        0 => moments::moments_var_finalize(var(&s), ddof, &mut x),
-        1 => moments::moments_cov_finalize(cov(&s), ddof, &mut x),
-        3 => moments::moments_skew_finalize(skew(&s), bias, &mut x),
-        4 => moments::moments_kurtosis_finalize(kurtosis(&s), flag(rec, 10), bias, &mut x),
-        _ => {
-            x = moments::moments_pearson_finalize(pearson(&s));
-            1
-        }
-    };
+fn answered(rec: &[u8], present: u8, figure: f64) -> bool {
     if wide(present) == word(rec, 11) {
-        return is(rec, 12, x);
+        return is(rec, 12, figure);
     }
     false
+}
+
+// Here and below the figure is lent as 1.0, so that a missing one is seen to be written.
+fn finalize_var(rec: &[u8]) -> bool {
+    let mut x = 1.0;
+    let present = moments::moments_var_finalize(var(rec, 2), byte(rec, 8), &mut x);
+    answered(rec, present, x)
+}
+
+fn finalize_cov(rec: &[u8]) -> bool {
+    let mut x = 1.0;
+    let present = moments::moments_cov_finalize(cov(rec, 2), byte(rec, 8), &mut x);
+    answered(rec, present, x)
+}
+
+fn finalize_skew(rec: &[u8]) -> bool {
+    let mut x = 1.0;
+    let present = moments::moments_skew_finalize(skew(rec, 2), flag(rec, 9), &mut x);
+    answered(rec, present, x)
+}
+
+fn finalize_kurtosis(rec: &[u8]) -> bool {
+    let s = kurtosis(rec, 2);
+    let mut x = 1.0;
+    let present = moments::moments_kurtosis_finalize(s, flag(rec, 10), flag(rec, 9), &mut x);
+    answered(rec, present, x)
+}
+
+pub fn finalize(rec: &[u8]) -> bool {
+    match word(rec, 1) {
+        0 => finalize_var(rec),
+        1 => finalize_cov(rec),
+        3 => finalize_skew(rec),
+        4 => finalize_kurtosis(rec),
+        _ => answered(rec, 1, moments::moments_pearson_finalize(pearson(rec, 2))),
+    }
 }

@@ -104,12 +104,6 @@ pub fn doubles(list: &[u8], from: usize, n: usize) -> [f64; 1024]
     out
 }
 
-// The state's six words from word `from` on.
-pub fn six(list: &[u8], from: usize) -> [f64; 6] {
-    let w = doubles(list, from, 6);
-    [w[0], w[1], w[2], w[3], w[4], w[5]]
-}
-
 fn number(list: &[u8], k: usize) -> u32 {
     (word(list, k) % 4294967296) as u32
 }
