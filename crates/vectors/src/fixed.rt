@@ -2,31 +2,16 @@
 // trace in doubles, 13 the weights, 15 the window size, 16 whether windows are centred; no readings are decoded. Bounds: word 1
 // is the window size, 2 whether windows are centred, 3 how many readings there are, 4 the row, 5 and 6 where its window
 // starts and ends.
-use crate::lent::Settings;
 use crate::lent::answered;
+use crate::words::byte;
 use crate::words::bytes;
 use crate::words::count;
 use crate::words::doubles;
 use crate::words::flag;
 use crate::words::word;
 
-struct Window {
-    size: usize,
-    center: bool,
-}
-
-impl Window {
-    fn of(rec: &[u8]) -> Window {
-        Window {
-            size: word(rec, 15) as usize,
-            center: flag(rec, 16),
-        }
-    }
-}
-
 fn call(
-    s: Settings,
-    w: Window,
+    rec: &[u8],
     trace: &[f64],
     map: &[u8],
     weights: &[f64],
@@ -34,52 +19,56 @@ fn call(
     figures: &mut [f64],
     present: &mut [u8],
 ) -> u32 {
-    let figure = s.figure;
-    match figure {
+    let bias = flag(rec, 3);
+    let min = word(rec, 5) as usize;
+    let has_map = flag(rec, 6);
+    let size = word(rec, 15) as usize;
+    let center = flag(rec, 16);
+    match word(rec, 1) {
         0 => moments::moments_rolling_var(
             trace,
-            s.has_map,
+            has_map,
             map,
-            w.size,
-            s.min,
-            w.center,
-            s.ddof,
+            size,
+            min,
+            center,
+            byte(rec, 2),
             work,
             figures,
             present,
         ),
         1 => moments::moments_rolling_skew(
             trace,
-            s.has_map,
+            has_map,
             map,
-            w.size,
-            s.min,
-            w.center,
-            s.bias,
+            size,
+            min,
+            center,
+            bias,
             work,
             figures,
             present,
         ),
         2 => moments::moments_rolling_kurtosis(
             trace,
-            s.has_map,
+            has_map,
             map,
-            w.size,
-            s.min,
-            w.center,
-            s.fisher,
-            s.bias,
+            size,
+            min,
+            center,
+            flag(rec, 4),
+            bias,
             work,
             figures,
             present,
         ),
         _ => moments::moments_rolling_var_weights(
             trace,
-            s.has_map,
+            has_map,
             map,
-            w.size,
-            s.min,
-            w.center,
+            size,
+            min,
+            center,
             weights,
             figures,
             present,
@@ -96,17 +85,7 @@ fn replay(
     figures: &mut [f64],
     present: &mut [u8],
 ) -> bool {
-    let s = Settings::of(rec);
-    let number = call(
-        s,
-        Window::of(rec),
-        trace,
-        map,
-        weights,
-        work,
-        figures,
-        present,
-    );
+    let number = call(rec, trace, map, weights, work, figures, present);
     answered(rec, number, work, figures, present)
 }
 

@@ -1,34 +1,10 @@
-// What a call on windows is asked, and what it leaves in the lists that it is lent. The records of plan, fixed and weighted have
-// these words alike: 1 the figure, 2 ddof, 3 bias, 4 fisher, 5 the minimum, 6 whether a map is lent, 7 the number answered, 8 how many doubles of the work slice may then hold anything, 17 the word from which on stands what the lent
+// What a call on windows leaves in the lists that it is lent. The records of plan, fixed and weighted have these words alike: 7 the
+// number answered, 8 how many doubles of the work slice may then hold anything, 17 the word from which on stands what the lent
 // lists hold before the call, 21 and 23 those from which on stands what the figures and the present bytes are after it.
 use crate::words::are;
 use crate::words::are_bytes;
-use crate::words::byte;
 use crate::words::count;
-use crate::words::flag;
 use crate::words::word;
-
-pub struct Settings {
-    pub figure: u64,
-    pub ddof: u8,
-    pub bias: bool,
-    pub fisher: bool,
-    pub min: usize,
-    pub has_map: bool,
-}
-
-impl Settings {
-    pub fn of(rec: &[u8]) -> Settings {
-        Settings {
-            figure: word(rec, 1),
-            ddof: byte(rec, 2),
-            bias: flag(rec, 3),
-            fisher: flag(rec, 4),
-            min: word(rec, 5) as usize,
-            has_map: flag(rec, 6),
-        }
-    }
-}
 
 // Whether the work slice holds past its free part what it held.
 fn kept(rec: &[u8], work: &[f64]) -> bool {

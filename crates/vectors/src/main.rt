@@ -81,24 +81,16 @@ fn replay(kind: u8, name: &[u8]) {
     report(kind, name, &list[..n]);
 }
 
-fn of_states() {
+fn main() {
     replay(0, b"root");
     replay(1, b"new");
     replay(2, b"insert");
     replay(3, b"combine");
     replay(4, b"finalize");
-}
-
-fn of_windows() {
+    replay(5, b"whole");
+    replay(6, b"range");
     replay(7, b"plan");
     replay(8, b"fixed");
     replay(9, b"weighted");
     replay(10, b"bounds");
-}
-
-fn main() {
-    of_states();
-    replay(5, b"whole");
-    replay(6, b"range");
-    of_windows();
 }

@@ -4,16 +4,18 @@
 // (eight bytes a word), 11 map, 13 starts, 15 ends, 17 work, 19 readings, 21 figures, 23 present. What
 // stands at 19 to 23 is what these lists hold after the call. What stands at 17 is what all four that
 // are lent hold before it, each from its first word on, and the work slice past its free part after it.
-use crate::lent::Settings;
 use crate::lent::answered;
 use crate::words::are;
+use crate::words::byte;
 use crate::words::bytes;
 use crate::words::count;
 use crate::words::doubles;
+use crate::words::flag;
 use crate::words::numbers;
+use crate::words::word;
 
 fn call(
-    s: Settings,
+    rec: &[u8],
     trace: &[u8],
     readings: &mut [f64],
     map: &[u8],
@@ -23,17 +25,19 @@ fn call(
     figures: &mut [f64],
     present: &mut [u8],
 ) -> u32 {
-    let figure = s.figure;
-    match figure {
+    let bias = flag(rec, 3);
+    let min = word(rec, 5) as usize;
+    let has_map = flag(rec, 6);
+    match word(rec, 1) {
         0 => moments::moments_plan_var(
             trace,
             readings,
-            s.has_map,
+            has_map,
             map,
             starts,
             ends,
-            s.min,
-            s.ddof,
+            min,
+            byte(rec, 2),
             work,
             figures,
             present,
@@ -41,12 +45,12 @@ fn call(
         1 => moments::moments_plan_skew(
             trace,
             readings,
-            s.has_map,
+            has_map,
             map,
             starts,
             ends,
-            s.min,
-            s.bias,
+            min,
+            bias,
             work,
             figures,
             present,
@@ -54,13 +58,13 @@ fn call(
         _ => moments::moments_plan_kurtosis(
             trace,
             readings,
-            s.has_map,
+            has_map,
             map,
             starts,
             ends,
-            s.min,
-            s.fisher,
-            s.bias,
+            min,
+            flag(rec, 4),
+            bias,
             work,
             figures,
             present,
@@ -79,9 +83,8 @@ fn replay(
     figures: &mut [f64],
     present: &mut [u8],
 ) -> bool {
-    let s = Settings::of(rec);
     let number = call(
-        s,
+        rec,
         trace,
         readings,
         map,
