@@ -87,144 +87,66 @@ pub fn is_kurtosis(rec: &[u8], k: usize, s: KurtosisState) -> bool {
     are(rec, k, &[s.weight, s.mean, s.m2, s.m3, s.m4])
 }
 
-fn insert_var(rec: &[u8]) -> bool {
-    is_var(
-        rec,
-        10,
-        moments::moments_var_insert_one(var(rec), double(rec, 8)),
-    )
-}
-
-fn insert_cov(rec: &[u8]) -> bool {
-    let s = cov(rec);
-    is_cov(
-        rec,
-        10,
-        moments::moments_cov_insert_one(s, double(rec, 8), double(rec, 9)),
-    )
-}
-
-fn insert_pearson(rec: &[u8]) -> bool {
-    let s = pearson(rec);
-    is_pearson(
-        rec,
-        10,
-        moments::moments_pearson_insert_one(s, double(rec, 8), double(rec, 9)),
-    )
-}
-
-fn insert_skew(rec: &[u8]) -> bool {
-    is_skew(
-        rec,
-        10,
-        moments::moments_skew_insert_one(skew(rec), double(rec, 8)),
-    )
-}
-
-fn insert_kurtosis(rec: &[u8]) -> bool {
-    is_kurtosis(
-        rec,
-        10,
-        moments::moments_kurtosis_insert_one(kurtosis(rec), double(rec, 8)),
-    )
-}
-
 pub fn insert(rec: &[u8]) -> bool {
+    let x = double(rec, 8);
+    let y = double(rec, 9);
     match word(rec, 1) {
-        0 => insert_var(rec),
-        1 => insert_cov(rec),
-        2 => insert_pearson(rec),
-        3 => insert_skew(rec),
-        4 => insert_kurtosis(rec),
+        0 => is_var(rec, 10, moments::moments_var_insert_one(var(rec), x)),
+        1 => is_cov(rec, 10, moments::moments_cov_insert_one(cov(rec), x, y)),
+        2 => is_pearson(
+            rec,
+            10,
+            moments::moments_pearson_insert_one(pearson(rec), x, y),
+        ),
+        3 => is_skew(rec, 10, moments::moments_skew_insert_one(skew(rec), x)),
+        4 => is_kurtosis(
+            rec,
+            10,
+            moments::moments_kurtosis_insert_one(kurtosis(rec), x),
+        ),
         _ => false,
     }
-}
-
-fn combine_var(rec: &[u8], other: &[u8]) -> bool {
-    is_var(rec, 14, moments::moments_var_combine(var(rec), var(other)))
-}
-
-fn combine_cov(rec: &[u8], other: &[u8]) -> bool {
-    is_cov(rec, 14, moments::moments_cov_combine(cov(rec), cov(other)))
-}
-
-fn combine_pearson(rec: &[u8], other: &[u8]) -> bool {
-    is_pearson(
-        rec,
-        14,
-        moments::moments_pearson_combine(pearson(rec), pearson(other)),
-    )
-}
-
-fn combine_skew(rec: &[u8], other: &[u8]) -> bool {
-    is_skew(
-        rec,
-        14,
-        moments::moments_skew_combine(skew(rec), skew(other)),
-    )
-}
-
-fn combine_kurtosis(rec: &[u8], other: &[u8]) -> bool {
-    is_kurtosis(
-        rec,
-        14,
-        moments::moments_kurtosis_combine(kurtosis(rec), kurtosis(other)),
-    )
 }
 
 // Six words on, the other state stands where the first does.
 pub fn combine(rec: &[u8]) -> bool {
     let at = reach(rec, 6);
-    let other = &rec[at..];
+    let o = &rec[at..];
     match word(rec, 1) {
-        0 => combine_var(rec, other),
-        1 => combine_cov(rec, other),
-        2 => combine_pearson(rec, other),
-        3 => combine_skew(rec, other),
-        4 => combine_kurtosis(rec, other),
+        0 => is_var(rec, 14, moments::moments_var_combine(var(rec), var(o))),
+        1 => is_cov(rec, 14, moments::moments_cov_combine(cov(rec), cov(o))),
+        2 => is_pearson(
+            rec,
+            14,
+            moments::moments_pearson_combine(pearson(rec), pearson(o)),
+        ),
+        3 => is_skew(rec, 14, moments::moments_skew_combine(skew(rec), skew(o))),
+        4 => is_kurtosis(
+            rec,
+            14,
+            moments::moments_kurtosis_combine(kurtosis(rec), kurtosis(o)),
+        ),
         _ => false,
     }
 }
 
-fn answered(rec: &[u8], present: u8, figure: f64) -> bool {
+// The figure is lent as 1.0, so that a missing one is seen to be written.
+pub fn finalize(rec: &[u8]) -> bool {
+    let ddof = byte(rec, 8);
+    let bias = flag(rec, 9);
+    let mut x = 1.0;
+    let present = match word(rec, 1) {
+        0 => moments::moments_var_finalize(var(rec), ddof, &mut x),
+        1 => moments::moments_cov_finalize(cov(rec), ddof, &mut x),
+        3 => moments::moments_skew_finalize(skew(rec), bias, &mut x),
+        4 => moments::moments_kurtosis_finalize(kurtosis(rec), flag(rec, 10), bias, &mut x),
+        _ => {
+            x = moments::moments_pearson_finalize(pearson(rec));
+            1
+        }
+    };
     if wide(present) == word(rec, 11) {
-        return is(rec, 12, figure);
+        return is(rec, 12, x);
     }
     false
-}
-
-// Here and below the figure is lent as 1.0, so that a missing one is seen to be written.
-fn finalize_var(rec: &[u8]) -> bool {
-    let mut x = 1.0;
-    let present = moments::moments_var_finalize(var(rec), byte(rec, 8), &mut x);
-    answered(rec, present, x)
-}
-
-fn finalize_cov(rec: &[u8]) -> bool {
-    let mut x = 1.0;
-    let present = moments::moments_cov_finalize(cov(rec), byte(rec, 8), &mut x);
-    answered(rec, present, x)
-}
-
-fn finalize_skew(rec: &[u8]) -> bool {
-    let mut x = 1.0;
-    let present = moments::moments_skew_finalize(skew(rec), flag(rec, 9), &mut x);
-    answered(rec, present, x)
-}
-
-fn finalize_kurtosis(rec: &[u8]) -> bool {
-    let s = kurtosis(rec);
-    let mut x = 1.0;
-    let present = moments::moments_kurtosis_finalize(s, flag(rec, 10), flag(rec, 9), &mut x);
-    answered(rec, present, x)
-}
-
-pub fn finalize(rec: &[u8]) -> bool {
-    match word(rec, 1) {
-        0 => finalize_var(rec),
-        1 => finalize_cov(rec),
-        3 => finalize_skew(rec),
-        4 => finalize_kurtosis(rec),
-        _ => answered(rec, 1, moments::moments_pearson_finalize(pearson(rec))),
-    }
 }
