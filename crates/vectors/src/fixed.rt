@@ -92,11 +92,9 @@ fn replay(
 fn outputs(rec: &[u8], trace: &[f64], map: &[u8], weights: &[f64], work: &mut [f64]) -> bool {
     let held = count(rec, 17);
     let f = count(rec, 22);
-    let mut figures = [0.0; 1024];
-    doubles(rec, held, f, &mut figures);
+    let mut figures = doubles(rec, held, f);
     let p = count(rec, 24);
-    let mut present = [0u8; 1024];
-    bytes(rec, held, p, &mut present);
+    let mut present = bytes(rec, held, false, p);
     replay(
         rec,
         trace,
@@ -111,21 +109,17 @@ fn outputs(rec: &[u8], trace: &[f64], map: &[u8], weights: &[f64], work: &mut [f
 // Weights are lent no work slice: the one of their records has no places.
 fn lists(rec: &[u8], trace: &[f64], map: &[u8]) -> bool {
     let n = count(rec, 14);
-    let mut weights = [0.0; 1024];
-    doubles(rec, count(rec, 13), n, &mut weights);
+    let weights = doubles(rec, count(rec, 13), n);
     let w = count(rec, 18);
-    let mut work = [0.0; 1024];
-    doubles(rec, count(rec, 17), w, &mut work);
+    let mut work = doubles(rec, count(rec, 17), w);
     outputs(rec, trace, map, &weights[..n], &mut work[..w])
 }
 
 pub fn agrees(rec: &[u8]) -> bool {
     let n = count(rec, 10);
-    let mut trace = [0.0; 1024];
-    doubles(rec, count(rec, 9), n, &mut trace);
+    let trace = doubles(rec, count(rec, 9), n);
     let m = count(rec, 12);
-    let mut map = [0u8; 1024];
-    bytes(rec, count(rec, 11), m, &mut map);
+    let map = bytes(rec, count(rec, 11), false, m);
     lists(rec, &trace[..n], &map[..m])
 }
 

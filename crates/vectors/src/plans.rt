@@ -12,7 +12,6 @@ use crate::words::count;
 use crate::words::doubles;
 use crate::words::flag;
 use crate::words::numbers;
-use crate::words::unpack;
 use crate::words::word;
 
 fn call(
@@ -112,11 +111,9 @@ fn outputs(
 ) -> bool {
     let held = count(rec, 17);
     let f = count(rec, 22);
-    let mut figures = [0.0; 1024];
-    doubles(rec, held, f, &mut figures);
+    let mut figures = doubles(rec, held, f);
     let p = count(rec, 24);
-    let mut present = [0u8; 1024];
-    bytes(rec, held, p, &mut present);
+    let mut present = bytes(rec, held, false, p);
     replay(
         rec,
         trace,
@@ -133,11 +130,9 @@ fn outputs(
 fn lists(rec: &[u8], trace: &[u8], map: &[u8], starts: &[u32], ends: &[u32]) -> bool {
     let held = count(rec, 17);
     let n = count(rec, 20);
-    let mut readings = [0.0; 1024];
-    doubles(rec, held, n, &mut readings);
+    let mut readings = doubles(rec, held, n);
     let w = count(rec, 18);
-    let mut work = [0.0; 1024];
-    doubles(rec, held, w, &mut work);
+    let mut work = doubles(rec, held, w);
     outputs(
         rec,
         trace,
@@ -151,20 +146,16 @@ fn lists(rec: &[u8], trace: &[u8], map: &[u8], starts: &[u32], ends: &[u32]) -> 
 
 fn rows(rec: &[u8], trace: &[u8], map: &[u8]) -> bool {
     let s = count(rec, 14);
-    let mut starts = [0u32; 1024];
-    numbers(rec, count(rec, 13), s, &mut starts);
+    let starts = numbers(rec, count(rec, 13), s);
     let e = count(rec, 16);
-    let mut ends = [0u32; 1024];
-    numbers(rec, count(rec, 15), e, &mut ends);
+    let ends = numbers(rec, count(rec, 15), e);
     lists(rec, trace, map, &starts[..s], &ends[..e])
 }
 
 pub fn agrees(rec: &[u8]) -> bool {
     let n = count(rec, 10);
-    let mut trace = [0u8; 1024];
-    unpack(rec, count(rec, 9), n, &mut trace);
+    let trace = bytes(rec, count(rec, 9), true, n);
     let m = count(rec, 12);
-    let mut map = [0u8; 1024];
-    bytes(rec, count(rec, 11), m, &mut map);
+    let map = bytes(rec, count(rec, 11), false, m);
     rows(rec, &trace[..n], &map[..m])
 }

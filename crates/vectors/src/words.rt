@@ -4,6 +4,7 @@
 ghost use mathlib.Core.Path.{_≡_};
 ghost use Prim.Native.Nat.{_+_, _<_, _≤_};
 ghost use lib.ListN.{length};
+ghost use Rattle.vectors.specs.Lends.{Lends};
 
 pub fn wide(x: u8) -> u64
     ensures { λ r. ⌜ r ≡ x ⌝ }
@@ -89,28 +90,36 @@ pub fn reach(list: &[u8], words: u64) -> usize
     list.len()
 }
 
-// The first n places of `out`, or all, become the doubles from word `from` on.
-pub fn doubles(list: &[u8], from: usize, n: usize, out: &mut [f64]) {
+// Room of which the first n places hold the n words from word `from` on, as doubles.
+pub fn doubles(list: &[u8], from: usize, n: usize) -> [f64; 1024]
+    requires { ⌜ n ≤ 1024 ⌝ }
+    ensures { λ r. ⌜ Lends n r ⌝ }
+{
+    let mut out = [0.0; 1024];
     let mut i = 0;
-    while i < out.len() {
-        if i == n {
-            return;
-        }
+    while i < n {
         out[i] = double(list, std::num::wrapping_add_usize(from, i));
         i += 1;
     }
+    out
 }
 
-// The first n places of `out`, or all, become the bytes from word `from` on.
-pub fn bytes(list: &[u8], from: usize, n: usize, out: &mut [u8]) {
+fn number(list: &[u8], k: usize) -> u32 {
+    (word(list, k) % 4294967296) as u32
+}
+
+// The same, as numbers of 32 bits.
+pub fn numbers(list: &[u8], from: usize, n: usize) -> [u32; 1024]
+    requires { ⌜ n ≤ 1024 ⌝ }
+    ensures { λ r. ⌜ Lends n r ⌝ }
+{
+    let mut out = [0u32; 1024];
     let mut i = 0;
-    while i < out.len() {
-        if i == n {
-            return;
-        }
-        out[i] = byte(list, std::num::wrapping_add_usize(from, i));
+    while i < n {
+        out[i] = number(list, std::num::wrapping_add_usize(from, i));
         i += 1;
     }
+    out
 }
 
 // Byte i of the words from `from` on, eight a word, lowest first: the trace of a host call.
@@ -119,32 +128,25 @@ fn packed(list: &[u8], from: usize, i: usize) -> u8 {
     ((w >> (i % 8 * 8)) % 256) as u8
 }
 
-// The first n places of `out`, or all, become the bytes that are packed in the words from `from` on.
-pub fn unpack(list: &[u8], from: usize, n: usize, out: &mut [u8]) {
-    let mut i = 0;
-    while i < out.len() {
-        if i == n {
-            return;
-        }
-        out[i] = packed(list, from, i);
-        i += 1;
+fn nth(list: &[u8], from: usize, eight: bool, i: usize) -> u8 {
+    if eight {
+        return packed(list, from, i);
     }
+    byte(list, std::num::wrapping_add_usize(from, i))
 }
 
-fn number(list: &[u8], k: usize) -> u32 {
-    (word(list, k) % 4294967296) as u32
-}
-
-// The first n places of `out`, or all, become the numbers from word `from` on.
-pub fn numbers(list: &[u8], from: usize, n: usize, out: &mut [u32]) {
+// The same, as bytes: the lowest of each word, or all eight.
+pub fn bytes(list: &[u8], from: usize, eight: bool, n: usize) -> [u8; 1024]
+    requires { ⌜ n ≤ 1024 ⌝ }
+    ensures { λ r. ⌜ Lends n r ⌝ }
+{
+    let mut out = [0u8; 1024];
     let mut i = 0;
-    while i < out.len() {
-        if i == n {
-            return;
-        }
-        out[i] = number(list, std::num::wrapping_add_usize(from, i));
+    while i < n {
+        out[i] = nth(list, from, eight, i);
         i += 1;
     }
+    out
 }
 
 // Whether x has the bits at k. An expected NaN is 7FF8000000000000, and every NaN reads so.

@@ -3,50 +3,15 @@ use borrow.Author.Needs.{needs}
 use Prim.Native.Nat.{_-_}
 use lib.ListN.{length}
 use mathlib.Core.Path.{_≡_}
+use Rattle.vectors.specs.Lends.{room-lends}
 use Rattle.vectors.proofs.words.numbers.Statement.{statement}
 use Rattle.vectors.proofs.words.numbers.Tie as tie
 
 abbrev Inv-loop : tie.InvT-loop
-Inv-loop list from n out₀ i₀ out i = length out ≡ length out₀
+Inv-loop list from n out₀ i₀ out i = length out ≡ 1024
 
 abbrev μ-loop : tie.MeasureT-loop
-μ-loop list from n out₀ i₀ out i = length out₀ - i
-
-loop-holds : tie.Need-loop-holds Inv-loop μ-loop
-loop-holds c = search needs
-
-same-length : tie.Need-same-length Inv-loop μ-loop
-same-length c = search needs
-
-returns : tie.Need-returns Inv-loop μ-loop
-returns c = search needs
-
-wrapping-add-usize-requires : tie.Need-wrapping-add-usize-requires Inv-loop μ-loop
-wrapping-add-usize-requires c κs = search needs
-
-number-requires : tie.Need-number-requires Inv-loop μ-loop
-number-requires c κs = search needs
-
-mul-out : tie.Need-mul-out Inv-loop μ-loop
-mul-out c = search needs
-
-slice-write-out : tie.Need-slice-write-out Inv-loop μ-loop
-slice-write-out c = search needs
-
-add-i : tie.Need-add-i Inv-loop μ-loop
-add-i c = search needs
-
-loop-less : tie.Need-loop-less Inv-loop μ-loop
-loop-less c = search needs
-
-loop-again : tie.Need-loop-again Inv-loop μ-loop
-loop-again c = search needs
-
-same-length-2 : tie.Need-same-length-2 Inv-loop μ-loop
-same-length-2 c = search needs
-
-returns-2 : tie.Need-returns-2 Inv-loop μ-loop
-returns-2 c = search needs
+μ-loop list from n out₀ i₀ out i = n - i
 
 pub numbers-spec : {M : Type 1} → statement M
 numbers-spec =
@@ -54,15 +19,12 @@ numbers-spec =
     (tie.spec
     Inv-loop
     μ-loop
-    loop-holds
-    same-length
-    returns
-    wrapping-add-usize-requires
-    number-requires
-    mul-out
-    slice-write-out
-    add-i
-    loop-less
-    loop-again
-    same-length-2
-    returns-2)
+    (λ c. search needs)
+    (λ c κs. search needs)
+    (λ c κs. search needs)
+    (λ c. search needs)
+    (λ c. search needs)
+    (λ c. search needs)
+    (λ c. search needs)
+    (λ c. search needs)
+    (λ c. room-lends _ (c .before .before .before .pre) (c .before .loop .inv)))
