@@ -127,7 +127,7 @@ pub fn bounds(rec: &[u8]) -> bool {
     let size = word(rec, 1) as usize;
     let n = word(rec, 3) as usize;
     let row = word(rec, 4) as usize;
-    let window = rolling::det_offsets(row, size, n, flag(rec, 2));
+    let window = plan::det_offsets(row, size, n, flag(rec, 2));
     if window.start as u64 == word(rec, 5) {
         return window.end as u64 == word(rec, 6);
     }
