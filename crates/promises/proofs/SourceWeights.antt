@@ -14,17 +14,17 @@ use lib.IntN.{pos, negsuc, natAbs, subℕ, _-ℤ_}
 use lib.Ieee.{Float, nan, div}
 use borrow.Author.Tests.{ltb-true, lt-ltb, le-ltb}
 use Rattle.float.specs.Operators.{_⊘_}
+use Rattle.float.specs.Tables.{table}
+use Rattle.float.proofs.Cases.{Or, here, there, order}
+use Rattle.float.proofs.Tables.{table-place}
 use Rattle.moment.specs.declared.Figure.{Figure}
 use Rattle.moment.specs.declared.Figure.the-variants.{Missing, Present}
+use Rattle.plan.specs.Bounds.{boundsAt}
+use Rattle.plan.specs.Code.Reaching.{rightOf}
+use Rattle.plan.proofs.FixedWindows.{bounds-at, right-le, right-some}
 use Rattle.window.specs.Readings.{readingOf}
-use Rattle.window.specs.Rows.{table}
-use Rattle.window.proofs.Places.{Or, here, there, order}
-use Rattle.window.proofs.Tables.{table-place}
-use Rattle.rolling.specs.Fixed.{boundsAt}
-use Rattle.rolling.specs.Reaching.{rightOf}
-use Rattle.rolling.specs.Weights.{totalOf, Sums, noSums, plus, varianceOf, computeVarWeights, weightsStart, aligned, weightedAt}
-use Rattle.rolling.proofs.Fixed.{bounds-at, right-le, right-some}
-use Rattle.rolling.proofs.WeightedSums.{Taken, aligned-start}
+use Rattle.weighted.specs.Weights.{totalOf, Sums, noSums, plus, varianceOf, computeVarWeights, weightsStart, aligned, weightedAt}
+use Rattle.weighted.proofs.WeightedRows.{aligned-start}
 use Rattle.promises.specs.SourceWindow.{Rust}
 use Rattle.promises.specs.SourceRows.{tooShort, rowOf}
 use Rattle.promises.specs.SourceFixed.{offsetFn}
@@ -114,7 +114,7 @@ turned true x y = refl
 turned false x y = refl
 
 module _ (rust : Rust) (center : Bool) (size minPeriods : ℕ) (weights values : List Float) (fits : size < 2 ^ 64)
-    {figures present : ℕ} (taken : Taken size (length values) (length weights) figures present) where
+    (few : length values ≤ 16777216) (some : 1 ≤ length weights) (same : length weights ≡ size) where
   abbrev n : ℕ
   n = length values
 
@@ -140,16 +140,15 @@ module _ (rust : Rust) (center : Bool) (size minPeriods : ℕ) (weights values :
   bounds-are k h = let b = bounds-at center size n k h in pair (boundsAt center size n k) (S k) (E k) (b .0) (b .1)
 
   offset-is : (k : ℕ) → k < n → F k ≡ (S k, E k)
-  offset-is k h = offsets-are rust center size n fits (taken .few) k h ∙ bounds-are k h
+  offset-is k h = offsets-are rust center size n fits few k h ∙ bounds-are k h
 
   -- ---- the aligned part of the weights starts at left - k
   ours-starts : (k : ℕ) → k < n → weightsStart center size k (S k) (E k) ≡ left - k
-  ours-starts k h = aligned-start center size n k (taken .some) h
+  ours-starts k h = aligned-start center size n k (omega arith) h
 
   theirs-starts : (k : ℕ) → k < n → source.weightsStart rust values size minPeriods F wts center k (S k) (E k - S k) ≡ left - k
   unfolding source.weightsStart
   theirs-starts k h =
-      let few = taken .few in
       let r = right-le center size n in
       let o = rust .signedMinus-is (pos k) (pos (S k)) (in-range k (S k) (omega arith) (omega arith)) ∙ not-below k (S k) (omega arith) in
       let p = rust .signedMinus-is (pos (size / 2)) (pos (k - S k)) (in-range (size / 2) (k - S k) (omega arith) (omega arith)) in
@@ -161,7 +160,7 @@ module _ (rust : Rust) (center : Bool) (size minPeriods : ℕ) (weights values :
         p,
         clamped (size / 2) (k - S k),
         length-map weights (λ w. w ⊘ totalOf weights),
-        taken .same,
+        same,
         rust .minus-is size (E k - S k) (omega arith),
       )
       (ours-starts k h)
@@ -224,7 +223,7 @@ module _ (rust : Rust) (center : Bool) (size minPeriods : ℕ) (weights values :
       go : (b : Bool) → ltb (E k - S k) minPeriods ≡ b → getD (created rust minPeriods F n) k false ≡ not b
       go true e =
           let l = ltb-true (E k - S k) minPeriods e in
-          let r = right-some center size n (taken .some) in
+          let r = right-some center size n (omega arith) in
           created-off rust minPeriods F n k (omega arith) h (rise-or-fall k h l)
       go false e = on (getD (created rust minPeriods F n) k false) refl e
 
