@@ -7,23 +7,25 @@ use mathlib.Core.Bool.{Bool, true, false, cond, not}
 use mathlib.Core.List.{List, [], _∷_, foldl, map, zip, zipWith}
 use native.Mathlib.Nat.{add-zero, zero-add, lt-of-le-of-lt}
 use native.Mathlib.Omega.{arith}
-use lib.Dec.{ltb}
+use lib.Dec.{ltb, eqb, lit≤}
 use lib.ListN.{length, getD, length-map, List·getD-map}
 use lib.Seq.{slice, slice-empty, slice-cons}
 use lib.IntN.{pos, negsuc, natAbs, subℕ, _-ℤ_}
-use lib.Ieee.{Float, nan, div}
-use borrow.Author.Tests.{ltb-true, lt-ltb, le-ltb}
-use Rattle.float.specs.Operators.{_⊘_}
+use lib.Ieee.{Float, nan, div, eq}
+use borrow.Author.Tests.{ltb-true, lt-ltb, le-ltb, eqb-true, not-false}
+use Rattle.float.specs.Operators.{_⊘_, zero64}
 use Rattle.float.specs.Tables.{table}
 use Rattle.float.proofs.Cases.{Or, here, there, order}
 use Rattle.float.proofs.Tables.{table-place}
+use Rattle.trace.specs.Refusals.{refusal, _orElse_}
+use Rattle.trace.proofs.Accepted.{none-of, not-refused}
 use Rattle.moment.specs.declared.Figure.{Figure}
 use Rattle.moment.specs.declared.Figure.the-variants.{Missing, Present}
 use Rattle.plan.specs.Bounds.{boundsAt}
 use Rattle.plan.specs.Code.Reaching.{rightOf}
 use Rattle.plan.proofs.FixedWindows.{bounds-at, right-le, right-some}
 use Rattle.window.specs.Readings.{readingOf}
-use Rattle.weighted.specs.Weights.{totalOf, Sums, noSums, plus, varianceOf, computeVarWeights, weightsStart, aligned, weightedAt}
+use Rattle.weighted.specs.Weights.{totalOf, Sums, noSums, plus, varianceOf, computeVarWeights, weightsStart, aligned, weightedAt, weightsRefusal}
 use Rattle.weighted.proofs.WeightedRows.{aligned-start}
 use Rattle.promises.specs.SourceWindow.{Rust}
 use Rattle.promises.specs.SourceRows.{tooShort, rowOf}
@@ -236,3 +238,12 @@ module _ (rust : Rust) (center : Bool) (size minPeriods : ℕ) (weights values :
 
   pub weighted-row : (k : ℕ) → k < n → rowOf (source.rollingVarWeights rust values size minPeriods center weights) k ≡ weightedAt center size minPeriods weights values k
   weighted-row = applied-row
+
+-- a weighted call that is accepted has as many weights as its windows have places
+pub weights-many : (given : ℕ) (mapped : Bool) (n size count : ℕ) (total : Float) (outputs : ℕ)
+    → 0 ≡ weightsRefusal given mapped n size count total outputs → count ≡ size
+unfolding weightsRefusal
+weights-many given mapped n size count total outputs z =
+    let upTo9 = given orElse refusal 8 mapped orElse refusal 9 (eq total zero64) in
+    let upTo10 = none-of (upTo9 orElse refusal 10 (not (eqb count size))) (refusal 12 (ltb outputs n)) (sym z) .0 in
+    eqb-true count size (not-false _ (not-refused 10 _ (lit≤ tt) (none-of upTo9 _ upTo10 .1)))
