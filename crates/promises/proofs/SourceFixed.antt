@@ -9,17 +9,15 @@ use lib.Dec.{ltb, eqb}
 use lib.ListN.{length}
 use lib.Ieee.{Float}
 use borrow.Author.Tests.{ltb-true, ltb-false, eqb-false}
+use Rattle.float.proofs.Tables.{table-place}
+use Rattle.trace.specs.Trace.{Trace}
 use Rattle.moment.specs.declared.Figure.{Figure}
-use Rattle.window.specs.Readings.{ReadingMoment}
-use Rattle.window.proofs.Tables.{table-place}
-use Rattle.rolling.specs.Moments.{Asked, readingMomentOf, finalOf}
-use Rattle.rolling.specs.Calls.{Trace, askPlan}
-use Rattle.rolling.specs.Fixed.{boundsAt, bounds}
-use Rattle.rolling.proofs.Fixed.{bounds-rows}
+use Rattle.plan.specs.Bounds.{boundsAt, bounds}
+use Rattle.plan.proofs.FixedWindows.{bounds-rows}
+use Rattle.window.specs.Window.{Moment}
 use Rattle.promises.specs.SourceWindow.{Rust, Bitmap, MomentWindow, updateNoNulls, updateNulls, isValid, getMoment}
-use Rattle.promises.specs.SourceRows.{outNoNulls, rollingNoNulls, headSet, tailSet, createValidity, matched, outNulls, rollingNulls}
-use Rattle.promises.specs.SourceFixed.{divCeil, offsetFn}
-use Rattle.promises.specs.Demands.{offsets, bitmapOf, sourceRow, sourceFixedRow}
+use Rattle.promises.specs.SourceRows.{outNoNulls, rollingNoNulls, headSet, tailSet, createValidity, matched, outNulls, rollingNulls, offsets, bitmapOf, planRow}
+use Rattle.promises.specs.SourceFixed.{divCeil, offsetFn, fixedRow}
 
 -- ---- the offsets
 half-up : (size : ℕ) → divCeil size 2 ≡ (size + 1) / 2
@@ -66,7 +64,7 @@ module _ (rust : Rust) (minPeriods : ℕ) (f g : ℕ → ℕ × ℕ) (n : ℕ) (
   unfolding createValidity
   validity-same = rw (head-same n 0 _ (omega arith), tail-same n _ (omega arith))
 
-  module _ (M : ReadingMoment) (final : M .State → Figure) (xs : List Float) (some : 0 < n) where
+  module _ (M : Moment Float) (final : M .State → Figure) (xs : List Float) (some : 0 < n) where
     out-no-same : (k i : ℕ) (w : MomentWindow M) → i + k ≤ n → outNoNulls M rust final xs minPeriods f k i w ≡ outNoNulls M rust final xs minPeriods g k i w
     unfolding outNoNulls
     out-no-same zero i w h = refl
@@ -95,15 +93,15 @@ module _ (rust : Rust) (minPeriods : ℕ) (f g : ℕ → ℕ × ℕ) (n : ℕ) (
       rows-nulls = rw (same 0 some, validity-same, out-yes-same n 0 _ _ (omega arith))
 
 -- ---- a row
-pub fixed-row : (rust : Rust) (center : Bool) (size minPeriods : ℕ) (figure : Asked) (t : Trace) (k : ℕ) → size < 2 ^ 64 → length (t .readings) ≤ 16777216
-    → k < length (t .readings) → sourceRow rust (askPlan (bounds center size (length (t .readings))) minPeriods figure) t k ≡ sourceFixedRow rust center size minPeriods figure t k
-fixed-row rust center size minPeriods figure t k fits few h =
+pub fixed-row : (M : Moment Float) (rust : Rust) (final : M .State → Figure) (t : Trace) (minPeriods : ℕ) (center : Bool) (size k : ℕ) → size < 2 ^ 64 → length (t .readings) ≤ 16777216
+    → k < length (t .readings) → planRow M rust final t minPeriods (bounds center size (length (t .readings))) k ≡ fixedRow M rust final t minPeriods center size k
+fixed-row M rust final t minPeriods center size k fits few h =
     let n = length (t .readings) in
     let f = offsets (bounds center size n) in
     let g = offsetFn rust center size n in
     let same : (i : ℕ) → i < n → f i ≡ g i = λ i o. sym (plan-offsets rust center size n fits few i o) in
     rw (
       bounds-rows center size n,
-      rows-no-nulls rust minPeriods f g n same (readingMomentOf figure) (finalOf figure) (t .readings) (omega arith),
-      rows-nulls rust minPeriods f g n same (readingMomentOf figure) (finalOf figure) (t .readings) (omega arith) (bitmapOf t),
+      rows-no-nulls rust minPeriods f g n same M final (t .readings) (omega arith),
+      rows-nulls rust minPeriods f g n same M final (t .readings) (omega arith) (bitmapOf t),
     )

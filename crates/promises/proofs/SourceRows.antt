@@ -12,24 +12,25 @@ use lib.ListN.{length, getD, length-set}
 use lib.Seq.{getD-set-same, getD-set-other}
 use lib.Ieee.{Float, nan}
 use borrow.Author.Tests.{le-leb, lt-leb, lt-ltb, leb-true, ltb-true, ltb-false, ne-eqb}
+use Rattle.float.specs.Tables.{table}
+use Rattle.float.proofs.Cases.{Or, here, there, order}
 use Rattle.trace.specs.Trace.{validAt}
 use Rattle.moment.specs.declared.Figure.{Figure}
 use Rattle.moment.specs.declared.Figure.the-variants.{Missing, Present}
-use Rattle.window.specs.Places.{Series, entriesFrom, entries, validCount, nonfiniteCount}
-use Rattle.window.specs.Window.{Account, fresh, splitAfter, front, back, moved, rising, falling, orNan, figureOf}
-use Rattle.window.specs.Readings.{series, insertedAt, nonfiniteAt, ReadingMoment, ofReadings}
-use Rattle.window.specs.Rows.{Plan, rows, rowStart, rowEnd, moves, accountAt, counted, answerOf, answerAt, table}
-use Rattle.window.specs.Stacks.{Planned}
-use Rattle.window.proofs.Places.{Or, here, there, order}
+use Rattle.plan.specs.Plan.{Plan, rows, rowStart, rowEnd}
+use Rattle.plan.specs.Code.Accepted.{Planned}
+use Rattle.window.specs.Places.{Series, entriesFrom, chosenCount, validCount, nonfiniteCount}
+use Rattle.window.specs.Window.{Account, fresh, splitAfter, front, back, moved, Moment, rising, falling, orNan, figureOf}
+use Rattle.window.specs.Readings.{series, nonfiniteAt}
+use Rattle.window.specs.Rows.{moves, accountAt, counted, answerOf, answerAt}
 use Rattle.promises.specs.SourceWindow.{Rust, Bitmap, combined, mapNan, MomentWindow, newImpl, getMoment, updateNoNulls, updateNulls, isValid}
-use Rattle.promises.specs.SourceRows.{outNoNulls, rollingNoNulls, Array, matched, outNulls, rollingNulls}
-use Rattle.promises.specs.Demands.{offsets}
+use Rattle.promises.specs.SourceRows.{outNoNulls, rollingNoNulls, Array, matched, outNulls, rollingNulls, offsets}
 use Rattle.promises.proofs.Accounts.{lies, meets}
 use Rattle.promises.proofs.Validity.{From, created, created-marks}
 use Rattle.promises.proofs.SourceWindow.{tops, updateOn, Whole, new-whole, moved-whole, no-nulls-same, nulls-same}
 
 -- combining with the empty state changes nothing
-abbrev pub Neutral : ReadingMoment → Type 0
+abbrev pub Neutral : Moment Float → Type 0
 Neutral M = (s : M .State) → M .combine s (M .empty) ≡ s
 
 -- the k values of f from i on
@@ -67,32 +68,32 @@ orNan-is (suc n) (Present x) = rw (lt-ltb 0 (suc n) (omega arith), ne-eqb (suc n
 orNan-is (suc n) Missing = rw (lt-ltb 0 (suc n) (omega arith), ne-eqb (suc n) 0 (λ z. omega arith))
 
 -- ---- what a window yields
-module _ (M : ReadingMoment) (rust : Rust) (neutral : Neutral M) (final : M .State → Figure) (has : Bool) (map : List ℕ) (xs : List Float) where
+module _ (M : Moment Float) (rust : Rust) (neutral : Neutral M) (final : M .State → Figure) (has : Bool) (map : List ℕ) (xs : List Float) where
   abbrev t : Series Float
   t = series has map xs
 
   abbrev Stands : Account → MomentWindow M → Type 0
   Stands a w = Whole M rust (validAt has map) xs a w
 
-  combined-is : (agg : M .State) (l : List Float) → combined (M .combine) agg (tops M l) ≡ M .combine agg (falling (ofReadings M) l)
+  combined-is : (agg : M .State) (l : List Float) → combined (M .combine) agg (tops M l) ≡ M .combine agg (falling M l)
   unfolding tops
   combined-is agg [] = sym (neutral agg)
   combined-is agg (x ∷ l) = refl
 
-  moment-is : (a : Account) (w : MomentWindow M) → Stands a w → getMoment final w ≡ figureOf (ofReadings M) final t a
+  moment-is : (a : Account) (w : MomentWindow M) → Stands a w → getMoment final w ≡ figureOf M final t a
   unfolding getMoment figureOf nonfiniteAt
   moment-is a w whole =
       let h = whole .at in
       rw (h .front-is, h .agg-is, h .nonfinite-is)
-      (ap (λ (s : M .State). cond (ltb 0 (nonfiniteCount t (a .start) (a .end))) (mapNan (final s)) (final s)) (combined-is (rising (ofReadings M) (M .empty) (back t a)) (front t a))
-      ∙ orNan-is (nonfiniteCount t (a .start) (a .end)) (final (M .combine (rising (ofReadings M) (M .empty) (back t a)) (falling (ofReadings M) (front t a)))))
+      (ap (λ (s : M .State). cond (ltb 0 (nonfiniteCount (t .places) (a .start) (a .end))) (mapNan (final s)) (final s)) (combined-is (rising M (M .empty) (back t a)) (front t a))
+      ∙ orNan-is (nonfiniteCount (t .places) (a .start) (a .end)) (final (M .combine (rising M (M .empty) (back t a)) (falling M (front t a)))))
 
-  valid-is : (a : Account) (w : MomentWindow M) (minPeriods : ℕ) → Stands a w → isValid rust w minPeriods ≡ leb minPeriods (validCount t (a .start) (a .end))
+  valid-is : (a : Account) (w : MomentWindow M) (minPeriods : ℕ) → Stands a w → isValid rust w minPeriods ≡ leb minPeriods (validCount (t .places) (a .start) (a .end))
   valid-is a w minPeriods whole =
       let h = whole .at in
-      let nulls = length (entries (λ j. not (validAt has map j)) (insertedAt xs) (a .start) (a .end)) in
-      let c = both (validAt has map) (insertedAt xs) (a .end - a .start) (a .start) in
-      let n : (a .end - a .start) - nulls ≡ validCount t (a .start) (a .end) = omega arith in
+      let nulls = chosenCount (λ j. not (validAt has map j)) (a .start) (a .end) in
+      let c = both (validAt has map) (λ j. j) (a .end - a .start) (a .start) in
+      let n : (a .end - a .start) - nulls ≡ validCount (t .places) (a .start) (a .end) = omega arith in
       let x : rust .minus (a .end) (a .start) ≡ a .end - a .start = rust .minus-is (a .end) (a .start) (whole .start-le) in
       let y = rust .minus-is (a .end - a .start) nulls (omega arith) in
       rw (h .start-is, h .end-is, h .nulls-is, x) (ap (leb minPeriods) (y ∙ n))
@@ -109,7 +110,7 @@ module _ (M : ReadingMoment) (rust : Rust) (neutral : Neutral M) (final : M .Sta
     A k = accountAt (validAt has map) has minPeriods p k
 
     abbrev answer : ℕ → Figure
-    answer k = answerAt (ofReadings M) final t minPeriods p k
+    answer k = answerAt M final t minPeriods p k
 
     abbrev update : MomentWindow M → ℕ → MomentWindow M
     update w k = updateOn M rust (validAt has map) xs w (S k) (E k)
@@ -186,11 +187,11 @@ module _ (M : ReadingMoment) (rust : Rust) (neutral : Neutral M) (final : M .Sta
         let r = plan .row k h in
         rw (c .next e) at (moved-whole M rust (validAt has map) xs (c .acc) w (c .whole) (S k) (E k) (c .starts) (c .ends) (r .0) (omega arith))
 
-    answer-no : (k : ℕ) → leb minPeriods (counted t (S k) (E k)) ≡ false → answer k ≡ Missing
+    answer-no : (k : ℕ) → leb minPeriods (counted (t .places) (S k) (E k)) ≡ false → answer k ≡ Missing
     unfolding answerAt answerOf
     answer-no k e = rw e
 
-    answer-yes : (k : ℕ) → leb minPeriods (counted t (S k) (E k)) ≡ true → answer k ≡ figureOf (ofReadings M) final t (A (suc k))
+    answer-yes : (k : ℕ) → leb minPeriods (counted (t .places) (S k) (E k)) ≡ true → answer k ≡ figureOf M final t (A (suc k))
     unfolding answerAt answerOf
     answer-yes k e = rw e
 
@@ -200,8 +201,8 @@ module _ (M : ReadingMoment) (rust : Rust) (neutral : Neutral M) (final : M .Sta
       unfolding validAt
       every i = rw no
 
-      counted-no : (s e : ℕ) → counted t s e ≡ e - s
-      counted-no s e = ap (λ (m : Bool). cond m (validCount t s e) (e - s)) no
+      counted-no : (s e : ℕ) → counted (t .places) s e ≡ e - s
+      counted-no s e = ap (λ (m : Bool). cond m (validCount (t .places) s e) (e - s)) no
 
       stays : (k : ℕ) (w : MomentWindow M) → (c : Before k w) → leb minPeriods (E k - S k) ≡ false → c .acc ≡ A (suc k)
       stays k w c e = go k refl
@@ -241,7 +242,7 @@ module _ (M : ReadingMoment) (rust : Rust) (neutral : Neutral M) (final : M .Sta
               let q : leb minPeriods (E i - S i) ≡ true = le-leb minPeriods (E i - S i) (ltb-false _ _ e) in
               let y = ap (leb minPeriods) (counted-no (S i) (E i)) ∙ q in
               let u = update-no (c .acc) w i (omega arith) (c .whole) (c .starts) (c .ends) in
-              let whole = after i w (omega arith) c (meets t minPeriods i (S i) (E i) y) in
+              let whole = after i w (omega arith) c (meets (t .places) minPeriods i (S i) (E i) y) in
               ap (λ (z : MomentWindow M). getMoment final z ∷ out k (suc i) z) u
               ∙ ap (λ (f : Figure). f ∷ out k (suc i) (update w i)) (moment-is (A (suc i)) (update w i) whole ∙ sym (answer-yes i y))
               ∙ ap (λ (l : List Figure). answer i ∷ l) (ih (update w i) (λ l. before-suc i (update w i) (omega arith) whole))
@@ -273,8 +274,8 @@ module _ (M : ReadingMoment) (rust : Rust) (neutral : Neutral M) (final : M .Sta
         record { long = length-set l i false; other = λ j h. getD-set-other l i j false false h; this = λ h k. rw (getD-set-same l i false false k) }
 
     module _ (yes : has ≡ true) (bitmap : Bitmap) (bits : (i : ℕ) → i < length xs → rust .bit bitmap i ≡ validAt has map i) where
-      counted-yes : (s e : ℕ) → counted t s e ≡ validCount t s e
-      counted-yes s e = ap (λ (m : Bool). cond m (validCount t s e) (e - s)) yes
+      counted-yes : (s e : ℕ) → counted (t .places) s e ≡ validCount (t .places) s e
+      counted-yes s e = ap (λ (m : Bool). cond m (validCount (t .places) s e) (e - s)) yes
 
       moves-yes : (k : ℕ) → moves has minPeriods k (S k) (E k) ≡ true
       moves-yes k = ap (λ (m : Bool). m || (eqb k 0 || leb minPeriods (E k - S k))) yes
@@ -296,13 +297,13 @@ module _ (M : ReadingMoment) (rust : Rust) (neutral : Neutral M) (final : M .Sta
         unfolding accountAt
         ends-at = rw (moves-yes i) (refl, refl)
 
-        enough : isValid rust W′ minPeriods ≡ leb minPeriods (counted t (S i) (E i))
+        enough : isValid rust W′ minPeriods ≡ leb minPeriods (counted (t .places) (S i) (E i))
         enough = valid-is (A (suc i)) W′ minPeriods whole′ ∙ rw (ends-at .0, ends-at .1, counted-yes (S i) (E i))
 
         answer-is : answer i ≡ cond (isValid rust W′ minPeriods) (getMoment final W′) Missing
-        answer-is = go (leb minPeriods (counted t (S i) (E i))) refl
+        answer-is = go (leb minPeriods (counted (t .places) (S i) (E i))) refl
           where
-            go : (u : Bool) → leb minPeriods (counted t (S i) (E i)) ≡ u → answer i ≡ cond (isValid rust W′ minPeriods) (getMoment final W′) Missing
+            go : (u : Bool) → leb minPeriods (counted (t .places) (S i) (E i)) ≡ u → answer i ≡ cond (isValid rust W′ minPeriods) (getMoment final W′) Missing
             go true e = answer-yes i e ∙ sym (ap (λ (u : Bool). cond u (getMoment final W′) Missing) (enough ∙ e) ∙ moment-is (A (suc i)) W′ whole′)
             go false e = answer-no i e ∙ sym (ap (λ (u : Bool). cond u (getMoment final W′) Missing) (enough ∙ e))
 
@@ -316,9 +317,9 @@ module _ (M : ReadingMoment) (rust : Rust) (neutral : Neutral M) (final : M .Sta
                 let r = plan .row i (omega arith) in
                 let d = rust .minus-is (E i) (S i) (r .0) in
                 let s = ltb-true (rust .minus (E i) (S i)) minPeriods (f i (omega arith) (omega arith) q) in
-                let y = leb-true minPeriods (counted t (S i) (E i)) (sym enough ∙ e) in
+                let y = leb-true minPeriods (counted (t .places) (S i) (E i)) (sym enough ∙ e) in
                 let n = rw (counted-yes (S i) (E i)) at y in
-                let o = both (validAt has map) (insertedAt xs) (E i - S i) (S i) in
+                let o = both (validAt has map) (λ j. j) (E i - S i) (S i) in
                 absurd (omega arith)
 
         abbrev X : Float

@@ -7,24 +7,26 @@ use mathlib.Core.Bool.{Bool, true, false, cond, not}
 use mathlib.Core.List.{List, [], _∷_, foldl, map, zip, zipWith}
 use native.Mathlib.Nat.{add-zero, zero-add, lt-of-le-of-lt}
 use native.Mathlib.Omega.{arith}
-use lib.Dec.{ltb}
+use lib.Dec.{ltb, eqb, lit≤}
 use lib.ListN.{length, getD, length-map, List·getD-map}
 use lib.Seq.{slice, slice-empty, slice-cons}
 use lib.IntN.{pos, negsuc, natAbs, subℕ, _-ℤ_}
-use lib.Ieee.{Float, nan, div}
-use borrow.Author.Tests.{ltb-true, lt-ltb, le-ltb}
-use Rattle.float.specs.Operators.{_⊘_}
+use lib.Ieee.{Float, nan, div, eq}
+use borrow.Author.Tests.{ltb-true, lt-ltb, le-ltb, eqb-true, not-false}
+use Rattle.float.specs.Operators.{_⊘_, zero64}
+use Rattle.float.specs.Tables.{table}
+use Rattle.float.proofs.Cases.{Or, here, there, order}
+use Rattle.float.proofs.Tables.{table-place}
+use Rattle.trace.specs.Refusals.{refusal, _orElse_}
+use Rattle.trace.proofs.Accepted.{none-of, not-refused}
 use Rattle.moment.specs.declared.Figure.{Figure}
 use Rattle.moment.specs.declared.Figure.the-variants.{Missing, Present}
+use Rattle.plan.specs.Bounds.{boundsAt}
+use Rattle.plan.specs.Code.Reaching.{rightOf}
+use Rattle.plan.proofs.FixedWindows.{bounds-at, right-le, right-some}
 use Rattle.window.specs.Readings.{readingOf}
-use Rattle.window.specs.Rows.{table}
-use Rattle.window.proofs.Places.{Or, here, there, order}
-use Rattle.window.proofs.Tables.{table-place}
-use Rattle.rolling.specs.Fixed.{boundsAt}
-use Rattle.rolling.specs.Reaching.{rightOf}
-use Rattle.rolling.specs.Weights.{totalOf, Sums, noSums, plus, varianceOf, computeVarWeights, weightsStart, aligned, weightedAt}
-use Rattle.rolling.proofs.Fixed.{bounds-at, right-le, right-some}
-use Rattle.rolling.proofs.WeightedSums.{Taken, aligned-start}
+use Rattle.weighted.specs.Weights.{totalOf, Sums, noSums, plus, varianceOf, computeVarWeights, weightsStart, aligned, weightedAt, weightsRefusal}
+use Rattle.weighted.proofs.WeightedRows.{aligned-start}
 use Rattle.promises.specs.SourceWindow.{Rust}
 use Rattle.promises.specs.SourceRows.{tooShort, rowOf}
 use Rattle.promises.specs.SourceFixed.{offsetFn}
@@ -114,7 +116,7 @@ turned true x y = refl
 turned false x y = refl
 
 module _ (rust : Rust) (center : Bool) (size minPeriods : ℕ) (weights values : List Float) (fits : size < 2 ^ 64)
-    {figures present : ℕ} (taken : Taken size (length values) (length weights) figures present) where
+    (few : length values ≤ 16777216) (some : 1 ≤ length weights) (same : length weights ≡ size) where
   abbrev n : ℕ
   n = length values
 
@@ -140,16 +142,15 @@ module _ (rust : Rust) (center : Bool) (size minPeriods : ℕ) (weights values :
   bounds-are k h = let b = bounds-at center size n k h in pair (boundsAt center size n k) (S k) (E k) (b .0) (b .1)
 
   offset-is : (k : ℕ) → k < n → F k ≡ (S k, E k)
-  offset-is k h = offsets-are rust center size n fits (taken .few) k h ∙ bounds-are k h
+  offset-is k h = offsets-are rust center size n fits few k h ∙ bounds-are k h
 
   -- ---- the aligned part of the weights starts at left - k
   ours-starts : (k : ℕ) → k < n → weightsStart center size k (S k) (E k) ≡ left - k
-  ours-starts k h = aligned-start center size n k (taken .some) h
+  ours-starts k h = aligned-start center size n k (omega arith) h
 
   theirs-starts : (k : ℕ) → k < n → source.weightsStart rust values size minPeriods F wts center k (S k) (E k - S k) ≡ left - k
   unfolding source.weightsStart
   theirs-starts k h =
-      let few = taken .few in
       let r = right-le center size n in
       let o = rust .signedMinus-is (pos k) (pos (S k)) (in-range k (S k) (omega arith) (omega arith)) ∙ not-below k (S k) (omega arith) in
       let p = rust .signedMinus-is (pos (size / 2)) (pos (k - S k)) (in-range (size / 2) (k - S k) (omega arith) (omega arith)) in
@@ -161,7 +162,7 @@ module _ (rust : Rust) (center : Bool) (size minPeriods : ℕ) (weights values :
         p,
         clamped (size / 2) (k - S k),
         length-map weights (λ w. w ⊘ totalOf weights),
-        taken .same,
+        same,
         rust .minus-is size (E k - S k) (omega arith),
       )
       (ours-starts k h)
@@ -224,7 +225,7 @@ module _ (rust : Rust) (center : Bool) (size minPeriods : ℕ) (weights values :
       go : (b : Bool) → ltb (E k - S k) minPeriods ≡ b → getD (created rust minPeriods F n) k false ≡ not b
       go true e =
           let l = ltb-true (E k - S k) minPeriods e in
-          let r = right-some center size n (taken .some) in
+          let r = right-some center size n (omega arith) in
           created-off rust minPeriods F n k (omega arith) h (rise-or-fall k h l)
       go false e = on (getD (created rust minPeriods F n) k false) refl e
 
@@ -237,3 +238,12 @@ module _ (rust : Rust) (center : Bool) (size minPeriods : ℕ) (weights values :
 
   pub weighted-row : (k : ℕ) → k < n → rowOf (source.rollingVarWeights rust values size minPeriods center weights) k ≡ weightedAt center size minPeriods weights values k
   weighted-row = applied-row
+
+-- a weighted call that is accepted has as many weights as its windows have places
+pub weights-many : (given : ℕ) (mapped : Bool) (n size count : ℕ) (total : Float) (outputs : ℕ)
+    → 0 ≡ weightsRefusal given mapped n size count total outputs → count ≡ size
+unfolding weightsRefusal
+weights-many given mapped n size count total outputs z =
+    let upTo9 = given orElse refusal 8 mapped orElse refusal 9 (eq total zero64) in
+    let upTo10 = none-of (upTo9 orElse refusal 10 (not (eqb count size))) (refusal 12 (ltb outputs n)) (sym z) .0 in
+    eqb-true count size (not-false _ (not-refused 10 _ (lit≤ tt) (none-of upTo9 _ upTo10 .1)))

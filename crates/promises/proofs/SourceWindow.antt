@@ -15,20 +15,21 @@ use lib.Ieee.{Float, nan}
 use lib.Ieee.Scale.{finite}
 use borrow.Author.Tests.{le-leb, lt-leb}
 use Rattle.float.specs.Operators.{zero64}
-use Rattle.window.specs.Places.{entries}
-use Rattle.window.specs.Window.{Account, splitAfter, rising, falling, moved}
+use Rattle.float.proofs.Cases.{Or, here, there, order}
+use Rattle.window.specs.Places.{entries, chosenCount}
+use Rattle.window.specs.Window.{Account, splitAfter, Moment, rising, falling, moved}
 use Rattle.window.specs.Window as paper
-use Rattle.window.specs.Readings.{insertedAt, ReadingMoment, ofReadings}
-use Rattle.window.proofs.Places.{Or, here, there, order, entries-self, entries-none, entries-cons, entries-snoc, count-le, count-more}
+use Rattle.window.specs.Readings.{insertedAt}
+use Rattle.window.proofs.Places.{entries-self, entries-none, entries-cons, entries-snoc, count-le, count-more}
 use Rattle.promises.specs.SourceWindow.{Rust, Bitmap, turns, forIn, popped, flipped, MomentWindow, setNonFiniteCount, setNullCount, setStart, setEnd, newImpl, reset, pushed, push, flip, pop, restarted, updateNoNulls, popAt, pushAt, updateNulls}
 use Rattle.promises.proofs.Accounts.{split-le}
 
 -- the front `Vec` of a list of readings: on its top the state of them all
-unfoldable pub tops : (M : ReadingMoment) → List Float → List (M .State)
+unfoldable pub tops : (M : Moment Float) → List Float → List (M .State)
 tops M [] = []
-tops M (x ∷ l) = M .insert (falling (ofReadings M) l) x ∷ tops M l
+tops M (x ∷ l) = M .insert (falling M l) x ∷ tops M l
 
-flipped-is : (M : ReadingMoment) (b l : List Float) → flipped (M .insert) b (falling (ofReadings M) l) (tops M l) ≡ tops M (reverseAux b l)
+flipped-is : (M : Moment Float) (b l : List Float) → flipped (M .insert) b (falling M l) (tops M l) ≡ tops M (reverseAux b l)
 unfolding flipped tops
 flipped-is M [] l = refl
 flipped-is M (x ∷ b) l = flipped-is M b (x ∷ l)
@@ -51,18 +52,18 @@ part-turns f xs (suc k) i w h =
     (ap (λ (n : ℕ). foldl f (f w (getD xs i nan)) (slice (suc i) n xs)) z ∙ part-turns f xs k (suc i) (f w (getD xs i nan)) (omega arith))
 
 -- ---- one place more or less of a count
-module _ (u : ℕ → Bool) (r : ℕ → Float) where
-  less : (i e : ℕ) → i < e → (t : Bool) → u i ≡ t → length (entries u r i e) ≡ boolByte t + length (entries u r (suc i) e)
-  less i e h t q = ap length (entries-cons u r i e h) ∙ rw q (go t)
+module _ (u : ℕ → Bool) where
+  less : (i e : ℕ) → i < e → (t : Bool) → u i ≡ t → chosenCount u i e ≡ boolByte t + chosenCount u (suc i) e
+  less i e h t q = ap length (entries-cons u (λ j. j) i e h) ∙ rw q (go t)
     where
-      go : (t : Bool) → length (cond t (r i ∷ entries u r (suc i) e) (entries u r (suc i) e)) ≡ boolByte t + length (entries u r (suc i) e)
+      go : (t : Bool) → length (cond t (i ∷ entries u (λ j. j) (suc i) e) (entries u (λ j. j) (suc i) e)) ≡ boolByte t + chosenCount u (suc i) e
       go true = omega arith
       go false = omega arith
 
-  more : (i e : ℕ) → i ≤ e → (t : Bool) → u e ≡ t → length (entries u r i (suc e)) ≡ length (entries u r i e) + boolByte t
-  more i e h t q = ap (λ (z : ℕ). length (entries u r i z)) (sym (add-one e)) ∙ count-more u r i e h t (sym q)
+  more : (i e : ℕ) → i ≤ e → (t : Bool) → u e ≡ t → chosenCount u i (suc e) ≡ chosenCount u i e + boolByte t
+  more i e h t q = ap (λ (z : ℕ). chosenCount u i z) (sym (add-one e)) ∙ count-more u (λ j. j) i e h t (sym q)
 
-module _ (M : ReadingMoment) (rust : Rust) (v : ℕ → Bool) (xs : List Float) where
+module _ (M : Moment Float) (rust : Rust) (v : ℕ → Bool) (xs : List Float) where
   popOn : ℕ → MomentWindow M → MomentWindow M
   unfolding pop
   popOn i w = cond (v i) (pop rust w (getD xs i nan)) (setNullCount w (rust .minus (w .nullCount) 1))
@@ -117,27 +118,27 @@ module _ (M : ReadingMoment) (rust : Rust) (v : ℕ → Bool) (xs : List Float) 
     pub end-is : w .end ≡ en
     pub front-is : w .front ≡ tops M (entries v r i p)
     pub back-is : reverse (w .back) ≡ entries v r (max i p) e
-    pub agg-is : w .aggBack ≡ rising (ofReadings M) (M .empty) (entries v r (max i p) e)
-    pub nonfinite-is : w .nonFiniteCount ≡ length (entries b r i e)
-    pub nulls-is : w .nullCount ≡ length (entries nv r i e)
+    pub agg-is : w .aggBack ≡ rising M (M .empty) (entries v r (max i p) e)
+    pub nonfinite-is : w .nonFiniteCount ≡ chosenCount b i e
+    pub nulls-is : w .nullCount ≡ chosenCount nv i e
 
   -- ---- a place leaves
   module _ (st en i e p : ℕ) (w : MomentWindow M) (held : Holds st en i e p w) (h : i < e) (k : p ≤ e) where
-    nonfinite-less : v i ≡ true → rust .minus (w .nonFiniteCount) (boolByte (not (finite (getD xs i nan)))) ≡ length (entries b r (suc i) e)
+    nonfinite-less : v i ≡ true → rust .minus (w .nonFiniteCount) (boolByte (not (finite (getD xs i nan)))) ≡ chosenCount b (suc i) e
     nonfinite-less q =
         let f = held .nonfinite-is in
-        let g = less b r i e h (not (finite (getD xs i nan))) (rw q) in
+        let g = less b i e h (not (finite (getD xs i nan))) (rw q) in
         rust .minus-is (w .nonFiniteCount) (boolByte (not (finite (getD xs i nan)))) (omega arith) ∙ omega arith
 
-    null-less : v i ≡ true → w .nullCount ≡ length (entries nv r (suc i) e)
-    null-less q = let f = held .nulls-is in let g = less nv r i e h false (rw q) in omega arith
+    null-less : v i ≡ true → w .nullCount ≡ chosenCount nv (suc i) e
+    null-less q = let f = held .nulls-is in let g = less nv i e h false (rw q) in omega arith
 
     -- the front has a state to pop
     pop-keep : v i ≡ true → i < p → Holds st en (suc i) e p (pop rust w (getD xs i nan))
     unfolding pop tops
     pop-keep q l =
         let c : entries v r i p ≡ r i ∷ entries v r (suc i) p = entries-cons v r i p l ∙ rw q in
-        let f : w .front ≡ M .insert (falling (ofReadings M) (entries v r (suc i) p)) (r i) ∷ tops M (entries v r (suc i) p) = held .front-is ∙ rw c in
+        let f : w .front ≡ M .insert (falling M (entries v r (suc i) p)) (r i) ∷ tops M (entries v r (suc i) p) = held .front-is ∙ rw c in
         let m : max (suc i) p ≡ max i p = omega arith in
         rw f record {
           start-is = held .start-is;
@@ -157,7 +158,7 @@ module _ (M : ReadingMoment) (rust : Rust) (v : ℕ → Bool) (xs : List Float) 
         let o : max i p ≡ i = omega arith in
         let m : max (suc i) e ≡ e = omega arith in
         let c : reverse (w .back) ≡ r i ∷ entries v r (suc i) e = held .back-is ∙ rw (o, entries-cons v r i e h, q) in
-        let g : flipped (M .insert) (w .back) (M .empty) [] ≡ M .insert (falling (ofReadings M) (entries v r (suc i) e)) (r i) ∷ tops M (entries v r (suc i) e) =
+        let g : flipped (M .insert) (w .back) (M .empty) [] ≡ M .insert (falling M (entries v r (suc i) e)) (r i) ∷ tops M (entries v r (suc i) e) =
         flipped-is M (w .back) [] ∙ ap (tops M) c in
         rw f record {
           start-is = held .start-is;
@@ -182,9 +183,9 @@ module _ (M : ReadingMoment) (rust : Rust) (v : ℕ → Bool) (xs : List Float) 
         parts : entries v r (max i p) e ≡ entries v r (max (suc i) p) e → Holds st en (suc i) e p (setNullCount w (rust .minus (w .nullCount) 1))
         parts m =
             let f = held .nonfinite-is in
-            let g = less b r i e h false (rw q) in
+            let g = less b i e h false (rw q) in
             let n = held .nulls-is in
-            let o = less nv r i e h true (rw q) in
+            let o = less nv i e h true (rw q) in
             record {
               start-is = held .start-is;
               end-is = held .end-is;
@@ -224,8 +225,8 @@ module _ (M : ReadingMoment) (rust : Rust) (v : ℕ → Bool) (xs : List Float) 
   -- ---- a place enters
   module _ (st en i e p : ℕ) (w : MomentWindow M) (held : Holds st en i e p w) (h : i ≤ e) (k : p ≤ e) (few : e ≤ 16777216) where
     -- the counts that grow are of no more places than a trace has
-    one-more : (u : ℕ → Bool) (n : ℕ) → n ≡ length (entries u r i e) → rust .plus n 1 ≡ n + 1
-    one-more u n f = let g = count-le u r i e in rust .plus-is n 1 (omega arith)
+    one-more : (u : ℕ → Bool) (n : ℕ) → n ≡ chosenCount u i e → rust .plus n 1 ≡ n + 1
+    one-more u n f = let g = count-le u (λ j. j) i e in rust .plus-is n 1 (omega arith)
 
     snoc : (t : Bool) → v e ≡ t → entries v r (max i p) (suc e) ≡ entries v r (max i p) e ++ cond t (r e ∷ []) []
     snoc t q = ap (λ (z : ℕ). entries v r (max i p) z) (sym (add-one e)) ∙ entries-snoc v r (max i p) e (omega arith) ∙ rw q
@@ -235,9 +236,9 @@ module _ (M : ReadingMoment) (rust : Rust) (v : ℕ → Bool) (xs : List Float) 
     push-in x n q y z =
         let s = snoc true q in
         let f = held .nonfinite-is in
-        let g = more b r i e h (not (finite (getD xs e nan))) (rw q) in
+        let g = more b i e h (not (finite (getD xs e nan))) (rw q) in
         let o = held .nulls-is in
-        let c = more nv r i e h false (rw q) in
+        let c = more nv i e h false (rw q) in
         record {
           start-is = held .start-is;
           end-is = held .end-is;
@@ -261,9 +262,9 @@ module _ (M : ReadingMoment) (rust : Rust) (v : ℕ → Bool) (xs : List Float) 
     push-null q =
         let s = snoc false q ∙ append-nil (entries v r (max i p) e) in
         let f = held .nonfinite-is in
-        let g = more b r i e h false (rw q) in
+        let g = more b i e h false (rw q) in
         let o = held .nulls-is in
-        let c = more nv r i e h true (rw q) in
+        let c = more nv i e h true (rw q) in
         record {
           start-is = held .start-is;
           end-is = held .end-is;
@@ -308,8 +309,8 @@ module _ (M : ReadingMoment) (rust : Rust) (v : ℕ → Bool) (xs : List Float) 
         front-is = rw (entries-self v r);
         back-is = rw (m, entries-self v r);
         agg-is = rw (m, entries-self v r);
-        nonfinite-is = rw (entries-self b r);
-        nulls-is = rw (entries-self nv r);
+        nonfinite-is = rw (entries-self b (λ j. j));
+        nulls-is = rw (entries-self nv (λ j. j));
       }
 
   -- `new_impl` is the fresh account

@@ -11,11 +11,11 @@ use Rattle.moment.specs.Skew.{skewNew, skewBiased, skewFinalize}
 use Rattle.moment.specs.Kurtosis.{kurtosisNew, kurtosisBiased, kurtosisFinalize}
 use Rattle.moment.specs.Chunks.{chunks, chunksOf, inChunks}
 use Rattle.moment.specs.Arrays.{answer}
+use Rattle.plan.specs.Refusals.{planRefusal}
 use Rattle.window.specs.Places.{entriesFrom}
 use Rattle.window.specs.Window.{splitAfter, figureOf}
 use Rattle.window.specs.Readings.{insertedAt, nonfiniteAt}
 use Rattle.window.specs.Rows.{answerAt}
-use Rattle.window.specs.Refusals.{planRefusal}
 use Rattle.promises.specs.SourceRows.{rollingNoNulls, rollingNulls}
 use Rattle.promises.specs.Table.{every, cases}
 

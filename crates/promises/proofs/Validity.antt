@@ -11,7 +11,7 @@ use lib.Dec.{ltb, eqb}
 use lib.ListN.{length, getD, set, replicate, length-set, length-replicate, getD-replicate}
 use lib.Seq.{getD-set-same, getD-set-other}
 use borrow.Author.Tests.{lt-ltb, eqb-true, eqb-false}
-use Rattle.window.proofs.Places.{apart, Or, here, there, order}
+use Rattle.float.proofs.Cases.{apart, Or, here, there, order}
 use Rattle.promises.specs.SourceWindow.{Rust}
 use Rattle.promises.specs.SourceRows.{tooShort, headSet, tailSet, createValidity}
 

@@ -4,12 +4,14 @@ use Prim.Native.Nat.{ℕ, _+_, _-_, _/_, _%_, min}
 use mathlib.Core.Bool.{Bool, cond}
 use mathlib.Core.List.{List}
 use lib.Dec.{eqb, ltb}
-use lib.ListN.{length}
+use lib.ListN.{length, getD}
 use lib.Ieee.{Float}
+use Rattle.trace.specs.Trace.{Trace}
 use Rattle.moment.specs.declared.Figure.{Figure}
-use Rattle.window.specs.Readings.{ReadingMoment}
+use Rattle.moment.specs.declared.Figure.the-variants.{Missing}
+use Rattle.window.specs.Window.{Moment}
 use Rattle.promises.specs.SourceWindow.{Rust, Bitmap}
-use Rattle.promises.specs.SourceRows.{rollingNoNulls, Array, rollingNulls}
+use Rattle.promises.specs.SourceRows.{rollingNoNulls, Array, rowOf, rollingNulls, bitmapOf}
 
 -- ---- of the Rust's library
 -- `a.saturating_sub(b)`
@@ -42,11 +44,18 @@ offsetFn rust center windowSize len i =
 -- 004: `rolling_var` without weights, `rolling_skew` and `rolling_kurtosis` differ in nothing but the moment M, whose `finalize` has
 -- its part of `params`. "Without weights the Rust panics on an empty trace with a trailing window of 1 or more; here that has no
 -- rows."
-abbrev pub fixedNoNulls : (M : ReadingMoment) → Rust → (M .State → Figure) → List Float → ℕ → ℕ → Bool → List Figure
+abbrev pub fixedNoNulls : (M : Moment Float) → Rust → (M .State → Figure) → List Float → ℕ → ℕ → Bool → List Figure
 fixedNoNulls M rust finalize values windowSize minPeriods center =
     rollingNoNulls M rust finalize values minPeriods (offsetFn rust center windowSize (length values)) (length values)
 
 -- 005, the same three with the array's map
-abbrev pub fixedNulls : (M : ReadingMoment) → Rust → (M .State → Figure) → List Float → Bitmap → ℕ → ℕ → Bool → Array
+abbrev pub fixedNulls : (M : Moment Float) → Rust → (M .State → Figure) → List Float → Bitmap → ℕ → ℕ → Bool → Array
 fixedNulls M rust finalize values map windowSize minPeriods center =
     rollingNulls M rust finalize values map minPeriods (offsetFn rust center windowSize (length values)) (length values)
+
+-- row k of the Rust's `rolling_var`, `rolling_skew` or `rolling_kurtosis`: "005 with a map, 004 without"
+abbrev pub fixedRow : (M : Moment Float) → Rust → (M .State → Figure) → Trace → ℕ → Bool → ℕ → ℕ → Figure
+fixedRow M rust finalize t minPeriods center windowSize k =
+    cond (t .mapped)
+    (rowOf (fixedNulls M rust finalize (t .readings) (bitmapOf t) windowSize minPeriods center) k)
+    (getD (fixedNoNulls M rust finalize (t .readings) windowSize minPeriods center) k Missing)

@@ -6,16 +6,18 @@ use mathlib.Core.Bool.{Bool, true, false, cond}
 use mathlib.Core.List.{List, [], _∷_}
 use mathlib.Core.Option.{Option, none, some, Option·getD}
 use lib.Dec.{ltb}
-use lib.ListN.{getD, replicate}
+use lib.ListN.{length, getD, replicate}
 use lib.Ieee.{Float, nan}
 use Rattle.float.specs.Operators.{zero64}
+use Rattle.trace.specs.Trace.{Trace}
 use Rattle.moment.specs.declared.Figure.{Figure}
 use Rattle.moment.specs.declared.Figure.the-variants.{Missing, Present}
-use Rattle.window.specs.Readings.{ReadingMoment}
+use Rattle.plan.specs.Plan.{Plan, rows, rowStart, rowEnd}
+use Rattle.window.specs.Window.{Moment}
 use Rattle.promises.specs.SourceWindow.{Rust, Bitmap, MomentWindow, updateNoNulls, newNoNulls, updateNulls, newNulls, getMoment, isValid}
 
 -- ---- 002
-module _ (M : ReadingMoment) (rust : Rust) (finalize : M .State → Figure) (values : List Float) (minPeriods : ℕ)
+module _ (M : Moment Float) (rust : Rust) (finalize : M .State → Figure) (values : List Float) (minPeriods : ℕ)
     (detOffsets : ℕ → ℕ × ℕ) where
   -- `out`: the k rows from idx on, with the window as the row before left it
   unfoldable pub outNoNulls : ℕ → ℕ → MomentWindow M → List Figure
@@ -70,7 +72,7 @@ matched rust idx (Present val) true validity = (val, validity)
 matched rust idx (Present val) false validity = (zero64, rust .unset validity idx)
 matched rust idx Missing valid validity = (zero64, rust .unset validity idx)
 
-module _ (M : ReadingMoment) (rust : Rust) (finalize : M .State → Figure) (values : List Float) (map : Bitmap) (minPeriods : ℕ)
+module _ (M : Moment Float) (rust : Rust) (finalize : M .State → Figure) (values : List Float) (map : Bitmap) (minPeriods : ℕ)
     (detOffsets : ℕ → ℕ × ℕ) where
   -- `out`: the k rows from idx on, with the window and the validity as the row before left them
   unfoldable pub outNulls : ℕ → ℕ → MomentWindow M → List Bool → Array
@@ -90,3 +92,19 @@ module _ (M : ReadingMoment) (rust : Rust) (finalize : M .State → Figure) (val
       let (start, end) = detOffsets 0 in
       outNulls len 0 (newNulls rust map values start end)
       (Option·getD (createValidity rust minPeriods detOffsets len) (replicate len true))
+
+-- ---- driven with a plan
+-- a plan's rows as `det_offsets_fn`
+abbrev pub offsets : Plan → ℕ → ℕ × ℕ
+offsets p k = (rowStart p k, rowEnd p k)
+
+-- a trace's map as the Rust's `Bitmap`: "one bit a place"
+abbrev pub bitmapOf : Trace → Bitmap
+bitmapOf t = record { bytes = t .map; bits = length (t .readings) }
+
+-- row k of the Rust's `rolling_apply_agg_window`, driven with the plan's rows: 003 with a map, 002 without one
+abbrev pub planRow : (M : Moment Float) → Rust → (M .State → Figure) → Trace → ℕ → Plan → ℕ → Figure
+planRow M rust finalize t minPeriods p k =
+    cond (t .mapped)
+    (rowOf (rollingNulls M rust finalize (t .readings) (bitmapOf t) minPeriods (offsets p) (rows p)) k)
+    (getD (rollingNoNulls M rust finalize (t .readings) minPeriods (offsets p) (rows p)) k Missing)

@@ -9,7 +9,7 @@ use lib.ListN.{length, replicate}
 use lib.IntN.{ℤ, pos, negsuc}
 use lib.Ieee.{Float, eq}
 use Rattle.float.specs.Operators.{_⊕_, _⊖_, _⊗_, _⊘_, zero64}
-use Rattle.window.specs.Rows.{table}
+use Rattle.float.specs.Tables.{table}
 use Rattle.promises.specs.SourceWindow.{Rust}
 use Rattle.promises.specs.SourceRows.{createValidity, Array}
 use Rattle.promises.specs.SourceFixed.{offsetFn}

@@ -16,7 +16,7 @@ use Rattle.float.specs.Operators.{zero64}
 use Rattle.trace.specs.Trace.{validAt}
 use Rattle.moment.specs.declared.Figure.{Figure}
 use Rattle.moment.specs.declared.Figure.the-variants.{Missing, Present}
-use Rattle.window.specs.Readings.{ReadingMoment}
+use Rattle.window.specs.Window.{Moment}
 
 -- `Bitmap`: bytes, and how many of their bits count, the lowest first
 pub record Bitmap : Type 0 where
@@ -109,7 +109,7 @@ mapNan Missing = Missing
 mapNan (Present v) = Present nan
 
 -- `MomentWindow`
-pub record MomentWindow (M : ReadingMoment) : Type 0 where
+pub record MomentWindow (M : Moment Float) : Type 0 where
   pub nonFiniteCount : ℕ
   pub nullCount : ℕ
   pub start : ℕ
@@ -118,7 +118,7 @@ pub record MomentWindow (M : ReadingMoment) : Type 0 where
   pub back : List Float
   pub aggBack : M .State
 
-module _ {M : ReadingMoment} where
+module _ {M : Moment Float} where
   -- ---- a store to each member
   abbrev pub setNonFiniteCount : MomentWindow M → ℕ → MomentWindow M
   setNonFiniteCount w n =

@@ -9,6 +9,8 @@ use lib.IntN.{negsuc}
 use lib.Ieee.{Float, nan, inf, binary64, ofBits, toBits, ofInt}
 use Rattle.float.specs.Operators.{zero64, one64, count}
 use Rattle.root.specs.Root.{root}
+use Rattle.trace.specs.Trace.{Trace, traceOf}
+use Rattle.trace.specs.Refusals.{traceRefusal}
 use Rattle.moment.specs.declared.var_state.VarState.{VarState}
 use Rattle.moment.specs.declared.Figure.{Figure}
 use Rattle.moment.specs.declared.Figure.the-variants.{Missing}
@@ -24,12 +26,12 @@ use Rattle.moment.specs.Pearson.{pearsonFinalize}
 use Rattle.moment.specs.Skew.{skewFinalize}
 use Rattle.moment.specs.Kurtosis.{kurtosisFinalize}
 use Rattle.moment.specs.Arrays.{pearsonAnswer, skewRange, kurtosisRange}
-use Rattle.window.specs.Rows.{rows}
-use Rattle.window.specs.Refusals.{needed, planRefusal}
-use Rattle.rolling.specs.Moments.{Variance}
-use Rattle.rolling.specs.Calls.{Trace, Ask, ask, traceOf, each, yields}
+use Rattle.plan.specs.Plan.{Plan, planOf, rows}
+use Rattle.plan.specs.Refusals.{needed, planRefusal}
+use Rattle.rolling.specs.Moments.{variance, Variance, workWidth}
+use Rattle.rolling.specs.Calls.{Query, query, yields}
 use Rattle.promises.specs.SourceWindow.{someRust}
-use Rattle.promises.specs.Demands.{sourceRow}
+use Rattle.promises.specs.SourceRows.{planRow}
 
 -- two floats of the same bits, where every NaN is one value
 abbrev pub same : Float → Float → Bool
@@ -66,33 +68,43 @@ correlationOf (pearson.Refused number) = zero64
 abbrev pub twoInserted : VarState
 twoInserted = foldl varInsert varEmpty (whole 2 ∷ whole 4 ∷ [])
 
--- a call with output lists and a work slice that are just long enough is accepted
-abbrev pub accepted : Ask → Trace → Bool
-accepted q t =
+-- a variance with ddof 1, of a plan and with a minimum
+abbrev pub varianceBy : Plan → ℕ → Query
+varianceBy p minPeriods = query p minPeriods (Variance 1)
+
+-- a call for it with output lists and a work slice that are just long enough is accepted
+abbrev pub accepted : Plan → Trace → Bool
+accepted p t =
     eqb
-    (planRefusal (each (q .figure)) (length (t .readings)) (t .mapped) (t .map) (q .plan) false (rows (q .plan)) (rows (q .plan))
-    (needed (each (q .figure)) (q .plan)))
+    (planRefusal (traceRefusal t) p (length (t .readings)) false (rows p) (workWidth (Variance 1)) (needed (workWidth (Variance 1)) p))
     0
 
+-- row k of the first figure
+abbrev pub figureAt : List (ℕ → Figure) → ℕ → Figure
+figureAt [] k = Missing
+figureAt (f ∷ fs) k = f k
+
 -- row k by the split account, and by the source's own window
-abbrev pub rowGives : Ask → Trace → ℕ → ℕ → Float → Bool
-rowGives q t k byte x = gives (yields q t k) byte x && gives (sourceRow someRust q t k) byte x
+abbrev pub rowGives : Plan → ℕ → Trace → ℕ → ℕ → Float → Bool
+rowGives p minPeriods t k byte x =
+    gives (figureAt (yields (varianceBy p minPeriods) t) k) byte x
+    && gives (planRow variance someRust (λ s. varFinalize s 1) t minPeriods p k) byte x
 
 -- ---- what P7, P8 and P9 ask, and of which trace
-abbrev pub p7 : Ask
-p7 = ask (0 ∷ 1 ∷ 3 ∷ []) (2 ∷ 3 ∷ 4 ∷ []) 1 (Variance 1)
+abbrev pub p7 : Plan
+p7 = planOf (0 ∷ 1 ∷ 3 ∷ []) (2 ∷ 3 ∷ 4 ∷ [])
 
 abbrev pub trace7 : Trace
 trace7 = traceOf (whole 2 ∷ whole 4 ∷ whole 6 ∷ whole 8 ∷ []) false []
 
-abbrev pub p8 : Ask
-p8 = ask (0 ∷ 1 ∷ []) (2 ∷ 3 ∷ []) 1 (Variance 1)
+abbrev pub p8 : Plan
+p8 = planOf (0 ∷ 1 ∷ []) (2 ∷ 3 ∷ [])
 
 abbrev pub trace8 : Trace
 trace8 = traceOf (nan ∷ whole 4 ∷ whole 6 ∷ []) false []
 
-abbrev pub p9 : ℕ → Ask
-p9 minPeriods = ask (0 ∷ []) (3 ∷ []) minPeriods (Variance 1)
+abbrev pub p9 : Plan
+p9 = planOf (0 ∷ []) (3 ∷ [])
 
 abbrev pub trace9 : Trace
 trace9 = traceOf (whole 2 ∷ whole 7 ∷ whole 4 ∷ []) true (5 ∷ [])
@@ -118,16 +130,15 @@ cases =
     ∷ gives (kurtosisOf false (kurtosisRange (whole 1 ∷ whole 3 ∷ []) false [] 0 2)) 1 (whole 1)
     ∷ gives (kurtosisOf true (kurtosisRange (whole 1 ∷ whole 3 ∷ []) false [] 0 2)) 1 (ofInt binary64 (negsuc 1))
     ∷ accepted p7 trace7
-    ∷ rowGives p7 trace7 0 1 (whole 2)
-    ∷ rowGives p7 trace7 1 1 (whole 2)
-    ∷ rowGives p7 trace7 2 0 zero64
+    ∷ rowGives p7 1 trace7 0 1 (whole 2)
+    ∷ rowGives p7 1 trace7 1 1 (whole 2)
+    ∷ rowGives p7 1 trace7 2 0 zero64
     ∷ accepted p8 trace8
-    ∷ rowGives p8 trace8 0 1 nan
-    ∷ rowGives p8 trace8 1 1 (whole 2)
-    ∷ accepted (p9 2) trace9
-    ∷ rowGives (p9 2) trace9 0 1 (whole 2)
-    ∷ accepted (p9 3) trace9
-    ∷ rowGives (p9 3) trace9 0 0 zero64
+    ∷ rowGives p8 1 trace8 0 1 nan
+    ∷ rowGives p8 1 trace8 1 1 (whole 2)
+    ∷ accepted p9 trace9
+    ∷ rowGives p9 2 trace9 0 1 (whole 2)
+    ∷ rowGives p9 3 trace9 0 0 zero64
     ∷ same (root (whole 2)) (ofBits binary64 0x3FF6A09E667F3BCD)
     ∷ same (root (ofBits binary64 1)) (ofBits binary64 0x1E60000000000000)
     ∷ []
