@@ -8,6 +8,7 @@ pub mod SourceRows
 pub mod SourceFixed
 pub mod SourceWeights
 pub mod Accepted
+pub mod RowsSame
 pub mod DemandTwo
 pub mod DemandThree
 pub mod Witnesses
