@@ -1,7 +1,7 @@
 -- The rows that the source's drivers yield are the split account's: before each row the window stands at the account that the rows
 -- before it leave, row 0's second `update` moves nothing, and `create_validity` takes the mark of too short rows only. Assumes
 -- nothing.
-use Prim.Native.Nat.{ℕ, zero, suc, _+_, _-_, _≤_, _<_}
+use Prim.Native.Nat.{ℕ, zero, suc, _+_, _-_, _*_, _/_, _≤_, _<_}
 use mathlib.Core.Path.{_≡_, refl, sym, ap, _∙_, subst}
 use mathlib.Core.Bool.{Bool, true, false, cond, not, _||_}
 use mathlib.Core.List.{List, [], _∷_, _++_}
@@ -14,7 +14,8 @@ use lib.Ieee.{Float, nan}
 use borrow.Author.Tests.{le-leb, lt-leb, lt-ltb, leb-true, ltb-true, ltb-false, ne-eqb}
 use Rattle.float.specs.Tables.{table}
 use Rattle.float.proofs.Cases.{Or, here, there, order}
-use Rattle.trace.specs.Trace.{validAt}
+use Rattle.float.proofs.Tables.{table-place}
+use Rattle.trace.specs.Trace.{Trace, validAt}
 use Rattle.moment.specs.declared.Figure.{Figure}
 use Rattle.moment.specs.declared.Figure.the-variants.{Missing, Present}
 use Rattle.plan.specs.Plan.{Plan, rows, rowStart, rowEnd}
@@ -24,7 +25,7 @@ use Rattle.window.specs.Window.{Account, fresh, splitAfter, front, back, moved,
 use Rattle.window.specs.Readings.{series, nonfiniteAt}
 use Rattle.window.specs.Rows.{moves, accountAt, counted, answerOf, answerAt}
 use Rattle.promises.specs.SourceWindow.{Rust, Bitmap, combined, mapNan, MomentWindow, newImpl, getMoment, updateNoNulls, updateNulls, isValid}
-use Rattle.promises.specs.SourceRows.{outNoNulls, rollingNoNulls, Array, matched, outNulls, rollingNulls, offsets}
+use Rattle.promises.specs.SourceRows.{outNoNulls, rollingNoNulls, Array, rowOf, matched, outNulls, rollingNulls, offsets, bitmapOf, planRow}
 use Rattle.promises.proofs.Accounts.{lies, meets}
 use Rattle.promises.proofs.Validity.{From, created, created-marks}
 use Rattle.promises.proofs.SourceWindow.{tops, updateOn, Whole, new-whole, moved-whole, no-nulls-same, nulls-same}
@@ -377,3 +378,27 @@ module _ (M : Moment Float) (rust : Rust) (neutral : Neutral M) (final : M .Stat
           let m = created-marks rust minPeriods (offsets p) (rows p) in
           rows-yes (rows p) 0 (updateNulls rust bitmap xs newImpl (S 0) (E 0)) (created rust minPeriods (offsets p) (rows p)) (zero-add (rows p)) (m .1) (m .0)
           (λ h. rw (update-yes newImpl 0 h) (before-zero h))
+
+-- ---- a row
+-- an accepted map's bytes hold a bit for each place
+bits-fit : (n bytes : ℕ) → bytes ≡ (n + 7) / 8 → n ≤ 8 * bytes
+bits-fit n bytes e = omega arith
+
+-- over any plan that is in order, the source's row is what the split account yields
+pub plan-row : (M : Moment Float) (rust : Rust) → Neutral M → (final : M .State → Figure) (t : Trace) (minPeriods widest : ℕ) (p : Plan)
+    → Planned (length (t .readings)) widest p → length (t .readings) ≤ 16777216
+    → (t .mapped ≡ true → length (t .map) ≡ (length (t .readings) + 7) / 8) → (k : ℕ) → k < rows p
+    → planRow M rust final t minPeriods p k ≡ answerAt M final (series (t .mapped) (t .map) (t .readings)) minPeriods p k
+plan-row M rust neutral final t minPeriods widest p plan few fits k h = go (t .mapped) fits
+  where
+    go : (m : Bool) → (m ≡ true → length (t .map) ≡ (length (t .readings) + 7) / 8)
+        → cond m (rowOf (rollingNulls M rust final (t .readings) (bitmapOf t) minPeriods (offsets p) (rows p)) k)
+        (getD (rollingNoNulls M rust final (t .readings) minPeriods (offsets p) (rows p)) k Missing)
+        ≡ answerAt M final (series m (t .map) (t .readings)) minPeriods p k
+    go true f =
+        let r = rolled-yes M rust neutral final true (t .map) (t .readings) minPeriods widest p plan few refl (bitmapOf t)
+        (λ i g. rust .bit-is (bitmapOf t) i (bits-fit (length (t .readings)) (length (t .map)) (f refl)) g) in
+        rw zero-add at (r .row k h)
+    go false f =
+        rw (rolled-no M rust neutral final false (t .map) (t .readings) minPeriods widest p plan few refl)
+        (table-place _ (rows p) k Missing h)

@@ -1,4 +1,4 @@
--- Accepted calls, by computation: P7 as a plan call, P8 as a host call, P9 with a map, a trailing window, and the same with weights;
+-- Accepted calls, by computation: P7, P8 and P9 as plan calls, the last with a map, a trailing window, and the same with weights;
 -- and two calls that show why demand 3 asks that the same rows move the window. Assumes nothing.
 use Prim.Native.Nat.{ℕ, zero, suc, _<_}
 use mathlib.Core.Path.{_≡_, refl, ap}
@@ -7,71 +7,107 @@ use mathlib.Core.List.{List, [], _∷_}
 use native.Mathlib.Omega.{arith}
 use lib.Ieee.{Float, nan, binary64, ofBits, toBits, ofInt, add, sub, mul, div, eq, lt, le}
 use Rattle.float.specs.Operators.{zero64, one64, two64}
-use Rattle.trace.specs.Trace.{validAt}
+use Rattle.float.specs.Bytes.{readingAt}
+use Rattle.float.specs.Tables.{table}
+use Rattle.trace.specs.Trace.{Trace, traceOf, validAt}
 use Rattle.trace.specs.Refusals.{refusal, _orElse_, wrongMap}
 use Rattle.moment.specs.Var.{varClear, varCombine, varFinalize}
+use Rattle.plan.specs.Plan.{Plan, planOf, rows, rowStart, rowEnd}
+use Rattle.plan.specs.Bounds.{bounds}
+use Rattle.plan.specs.Refusals.{planRefusal, fixedRefusal}
 use Rattle.window.specs.Places.{entriesFrom}
 use Rattle.window.specs.Window.{splitAfter, figureOf}
 use Rattle.window.specs.Readings.{insertedAt, nonfiniteAt}
-use Rattle.window.specs.Rows.{rows, rowStart, rowEnd, answerAt, table}
-use Rattle.window.specs.Refusals.{planRefusal, filled, kept}
+use Rattle.window.specs.Rows.{answerAt}
+use Rattle.window.specs.Outputs.{Column, Lent, column, outputsOf, filled, kept, Answer, answersIn}
 use Rattle.rolling.specs.Moments.{Variance}
-use Rattle.rolling.specs.Calls.{Trace, Ask, Lent, planOf, ask, askPlan, lent, traceOf, decoded}
-use Rattle.rolling.specs.Fixed.{bounds, fixedRefusal}
-use Rattle.rolling.specs.Weights.{weightedAt, weightsRefusal, CalledWeights}
-use Rattle.promises.specs.Table.{whole, p7, trace7, p8, trace8, p9, trace9}
-use Rattle.promises.specs.Demands.{Answer, answerIn, AcceptedCall, planCall, hostCall, fixedCall, Alike, Agree}
+use Rattle.rolling.specs.Calls.{Query, Called}
+use Rattle.rolling.specs.Fixed.{CalledFixed}
+use Rattle.weighted.specs.Weights.{weightedAt, weightsRefusal, CalledWeights}
+use Rattle.promises.specs.Table.{whole, varianceBy, p7, trace7, p8, trace8, p9, trace9}
+use Rattle.promises.specs.Demands.{AcceptedCall, planCall, Alike, Agree}
 
 -- ---- there are accepted calls
--- four places to each output list, each place with something in it, and a work slice of zeros
+-- four places to each output list, each place with something in it
+abbrev fourColumn : Column
+fourColumn = column (table (λ i. one64) 4) (table (λ i. 7) 4)
+
+-- the lists of one figure, and a work slice of zeros
+abbrev lent : ℕ → Column → Lent
+lent work c = record { outputs = outputsOf (c ∷ []) []; work = table (λ i. zero64) work }
+
 abbrev fourLent : ℕ → Lent
-fourLent work = lent (table (λ i. one64) 4) (table (λ i. 7) 4) (table (λ i. zero64) work)
+fourLent work = lent work fourColumn
 
 -- what is left of such lists
 abbrev fourLeft : ℕ → List Float → List ℕ → Lent
-fourLeft work figures present = lent figures present (table (λ i. zero64) work)
+fourLeft work figures present = lent work (column figures present)
 
 -- P7, which keeps what stands in the place past the last row
-pub p7-accepted : AcceptedCall p7 trace7 (fourLeft 8 (two64 ∷ two64 ∷ zero64 ∷ one64 ∷ []) (1 ∷ 1 ∷ 0 ∷ 7 ∷ []))
+pub p7-accepted : Called (varianceBy p7 1) trace7 (fourLent 8) (fourLeft 8 (two64 ∷ two64 ∷ zero64 ∷ one64 ∷ []) (1 ∷ 1 ∷ 0 ∷ 7 ∷ [])) 0
 unfolding table refusal _orElse_ wrongMap planRefusal filled kept ofBits ofInt add sub mul div eq lt le varClear varCombine varFinalize entriesFrom splitAfter figureOf insertedAt nonfiniteAt answerAt validAt
 p7-accepted =
-    planCall {l₀ = fourLent 8}
-    record { number-is = refl; written = record { figures-are = refl; present-are = refl; work-kept = refl } }
+    record {
+      number-is = refl;
+      left = record {
+        fits = record { answers = refl; counts = refl };
+        written = record { answers-are = refl; counts-are = refl };
+        work-kept = refl;
+      };
+    }
 
 -- P8's readings as bytes: NaN, 4, 6
 abbrev bytes8 : List ℕ
 bytes8 =
     0 ∷ 0 ∷ 0 ∷ 0 ∷ 0 ∷ 0 ∷ 0xF8 ∷ 0x7F ∷ 0 ∷ 0 ∷ 0 ∷ 0 ∷ 0 ∷ 0 ∷ 0x10 ∷ 0x40 ∷ 0 ∷ 0 ∷ 0 ∷ 0 ∷ 0 ∷ 0 ∷ 0x18 ∷ 0x40 ∷ []
 
-bytes8-are : decoded bytes8 false [] ≡ trace8
+bytes8-are : traceOf (table (readingAt bytes8) 3) false [] ≡ trace8
 unfolding table ofBits ofInt
 bytes8-are = refl
 
--- P8, with a place past the readings that keeps what it holds
-pub p8-accepted : AcceptedCall p8 (decoded bytes8 false []) (fourLeft 8 (nan ∷ two64 ∷ one64 ∷ one64 ∷ []) (1 ∷ 1 ∷ 7 ∷ 7 ∷ []))
+-- P8
+pub p8-accepted : Called (varianceBy p8 1) trace8 (fourLent 8) (fourLeft 8 (nan ∷ two64 ∷ one64 ∷ one64 ∷ []) (1 ∷ 1 ∷ 7 ∷ 7 ∷ [])) 0
 unfolding table refusal _orElse_ wrongMap planRefusal filled kept ofBits ofInt add sub mul div eq lt le varClear varCombine varFinalize entriesFrom splitAfter figureOf insertedAt nonfiniteAt answerAt validAt
 p8-accepted =
-    hostCall {bytes = bytes8} {has = false} {map = []} {readings₀ = table (λ i. one64) 4} {readings = nan ∷ whole 4 ∷ whole 6 ∷ one64 ∷ []} {l₀ = fourLent 8}
-    record { number-is = refl; readings-are = refl; written = record { figures-are = refl; present-are = refl; work-kept = refl } }
+    record {
+      number-is = refl;
+      left = record {
+        fits = record { answers = refl; counts = refl };
+        written = record { answers-are = refl; counts-are = refl };
+        work-kept = refl;
+      };
+    }
 
 -- P9 with minimum 2
-pub p9-accepted : AcceptedCall (p9 2) trace9 (fourLeft 12 (two64 ∷ one64 ∷ one64 ∷ one64 ∷ []) (1 ∷ 7 ∷ 7 ∷ 7 ∷ []))
+pub p9-accepted : Called (varianceBy p9 2) trace9 (fourLent 12) (fourLeft 12 (two64 ∷ one64 ∷ one64 ∷ one64 ∷ []) (1 ∷ 7 ∷ 7 ∷ 7 ∷ [])) 0
 unfolding table refusal _orElse_ wrongMap planRefusal filled kept ofBits ofInt add sub mul div eq lt le varClear varCombine varFinalize entriesFrom splitAfter figureOf insertedAt nonfiniteAt answerAt validAt
 p9-accepted =
-    planCall {l₀ = fourLent 12}
-    record { number-is = refl; written = record { figures-are = refl; present-are = refl; work-kept = refl } }
+    record {
+      number-is = refl;
+      left = record {
+        fits = record { answers = refl; counts = refl };
+        written = record { answers-are = refl; counts-are = refl };
+        work-kept = refl;
+      };
+    }
 
 -- "Trailing window 2, minimum 1, trace 1,3", with ddof 1: row 0 has one place, and so no figure
 abbrev trace13 : Trace
 trace13 = traceOf (whole 1 ∷ whole 3 ∷ []) false []
 
-pub trailing-accepted : AcceptedCall (askPlan (bounds false 2 2) 1 (Variance 1)) trace13 (fourLeft 8 (zero64 ∷ two64 ∷ one64 ∷ one64 ∷ []) (0 ∷ 1 ∷ 7 ∷ 7 ∷ []))
+pub trailing-accepted : CalledFixed false 2 1 (Variance 1) trace13 (fourLent 8) (fourLeft 8 (zero64 ∷ two64 ∷ one64 ∷ one64 ∷ []) (0 ∷ 1 ∷ 7 ∷ 7 ∷ [])) 0
 unfolding table refusal _orElse_ wrongMap planRefusal bounds fixedRefusal filled kept ofBits ofInt add sub mul div eq lt le varClear varCombine varFinalize entriesFrom splitAfter figureOf insertedAt nonfiniteAt answerAt validAt
 trailing-accepted =
-    fixedCall {center = false} {windowSize = 2} {minPeriods = 1} {figure = Variance 1} {t = trace13} {l₀ = fourLent 8}
     record {
       number-is = refl;
-      plan-call = record { number-is = refl; written = record { figures-are = refl; present-are = refl; work-kept = refl } };
+      plan-call = record {
+        number-is = refl;
+        left = record {
+          fits = record { answers = refl; counts = refl };
+          written = record { answers-are = refl; counts-are = refl };
+          work-kept = refl;
+        };
+      };
     }
 
 -- "Centred window 4, n = 5: row 0 (0,2), row 2 (0,4), row 4 (2,5)."
@@ -80,19 +116,19 @@ unfolding table bounds
 centred = refl
 
 -- "weights 1,1 give 0, 1; weights 1,0 give 0, 0, both present"
-pub weights11-accepted : CalledWeights false 2 1 (one64 ∷ one64 ∷ []) trace13 (fourLent 0 .figures) (zero64 ∷ one64 ∷ one64 ∷ one64 ∷ []) (fourLent 0 .present) (1 ∷ 1 ∷ 7 ∷ 7 ∷ []) 0
+pub weights11-accepted : CalledWeights false 2 1 (one64 ∷ one64 ∷ []) trace13 fourColumn (column (zero64 ∷ one64 ∷ one64 ∷ one64 ∷ []) (1 ∷ 1 ∷ 7 ∷ 7 ∷ [])) 0
 unfolding table refusal _orElse_ wrongMap weightsRefusal weightedAt filled ofBits ofInt add sub mul div eq
-weights11-accepted = record { number-is = refl; figures-are = refl; present-are = refl }
+weights11-accepted = record { number-is = refl; column-is = refl }
 
-pub weights10-accepted : CalledWeights false 2 1 (one64 ∷ zero64 ∷ []) trace13 (fourLent 0 .figures) (zero64 ∷ zero64 ∷ one64 ∷ one64 ∷ []) (fourLent 0 .present) (1 ∷ 1 ∷ 7 ∷ 7 ∷ []) 0
+pub weights10-accepted : CalledWeights false 2 1 (one64 ∷ zero64 ∷ []) trace13 fourColumn (column (zero64 ∷ zero64 ∷ one64 ∷ one64 ∷ []) (1 ∷ 1 ∷ 7 ∷ 7 ∷ [])) 0
 unfolding table refusal _orElse_ wrongMap weightsRefusal weightedAt filled ofBits ofInt add sub mul div eq
-weights10-accepted = record { number-is = refl; figures-are = refl; present-are = refl }
+weights10-accepted = record { number-is = refl; column-is = refl }
 
 -- ---- a map of ones is not no map
 -- Minimum 3, rows (0,0), (0,2), (1,4). Row 1 is too short: with a map it moves the window, and row 2 inserts reading 1 apart from
 -- readings 2 and 3; without one it does not, and row 2 inserts all three in rising order.
-abbrev shortRow : Ask
-shortRow = ask (0 ∷ 0 ∷ 1 ∷ []) (0 ∷ 2 ∷ 4 ∷ []) 3 (Variance 1)
+abbrev shortRow : Query
+shortRow = varianceBy (planOf (0 ∷ 0 ∷ 1 ∷ []) (0 ∷ 2 ∷ 4 ∷ [])) 3
 
 abbrev ones : Trace
 ones = traceOf (whole 2 ∷ whole 0 ∷ whole 1 ∷ whole 3 ∷ []) true (15 ∷ [])
@@ -107,17 +143,29 @@ onesLeft = fourLeft 12 (zero64 ∷ zero64 ∷ ofBits binary64 0x4002AAAAAAAAAAAB
 abbrev noMapLeft : Lent
 noMapLeft = fourLeft 12 (zero64 ∷ zero64 ∷ ofBits binary64 0x4002AAAAAAAAAAAA ∷ one64 ∷ []) (0 ∷ 0 ∷ 1 ∷ 7 ∷ [])
 
-ones-accepted : AcceptedCall shortRow ones onesLeft
+ones-accepted : Called shortRow ones (fourLent 12) onesLeft 0
 unfolding table refusal _orElse_ wrongMap planRefusal filled kept ofBits ofInt add sub mul div eq lt le varClear varCombine varFinalize entriesFrom splitAfter figureOf insertedAt nonfiniteAt answerAt validAt
 ones-accepted =
-    planCall {l₀ = fourLent 12}
-    record { number-is = refl; written = record { figures-are = refl; present-are = refl; work-kept = refl } }
+    record {
+      number-is = refl;
+      left = record {
+        fits = record { answers = refl; counts = refl };
+        written = record { answers-are = refl; counts-are = refl };
+        work-kept = refl;
+      };
+    }
 
-no-map-accepted : AcceptedCall shortRow noMap noMapLeft
+no-map-accepted : Called shortRow noMap (fourLent 12) noMapLeft 0
 unfolding table refusal _orElse_ wrongMap planRefusal filled kept ofBits ofInt add sub mul div eq lt le varClear varCombine varFinalize entriesFrom splitAfter figureOf insertedAt nonfiniteAt answerAt validAt
 no-map-accepted =
-    planCall {l₀ = fourLent 12}
-    record { number-is = refl; written = record { figures-are = refl; present-are = refl; work-kept = refl } }
+    record {
+      number-is = refl;
+      left = record {
+        fits = record { answers = refl; counts = refl };
+        written = record { answers-are = refl; counts-are = refl };
+        work-kept = refl;
+      };
+    }
 
 ones-alike : Alike ones noMap
 unfolding validAt
@@ -130,16 +178,21 @@ ones-alike = record { long = refl; places = place }
     place (suc (suc (suc zero))) h = refl
     place (suc (suc (suc (suc i)))) h = absurd (omega arith)
 
--- demand 3's sentence without `SameMoves`
+-- demand 3's sentence without `SameMoves`, of plan calls for such a variance
 abbrev AnyMoves : Type 0
 AnyMoves =
-    (q : Ask) (t t′ : Trace) (l l′ : Lent) → AcceptedCall q t l → AcceptedCall q t′ l′ → Alike t t′ → (k : ℕ) → k < rows (q .plan)
-    → Agree t t′ (rowStart (q .plan) k) (rowEnd (q .plan) k) → answerIn l k ≡ answerIn l′ k
+    (p : Plan) (minPeriods : ℕ) (t t′ : Trace) (l l′ : Lent) → AcceptedCall (varianceBy p minPeriods) t l
+    → AcceptedCall (varianceBy p minPeriods) t′ l′ → Alike t t′ → (k : ℕ) → k < rows p
+    → Agree t t′ (rowStart p k) (rowEnd p k) → answersIn (l .outputs .answers) k ≡ answersIn (l′ .outputs .answers) k
 
 -- it does not hold: the traces hold the same readings and miss no place, and row 2's answers have other bits
 pub ones-are-a-map : AnyMoves → ⊥
 unfolding ofBits toBits
 ones-are-a-map all =
-    let same = all shortRow ones noMap onesLeft noMapLeft ones-accepted no-map-accepted ones-alike 2 (omega arith) (λ i s e v. refl) in
-    let bits : _≡_ {A = ℕ} 0x4002AAAAAAAAAAAB 0x4002AAAAAAAAAAAA = ap (λ (a : Answer). toBits binary64 (a .double)) same in
+    let same = all (shortRow .plan) 3 ones noMap onesLeft noMapLeft (planCall ones-accepted) (planCall no-map-accepted) ones-alike 2 (omega arith) (λ i s e v. refl) in
+    let bits : _≡_ {A = ℕ} 0x4002AAAAAAAAAAAB 0x4002AAAAAAAAAAAA = ap firstBits same in
     omega arith
+  where
+    firstBits : List Answer → ℕ
+    firstBits [] = 0
+    firstBits (a ∷ l) = toBits binary64 (a .double)
