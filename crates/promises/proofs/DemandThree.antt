@@ -105,8 +105,8 @@ module _ (p : Plan) (minPeriods : ℕ) (t : Trace) (widest : ℕ) (plan : Planne
         let n = few in
         let r = plan .row k h in
         let i = lies (w .places .valid) (t .mapped) minPeriods (length (t .readings)) widest p plan (suc k) h in
-        let b = count-le (w .places .valid) (w .entry) s e in
-        let m : length (front w B) + length (back w B) ≡ N = two-counts (w .places .valid) (w .entry) (B .start) (B .split) (B .end) (i .start-le) (i .split-le) ∙ rw (x, y) in
+        let b = count-le (w .places .valid) (λ j. j) s e in
+        let m : length (front w B) + length (back w B) ≡ N = two-counts (w .places .valid) (w .entry) (B .start) (B .split) (B .end) (i .start-le) (i .split-le) ∙ many-chosen (w .places .valid) (w .entry) (B .start) (B .end) ∙ rw (x, y) in
         let o : length (back w B) + length (front w B) ≡ N = omega arith in
         let f = var-parts-count (back w B) (front w B) (omega arith) ∙ ap count o in
         let d : nonfiniteCount (w .places) (B .start) (B .end) ≡ nonfiniteCount (w .places) s e = rw (x, y) in
@@ -124,15 +124,15 @@ module _ (p : Plan) (minPeriods : ℕ) (t : Trace) (widest : ℕ) (plan : Planne
       where
         go : (b : Bool) → leb minPeriods (counted (w .places) s e) ≡ b
             → cond b (figureOf variance (λ z. varFinalize z ddof) w B) Missing ≡ cond b (orNan (nonfiniteCount (w .places) s e) (cond (leb N ddof) Missing (Present value))) Missing
-        go true x = let f = row-account w minPeriods p k x in figure-is (f .0) (f .1)
+        go true x = let f = row-account (w .places) minPeriods p k x in figure-is (f .0) (f .1)
         go false x = refl
 
     some-nonfinite : SomeNotFinite t s e → nonfiniteCount (w .places) s e ≡ 0 → ⊥
     unfolding nonfiniteAt
     some-nonfinite (i, p, o, v, f) z =
         let b : w .places .nonfinite i ≡ true = rw (v, f) in
-        let d = simp length-append at (ap length (entries-split (w .places .nonfinite) (w .entry) s i e p (omega arith))) in
-        let g : entries (w .places .nonfinite) (w .entry) i e ≡ w .entry i ∷ entries (w .places .nonfinite) (w .entry) (suc i) e = entries-cons (w .places .nonfinite) (w .entry) i e o ∙ rw b in
+        let d = simp length-append at (ap length (entries-split (w .places .nonfinite) (λ j. j) s i e p (omega arith))) in
+        let g : entries (w .places .nonfinite) (λ j. j) i e ≡ i ∷ entries (w .places .nonfinite) (λ j. j) (suc i) e = entries-cons (w .places .nonfinite) (λ j. j) i e o ∙ rw b in
         let j = ap length g in
         omega arith
 

@@ -39,11 +39,11 @@ use Rattle.rolling.proofs.Calls.{few-places}
 use Rattle.weighted.specs.Weights.{totalOf, weightedAt, CalledWeights}
 use Rattle.weighted.proofs.WeightedRows.{weights-accepted}
 use Rattle.promises.specs.SourceWindow.{Rust}
-use Rattle.promises.specs.SourceRows.{rollingNoNulls, rollingNulls, planRow, rowOf, bitmapOf, offsets}
+use Rattle.promises.specs.SourceRows.{planRow, rowOf}
 use Rattle.promises.specs.SourceFixed.{fixedRow}
 use Rattle.promises.specs.SourceWeights.{rollingVarWeights}
 use Rattle.promises.specs.Demands.{AcceptedCall, fixedCall, rowsOf, sourceRows, sourceFixedRows, DemandTwo}
-use Rattle.promises.proofs.SourceRows.{Neutral, rolled-no, rolled-yes}
+use Rattle.promises.proofs.SourceRows.{Neutral, plan-row}
 use Rattle.promises.proofs.SourceFixed.{fixed-row}
 use Rattle.promises.proofs.SourceWeights.{weighted-row, weights-many}
 use Rattle.promises.proofs.Accepted.{known, map-long}
@@ -64,35 +64,16 @@ kurtosis-neutral : Neutral kurtosis
 unfolding kurtosisCombine
 kurtosis-neutral s = rw zero-zero
 
--- an accepted map's bytes hold a bit for each place
-bits-fit : (n bytes : ℕ) → bytes ≡ (n + 7) / 8 → n ≤ 8 * bytes
-bits-fit n bytes e = omega arith
-
 -- ---- the source's rows, over any plan that is in order
 module _ (rust : Rust) (M : Moment Float) (neutral : Neutral M) (t : Trace) (accepted : traceRefusal t ≡ 0) (minPeriods : ℕ) where
   few : length (t .readings) ≤ 16777216
   few = few-places Readings t accepted
 
   module _ (widest : ℕ) (p : Plan) (plan : Planned (length (t .readings)) widest p) (k : ℕ) (h : k < rows p) where
-    row-same : (final : M .State → Figure) → planRow M rust final t minPeriods p k ≡ answerAt M final (seriesOf Readings t) minPeriods p k
-    row-same final = go (t .mapped) (map-long t accepted)
-      where
-        go : (m : Bool) → (m ≡ true → length (t .map) ≡ (length (t .readings) + 7) / 8)
-            → cond m (rowOf (rollingNulls M rust final (t .readings) (bitmapOf t) minPeriods (offsets p) (rows p)) k)
-            (getD (rollingNoNulls M rust final (t .readings) minPeriods (offsets p) (rows p)) k Missing)
-            ≡ answerAt M final (series m (t .map) (t .readings)) minPeriods p k
-        go true f =
-            let r = rolled-yes M rust neutral final true (t .map) (t .readings) minPeriods widest p plan few refl (bitmapOf t)
-            (λ i g. rust .bit-is (bitmapOf t) i (bits-fit (length (t .readings)) (length (t .map)) (f refl)) g) in
-            rw zero-add at (r .row k h)
-        go false f =
-            rw (rolled-no M rust neutral final false (t .map) (t .readings) minPeriods widest p plan few refl)
-            (ap (λ (l : List Figure). getD l k Missing) (sym (append-nil (table _ (rows p)))) ∙ table-at _ (rows p) k _ Missing h)
-
     rows-same : (finals : List (M .State → Figure)) →
         answersAt (figuresBy M finals (seriesOf Readings t) minPeriods p) k ≡ answersAt (rowsOf M (λ f. planRow M rust f t minPeriods p) finals) k
     rows-same [] = refl
-    rows-same (final ∷ finals) = ap ofFigure (sym (row-same final)) then rows-same finals
+    rows-same (final ∷ finals) = ap ofFigure (sym (plan-row M rust neutral final t minPeriods widest p plan few (map-long t accepted) k h)) then rows-same finals
 
   -- those of fixed windows
   fixed-same : (center : Bool) (size : ℕ) → size < 2 ^ 64 → (k : ℕ) → k < length (t .readings) → (finals : List (M .State → Figure)) →
@@ -146,7 +127,7 @@ weighted rust center size minPeriods weights t c₀ c fits d k h =
       table-at (λ (j : ℕ). doubleOf (weightedAt center size minPeriods weights (t .readings) j)) n k (drop n (c₀ .doubles)) nan h,
       table-at (λ (j : ℕ). byteOf (weightedAt center size minPeriods weights (t .readings) j)) n k (drop n (c₀ .bytes)) 0 h,
     )
-    (ap ofFigure (sym (weighted-row rust center size minPeriods weights (t .readings) ? k h)) then refl)
+    (ap ofFigure (sym (weighted-row rust center size minPeriods weights (t .readings) fits (a .few) (a .some) s k h)) then refl)
 
 pub demand-two : DemandTwo
 demand-two = record { plans = plans; fixed = fixed; weights = weighted }

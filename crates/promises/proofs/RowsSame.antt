@@ -98,7 +98,7 @@ module _ (kind : Kind) (M : Moment (Entry kind)) (final : M .State → Figure) (
     row-moves e j o = go (order k j)
       where
         this : movesAt u k ≡ movesAt u′ k
-        this = meets u minPeriods k S E e ∙ sym (meets u′ minPeriods k S E (rw (← counted-same) e))
+        this = meets (u .places) minPeriods k S E e ∙ sym (meets (u′ .places) minPeriods k S E (rw (← counted-same) e))
 
         go : Or (k ≤ j) (j < k) → movesAt u j ≡ movesAt u′ j
         go (here l) = let z : k ≡ j = omega arith in subst (λ (i : ℕ). movesAt u i ≡ movesAt u′ i) z this
@@ -118,7 +118,7 @@ module _ (kind : Kind) (M : Moment (Entry kind)) (final : M .State → Figure) (
             → cond b (figureOf M final u A) Missing
             ≡ cond b (figureOf M final u′ (accountAt (u′ .places .valid) (u′ .places .mapped) minPeriods p (suc k))) Missing
         go true e =
-            let f = row-account u minPeriods p k e in
+            let f = row-account (u .places) minPeriods p k e in
             let x = f .0 in
             let y = f .1 in
             let l = lies (u .places .valid) (u .places .mapped) minPeriods n widest p plan (suc k) h in

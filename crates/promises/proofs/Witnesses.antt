@@ -1,4 +1,4 @@
--- Accepted calls, by computation: P7, P8 and P9 as plan calls, the last with a map, a trailing window, and the same with weights;
+-- Accepted calls, by computation: P7 as a plan call, P8 as a host call, P9 with a map, a trailing window, and the same with weights;
 -- and two calls that show why demand 3 asks that the same rows move the window. Assumes nothing.
 use Prim.Native.Nat.{ℕ, zero, suc, _<_}
 use mathlib.Core.Path.{_≡_, refl, ap}
@@ -7,7 +7,6 @@ use mathlib.Core.List.{List, [], _∷_}
 use native.Mathlib.Omega.{arith}
 use lib.Ieee.{Float, nan, binary64, ofBits, toBits, ofInt, add, sub, mul, div, eq, lt, le}
 use Rattle.float.specs.Operators.{zero64, one64, two64}
-use Rattle.float.specs.Bytes.{readingAt}
 use Rattle.float.specs.Tables.{table}
 use Rattle.trace.specs.Trace.{Trace, traceOf, validAt}
 use Rattle.trace.specs.Refusals.{refusal, _orElse_, wrongMap}
@@ -18,13 +17,15 @@ use Rattle.plan.specs.Refusals.{planRefusal, fixedRefusal}
 use Rattle.window.specs.Places.{entriesFrom}
 use Rattle.window.specs.Window.{splitAfter, figureOf}
 use Rattle.window.specs.Readings.{insertedAt, nonfiniteAt}
+use Rattle.window.specs.Given.{Readings}
 use Rattle.window.specs.Rows.{answerAt}
 use Rattle.window.specs.Outputs.{Column, Lent, column, outputsOf, filled, kept, Answer, answersIn}
 use Rattle.rolling.specs.Moments.{Variance}
 use Rattle.rolling.specs.Calls.{Query, Called}
 use Rattle.rolling.specs.Fixed.{CalledFixed}
 use Rattle.weighted.specs.Weights.{weightedAt, weightsRefusal, CalledWeights}
-use Rattle.promises.specs.Table.{whole, varianceBy, p7, trace7, p8, trace8, p9, trace9}
+use Rattle.moments.specs.HostCall.{CalledBytes}
+use Rattle.promises.specs.Table.{whole, varianceBy, p7, trace7, p8, p9, trace9}
 use Rattle.promises.specs.Demands.{AcceptedCall, planCall, Alike, Agree}
 
 -- ---- there are accepted calls
@@ -61,16 +62,14 @@ abbrev bytes8 : List ℕ
 bytes8 =
     0 ∷ 0 ∷ 0 ∷ 0 ∷ 0 ∷ 0 ∷ 0xF8 ∷ 0x7F ∷ 0 ∷ 0 ∷ 0 ∷ 0 ∷ 0 ∷ 0 ∷ 0x10 ∷ 0x40 ∷ 0 ∷ 0 ∷ 0 ∷ 0 ∷ 0 ∷ 0 ∷ 0x18 ∷ 0x40 ∷ []
 
-bytes8-are : traceOf (table (readingAt bytes8) 3) false [] ≡ trace8
-unfolding table ofBits ofInt
-bytes8-are = refl
-
--- P8
-pub p8-accepted : Called (varianceBy p8 1) trace8 (fourLent 8) (fourLeft 8 (nan ∷ two64 ∷ one64 ∷ one64 ∷ []) (1 ∷ 1 ∷ 7 ∷ 7 ∷ [])) 0
+-- P8 as a host call, its three readings decoded before what stands behind them
+pub p8-accepted : CalledBytes (varianceBy p8 1) (record { bytes = bytes8; mapped = false; map = [] }) (table (λ i. one64) 4) (nan ∷ whole 4 ∷ whole 6 ∷ one64 ∷ [])
+    (fourLent 8) (fourLeft 8 (nan ∷ two64 ∷ one64 ∷ one64 ∷ []) (1 ∷ 1 ∷ 7 ∷ 7 ∷ [])) 0
 unfolding table refusal _orElse_ wrongMap planRefusal filled kept ofBits ofInt add sub mul div eq lt le varClear varCombine varFinalize entriesFrom splitAfter figureOf insertedAt nonfiniteAt answerAt validAt
 p8-accepted =
     record {
       number-is = refl;
+      readings-are = refl;
       left = record {
         fits = record { answers = refl; counts = refl };
         written = record { answers-are = refl; counts-are = refl };
@@ -167,7 +166,7 @@ no-map-accepted =
       };
     }
 
-ones-alike : Alike ones noMap
+ones-alike : Alike Readings ones noMap
 unfolding validAt
 ones-alike = record { long = refl; places = place }
   where
@@ -182,8 +181,8 @@ ones-alike = record { long = refl; places = place }
 abbrev AnyMoves : Type 0
 AnyMoves =
     (p : Plan) (minPeriods : ℕ) (t t′ : Trace) (l l′ : Lent) → AcceptedCall (varianceBy p minPeriods) t l
-    → AcceptedCall (varianceBy p minPeriods) t′ l′ → Alike t t′ → (k : ℕ) → k < rows p
-    → Agree t t′ (rowStart p k) (rowEnd p k) → answersIn (l .outputs .answers) k ≡ answersIn (l′ .outputs .answers) k
+    → AcceptedCall (varianceBy p minPeriods) t′ l′ → Alike Readings t t′ → (k : ℕ) → k < rows p
+    → Agree Readings t t′ (rowStart p k) (rowEnd p k) → answersIn (l .outputs .answers) k ≡ answersIn (l′ .outputs .answers) k
 
 -- it does not hold: the traces hold the same readings and miss no place, and row 2's answers have other bits
 pub ones-are-a-map : AnyMoves → ⊥
