@@ -99,8 +99,7 @@ pub(crate) fn tally_below(
     requires { ⌜ Below (placesBy «has_map» (now map) (now values)) start (length (now values)) w ⌝ }
     ensures { λ r. ⌜ TalliesBelow (placesIn «has_map» map values) w start (r .valid) (r .nonfinite) ⌝ }
 {
-    let end = w.end;
-    if end <= start {
+    if w.end <= start {
         return Tally {
             valid: 0,
             nonfinite: 0,
