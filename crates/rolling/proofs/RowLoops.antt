@@ -18,11 +18,11 @@ use Rattle.window.specs.Readings.{series}
 use Rattle.window.specs.Outputs.{filled, kept}
 use Rattle.window.specs.Code.Memory.{Stored}
 use Rattle.window.specs.Code.Stacks.{emptyAt, answerBy, Movable, Stepped, placeWidth}
-use Rattle.window.specs.Code.Filling.{Fills, Wrote}
+use Rattle.window.specs.Code.Filling.{Fills, RowThere, RowSet}
 use Rattle.window.specs.declared.Window.{Window}
 use Rattle.window.proofs.Rows.{stand-start}
 use Rattle.window.proofs.Steps.{Working, work-starts, work-done, work-listed, work-movable, work-fits, work-next, work-answer}
-use Rattle.window.proofs.Outputs.{fills-none, fills-next, fills-all, wrote-row}
+use Rattle.window.proofs.Outputs.{fills-none, fills-next, fills-all}
 use Rattle.rolling.specs.Code.Rows.{planBy, RowIn, RowBounds, Driven, rowAnswer, CanWork, HasWorked, Works}
 use Rattle.rolling.specs.declared.row.Rows.{Rows}
 
@@ -99,6 +99,14 @@ module _ (M : Stored Float Float) (final : M .moment .State → Figure) (has : B
         pub turn-row : RowIn r (length values) starts ends k
         turn-row = record { same = can .plan .same; listed = work-listed M t can (v .working) more }
 
+        pub turn-there : RowThere k (length figures) (length present)
+        turn-there =
+            let l = work-listed M t can (v .working) more in
+            let h = can .outputs-fit in
+            let x = v .figures-same in
+            let y = v .present-same in
+            record { in-figures = omega arith; in-present = omega arith }
+
         module _ {s e : ℕ} (b : RowBounds p k s e) where
           pub turn-movable : Movable M t s e (length values) (r .widest) w agg work
           turn-movable = work-movable M t can (v .working) more (b .start-is) (b .end-is)
@@ -109,20 +117,17 @@ module _ (M : Stored Float Float) (final : M .moment .State → Figure) (has : B
             turn-fits = work-fits M t can (v .working) more (b .start-is) (b .end-is) q same
 
             pub turn-next : {f : Figure} {figures' : List Float} {present' : List ℕ} → f ≡ answerBy M final has (r .«min_periods») s e w' agg' work'
-                → Wrote k f figures figures' present present' → Turn w' agg' work' figures' present' (k + 1)
+                → RowSet k f figures figures' present present' → Turn w' agg' work' figures' present' (k + 1)
             turn-next {f} {figures'} {present'} g o =
                 let a = work-answer M t can (v .working) more (b .start-is) (b .end-is) q same final g in
-                let l = work-listed M t can (v .working) more in
-                let h = can .outputs-fit in
                 let x = v .figures-same in
                 let y = v .present-same in
-                let z = wrote-row k f figures present o (omega arith) (omega arith) in
                 record {
                   working = work-next M t can (v .working) more (b .start-is) (b .end-is) q same;
-                  figures-same = ap length (z .0) ∙ length-set figures k (doubleOf f) ∙ x;
-                  present-same = ap length (z .1) ∙ length-set present k (byteOf f) ∙ y;
-                  figures-are = fills-next (λ j. doubleOf (Answer j)) first k figures₀ figures figures' (doubleOf f) (v .figures-are) (ap doubleOf a) (z .0);
-                  present-are = fills-next (λ j. byteOf (Answer j)) first k present₀ present present' (byteOf f) (v .present-are) (ap byteOf a) (z .1);
+                  figures-same = ap length (o .figures-are) ∙ length-set figures k (doubleOf f) ∙ x;
+                  present-same = ap length (o .present-are) ∙ length-set present k (byteOf f) ∙ y;
+                  figures-are = fills-next (λ j. doubleOf (Answer j)) first k figures₀ figures figures' (doubleOf f) (v .figures-are) (ap doubleOf a) (o .figures-are);
+                  present-are = fills-next (λ j. byteOf (Answer j)) first k present₀ present present' (byteOf f) (v .present-are) (ap byteOf a) (o .present-are);
                 }
 
 -- ---- all rows

@@ -314,9 +314,19 @@ impl KurtosisMoment {
         let mut row = first;
         while row < until {
             let at = row::offsets(rows, values.len(), starts, ends, row);
-            w = KurtosisMoment::step(work, rows, values, has_map, map, w, row, at.start, at.end);
+            w = KurtosisMoment::step(
+                work,
+                rows,
+                values,
+                has_map,
+                map,
+                w,
+                row,
+                at.start,
+                at.end,
+            );
             let figure = self.answer(work, w, has_map, rows.min_periods, at.start, at.end);
-            window::write(figures, present, row, figure);
+            row::write(figures, present, row, figure);
             row += 1;
         }
         w
@@ -346,18 +356,7 @@ impl KurtosisMoment {
         };
         let until = row::how_many(rows, values.len(), starts.len());
         self.block(
-            rows,
-            values,
-            has_map,
-            map,
-            starts,
-            ends,
-            work,
-            figures,
-            present,
-            opening,
-            0,
-            until,
+            rows, values, has_map, map, starts, ends, work, figures, present, opening, 0, until,
         );
     }
 }
@@ -401,15 +400,7 @@ pub fn plan_kurtosis(
     };
     let moment = KurtosisMoment { fisher, bias };
     moment.rows(
-        rows,
-        values,
-        has_map,
-        map,
-        starts,
-        ends,
-        work,
-        figures,
-        present,
+        rows, values, has_map, map, starts, ends, work, figures, present,
     );
     0
 }
@@ -455,15 +446,7 @@ pub fn rolling_kurtosis(
     let none = [0u32; 1];
     let moment = KurtosisMoment { fisher, bias };
     moment.rows(
-        rows,
-        values,
-        has_map,
-        map,
-        &none,
-        &none,
-        work,
-        figures,
-        present,
+        rows, values, has_map, map, &none, &none, work, figures, present,
     );
     0
 }

@@ -3,8 +3,11 @@ ghost use mathlib.Core.Path.{_≡_};
 ghost use mathlib.Core.Bool.{cond};
 ghost use Prim.Native.Nat.{_-_, _≤_};
 ghost use lib.Dec.{leb};
+ghost use lib.ListN.{length};
 ghost use Rattle.window.specs.Rows.{moves};
+ghost use Rattle.window.specs.Code.Filling.{RowThere, SetsRow};
 ghost use Rattle.rolling.specs.Code.Rows.{RowIn, RowAt};
+use moment::Figure;
 use plan::Offsets;
 
 // The rows of a call and what they are tested for: of fixed windows by how many places they reach to the left and to the right of their
@@ -69,4 +72,23 @@ pub(crate) fn is_valid(
         return min_periods <= valid;
     }
     min_periods <= end - start
+}
+
+// A row's answer, as `window::write` writes it, where the lists are known to have the row: a test of their lengths costs time in the row
+// loop.
+pub(crate) fn write(figures: &mut [f64], present: &mut [u8], row: usize, figure: Figure)
+    requires { ⌜ RowThere row (length (now figures)) (length (now present)) ⌝ }
+    ensures { λ _. ⌜ SetsRow row figure figures present ⌝ }
+{
+    let Figure::Present(x) = figure else {
+        figures[row] = 0.0;
+        present[row] = 0;
+        return;
+    };
+    present[row] = 1;
+    if x == x {
+        figures[row] = x;
+        return;
+    }
+    figures[row] = 0.0 / 0.0;
 }

@@ -462,7 +462,17 @@ impl SkewMoment {
         let mut row = first;
         while row < until {
             let at = row::offsets(rows, values.len(), starts, ends, row);
-            w = SkewMoment::step(work, rows, values, has_map, map, w, row, at.start, at.end);
+            w = SkewMoment::step(
+                work,
+                rows,
+                values,
+                has_map,
+                map,
+                w,
+                row,
+                at.start,
+                at.end,
+            );
             let there = self.prepare(
                 work,
                 w,
@@ -579,15 +589,7 @@ pub fn plan_skew(
     };
     let moment = SkewMoment { bias };
     moment.rows(
-        rows,
-        values,
-        has_map,
-        map,
-        starts,
-        ends,
-        work,
-        figures,
-        present,
+        rows, values, has_map, map, starts, ends, work, figures, present,
     );
     0
 }
@@ -632,15 +634,7 @@ pub fn rolling_skew(
     let none = [0u32; 1];
     let moment = SkewMoment { bias };
     moment.rows(
-        rows,
-        values,
-        has_map,
-        map,
-        &none,
-        &none,
-        work,
-        figures,
-        present,
+        rows, values, has_map, map, &none, &none, work, figures, present,
     );
     0
 }

@@ -325,9 +325,19 @@ impl VarianceMoment {
         let mut row = first;
         while row < until {
             let at = row::offsets(rows, values.len(), starts, ends, row);
-            w = VarianceMoment::step(work, rows, values, has_map, map, w, row, at.start, at.end);
+            w = VarianceMoment::step(
+                work,
+                rows,
+                values,
+                has_map,
+                map,
+                w,
+                row,
+                at.start,
+                at.end,
+            );
             let figure = self.answer(work, w, has_map, rows.min_periods, at.start, at.end);
-            window::write(figures, present, row, figure);
+            row::write(figures, present, row, figure);
             row += 1;
         }
         w
@@ -357,18 +367,7 @@ impl VarianceMoment {
         };
         let until = row::how_many(rows, values.len(), starts.len());
         self.block(
-            rows,
-            values,
-            has_map,
-            map,
-            starts,
-            ends,
-            work,
-            figures,
-            present,
-            opening,
-            0,
-            until,
+            rows, values, has_map, map, starts, ends, work, figures, present, opening, 0, until,
         );
     }
 }
@@ -411,15 +410,7 @@ pub fn plan_var(
     };
     let moment = VarianceMoment { ddof };
     moment.rows(
-        rows,
-        values,
-        has_map,
-        map,
-        starts,
-        ends,
-        work,
-        figures,
-        present,
+        rows, values, has_map, map, starts, ends, work, figures, present,
     );
     0
 }
@@ -464,15 +455,7 @@ pub fn rolling_var(
     let none = [0u32; 1];
     let moment = VarianceMoment { ddof };
     moment.rows(
-        rows,
-        values,
-        has_map,
-        map,
-        &none,
-        &none,
-        work,
-        figures,
-        present,
+        rows, values, has_map, map, &none, &none, work, figures, present,
     );
     0
 }

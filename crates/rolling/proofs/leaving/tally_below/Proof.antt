@@ -10,7 +10,7 @@ returns c = λ h. absurd (omega (arith, h, c .if1 .taken))
 
 tally-leaving-requires : tie.Need-tally-leaving-requires
 tally-leaving-requires c κs =
-    let p = c .before .before .before .pre in
+    let p = c .before .before .before .before .pre in
     record { range = record { rises = p .starts; inside = p .inside }; none = trim-none _ _ _ (p .counted) (p .starts) (c .if1 .left) }
 
 returns-2 : tie.Need-returns-2

@@ -3,7 +3,7 @@ use Prim.Native.Nat.{_-_}
 use native.Mathlib.Omega.{arith}
 use borrow.Author.Needs.{needs}
 use Rattle.moment.specs.Kurtosis.{kurtosisFinalize}
-use Rattle.rolling.proofs.RowLoops.{Turn, turn-starts, turn-row, turn-movable, turn-fits, turn-next, turn-done}
+use Rattle.rolling.proofs.RowLoops.{Turn, turn-starts, turn-row, turn-there, turn-movable, turn-fits, turn-next, turn-done}
 use Rattle.rolling.specs.Code.Layouts.{kurtosisStored}
 use Rattle.rolling.proofs.kurtosis.KurtosisMoment.block.Statement.{statement}
 use Rattle.rolling.proofs.kurtosis.KurtosisMoment.block.Tie as tie
@@ -37,7 +37,7 @@ answer-requires c κs =
     record { front-in = f .0; few = f .1; rises = f .2 }
 
 write-requires : tie.Need-write-requires Inv-loop μ-loop
-write-requires c κs = search needs
+write-requires c κs = let r = c .before .before .before .before .before .before .before .before in turn-there kurtosisStored _ _ _ _ _ _ _ _ _ _ _ _ (start r .pre) (r .before .before .loop .inv) (r .before .loop-test .taken)
 
 add-row : tie.Need-add-row Inv-loop μ-loop
 add-row c = let h = c .before .before .before .before .before .before .before .before .before .before .before .before .before .before .loop-test .taken in omega (arith, start (c .before .before .before .before .before .before .before .before .before .before .before .before .before) .fits)

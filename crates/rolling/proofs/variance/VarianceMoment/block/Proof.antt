@@ -3,7 +3,7 @@ use Prim.Native.Nat.{_-_}
 use native.Mathlib.Omega.{arith}
 use borrow.Author.Needs.{needs}
 use Rattle.moment.specs.Var.{varFinalize}
-use Rattle.rolling.proofs.RowLoops.{Turn, turn-starts, turn-row, turn-movable, turn-fits, turn-next, turn-done}
+use Rattle.rolling.proofs.RowLoops.{Turn, turn-starts, turn-row, turn-there, turn-movable, turn-fits, turn-next, turn-done}
 use Rattle.rolling.specs.Code.Layouts.{varStored, varStates}
 use Rattle.rolling.proofs.Weighed.{var-weighs, weighed}
 use Rattle.rolling.proofs.variance.VarianceMoment.block.Statement.{statement}
@@ -38,7 +38,7 @@ answer-requires c κs =
     (weighed varStates var-weighs _ _ (q .result .window) _ _ (q .ensures .held) (f .0) (f .1), f .2)
 
 write-requires : tie.Need-write-requires Inv-loop μ-loop
-write-requires c κs = search needs
+write-requires c κs = let r = c .before .before .before .before .before .before .before .before in turn-there varStored _ _ _ _ _ _ _ _ _ _ _ _ (start r .pre) (r .before .before .loop .inv) (r .before .loop-test .taken)
 
 add-row : tie.Need-add-row Inv-loop μ-loop
 add-row c = let h = c .before .before .before .before .before .before .before .before .before .before .before .before .before .before .loop-test .taken in omega (arith, start (c .before .before .before .before .before .before .before .before .before .before .before .before .before) .fits)
