@@ -87,7 +87,8 @@ impl KurtosisMoment {
         nonfinite: usize,
         agg_back: KurtosisState,
     ) -> KurtosisAppended
-        requires { ⌜ Appendable kurtosisStored (series «has_map» (now map) (now values)) a b (length (now values)) n nonfinite (now back) ⌝ }
+        requires { ⌜ Appendable kurtosisStored (series «has_map» (now map) (now values)) a b (length (now values))
+            n nonfinite (now back) ⌝ }
         ensures { λ q. ⌜ Appended kurtosisStored (seriesIn «has_map» map values) (entering back) n nonfinite «agg_back» a b
             (leaving back) (q .back) (q .nonfinite) (q .«agg_back») ⌝ }
     {
@@ -304,27 +305,17 @@ impl KurtosisMoment {
         first: usize,
         until: usize,
     ) -> KurtosisWindow
-        requires { ⌜ CanWork kurtosisStored «has_map» (now map) (now values) rows (now starts) (now ends) (min (length (now figures)) (length (now present)))
-            first until (opening .window) (opening .«agg_back») (now work) ⌝ }
-        ensures { λ q. ⌜ Works kurtosisStored (λ z. kurtosisFinalize z (self .fisher) (self .bias)) «has_map» (entering map) (entering values) rows (entering starts) (entering ends)
-            first until (entering work) (entering figures) (entering present)
+        requires { ⌜ CanWork kurtosisStored «has_map» (now map) (now values) rows (now starts) (now ends)
+            (min (length (now figures)) (length (now present))) first until (opening .window) (opening .«agg_back») (now work) ⌝ }
+        ensures { λ q. ⌜ Works kurtosisStored (λ z. kurtosisFinalize z (self .fisher) (self .bias)) «has_map» (entering map) (entering values)
+            rows (entering starts) (entering ends) first until (entering work) (entering figures) (entering present)
             (q .window) (q .«agg_back») (leaving work) (leaving figures) (leaving present) ⌝ }
     {
         let mut w = opening;
         let mut row = first;
         while row < until {
             let at = row::offsets(rows, values.len(), starts, ends, row);
-            w = KurtosisMoment::step(
-                work,
-                rows,
-                values,
-                has_map,
-                map,
-                w,
-                row,
-                at.start,
-                at.end,
-            );
+            w = KurtosisMoment::step(work, rows, values, has_map, map, w, row, at.start, at.end);
             let figure = self.answer(work, w, has_map, rows.min_periods, at.start, at.end);
             row::write(figures, present, row, figure);
             row += 1;
@@ -356,7 +347,18 @@ impl KurtosisMoment {
         };
         let until = row::how_many(rows, values.len(), starts.len());
         self.block(
-            rows, values, has_map, map, starts, ends, work, figures, present, opening, 0, until,
+            rows,
+            values,
+            has_map,
+            map,
+            starts,
+            ends,
+            work,
+            figures,
+            present,
+            opening,
+            0,
+            until,
         );
     }
 }
@@ -400,7 +402,15 @@ pub fn plan_kurtosis(
     };
     let moment = KurtosisMoment { fisher, bias };
     moment.rows(
-        rows, values, has_map, map, starts, ends, work, figures, present,
+        rows,
+        values,
+        has_map,
+        map,
+        starts,
+        ends,
+        work,
+        figures,
+        present,
     );
     0
 }
@@ -446,7 +456,15 @@ pub fn rolling_kurtosis(
     let none = [0u32; 1];
     let moment = KurtosisMoment { fisher, bias };
     moment.rows(
-        rows, values, has_map, map, &none, &none, work, figures, present,
+        rows,
+        values,
+        has_map,
+        map,
+        &none,
+        &none,
+        work,
+        figures,
+        present,
     );
     0
 }

@@ -425,7 +425,8 @@ impl SkewMoment {
     // The figures of a block's rows: the roots of all slots, then what each comes to.
     fn finish(self, m2s: &[f64], m3s: &[f64], factors: &[f64], roots: &mut [f64], out: &mut [f64])
         requires { ⌜ SlotsFor (length (now out)) (now m2s) (now m3s) (now factors) (now roots) ⌝ }
-        ensures { λ _. ⌜ leaving out ≡ table (doubleAt (self .bias) (entering m2s) (entering m3s) (entering factors)) (length (entering out)) ⌝ }
+        ensures { λ _. ⌜ leaving out ≡ table (doubleAt (self .bias) (entering m2s) (entering m3s) (entering factors))
+            (length (entering out)) ⌝ }
     {
         let n = out.len();
         root::roots(&m2s[..n], &mut roots[..n]);
@@ -454,25 +455,15 @@ impl SkewMoment {
     ) -> SkewWindow
         requires { ⌜ CanFill «has_map» (now map) (now values) rows (now starts) (now ends) (length (now present)) first until
             (opening .window) (opening .«agg_back») (now work) (now counts) (now corrections) (now m2s) (now m3s) (now factors) ⌝ }
-        ensures { λ q. ⌜ BlockFilled (self .bias) «has_map» (entering map) (entering values) rows (entering starts) (entering ends) first until
-            (entering work) (entering present) (q .window) (q .«agg_back») (leaving work) (leaving present)
+        ensures { λ q. ⌜ BlockFilled (self .bias) «has_map» (entering map) (entering values) rows (entering starts) (entering ends)
+            first until (entering work) (entering present) (q .window) (q .«agg_back») (leaving work) (leaving present)
             (leaving counts) (leaving corrections) (leaving m2s) (leaving m3s) (leaving factors) ⌝ }
     {
         let mut w = opening;
         let mut row = first;
         while row < until {
             let at = row::offsets(rows, values.len(), starts, ends, row);
-            w = SkewMoment::step(
-                work,
-                rows,
-                values,
-                has_map,
-                map,
-                w,
-                row,
-                at.start,
-                at.end,
-            );
+            w = SkewMoment::step(work, rows, values, has_map, map, w, row, at.start, at.end);
             let there = self.prepare(
                 work,
                 w,
@@ -589,7 +580,15 @@ pub fn plan_skew(
     };
     let moment = SkewMoment { bias };
     moment.rows(
-        rows, values, has_map, map, starts, ends, work, figures, present,
+        rows,
+        values,
+        has_map,
+        map,
+        starts,
+        ends,
+        work,
+        figures,
+        present,
     );
     0
 }
@@ -634,7 +633,15 @@ pub fn rolling_skew(
     let none = [0u32; 1];
     let moment = SkewMoment { bias };
     moment.rows(
-        rows, values, has_map, map, &none, &none, work, figures, present,
+        rows,
+        values,
+        has_map,
+        map,
+        &none,
+        &none,
+        work,
+        figures,
+        present,
     );
     0
 }

@@ -315,27 +315,17 @@ impl VarianceMoment {
         first: usize,
         until: usize,
     ) -> VarWindow
-        requires { ⌜ CanWork varStored «has_map» (now map) (now values) rows (now starts) (now ends) (min (length (now figures)) (length (now present)))
-            first until (opening .window) (opening .«agg_back») (now work) ⌝ }
-        ensures { λ q. ⌜ Works varStored (λ z. varFinalize z (self .ddof)) «has_map» (entering map) (entering values) rows (entering starts) (entering ends)
-            first until (entering work) (entering figures) (entering present)
+        requires { ⌜ CanWork varStored «has_map» (now map) (now values) rows (now starts) (now ends)
+            (min (length (now figures)) (length (now present))) first until (opening .window) (opening .«agg_back») (now work) ⌝ }
+        ensures { λ q. ⌜ Works varStored (λ z. varFinalize z (self .ddof)) «has_map» (entering map) (entering values) rows
+            (entering starts) (entering ends) first until (entering work) (entering figures) (entering present)
             (q .window) (q .«agg_back») (leaving work) (leaving figures) (leaving present) ⌝ }
     {
         let mut w = opening;
         let mut row = first;
         while row < until {
             let at = row::offsets(rows, values.len(), starts, ends, row);
-            w = VarianceMoment::step(
-                work,
-                rows,
-                values,
-                has_map,
-                map,
-                w,
-                row,
-                at.start,
-                at.end,
-            );
+            w = VarianceMoment::step(work, rows, values, has_map, map, w, row, at.start, at.end);
             let figure = self.answer(work, w, has_map, rows.min_periods, at.start, at.end);
             row::write(figures, present, row, figure);
             row += 1;
@@ -367,7 +357,18 @@ impl VarianceMoment {
         };
         let until = row::how_many(rows, values.len(), starts.len());
         self.block(
-            rows, values, has_map, map, starts, ends, work, figures, present, opening, 0, until,
+            rows,
+            values,
+            has_map,
+            map,
+            starts,
+            ends,
+            work,
+            figures,
+            present,
+            opening,
+            0,
+            until,
         );
     }
 }
@@ -410,7 +411,15 @@ pub fn plan_var(
     };
     let moment = VarianceMoment { ddof };
     moment.rows(
-        rows, values, has_map, map, starts, ends, work, figures, present,
+        rows,
+        values,
+        has_map,
+        map,
+        starts,
+        ends,
+        work,
+        figures,
+        present,
     );
     0
 }
@@ -455,7 +464,15 @@ pub fn rolling_var(
     let none = [0u32; 1];
     let moment = VarianceMoment { ddof };
     moment.rows(
-        rows, values, has_map, map, &none, &none, work, figures, present,
+        rows,
+        values,
+        has_map,
+        map,
+        &none,
+        &none,
+        work,
+        figures,
+        present,
     );
     0
 }

@@ -91,7 +91,7 @@ pub fn reach(list: &[u8], words: u64) -> usize
 }
 
 // Room of which the first n places hold the n words from word `from` on, as doubles.
-pub fn doubles(list: &[u8], from: usize, n: usize) -> [f64; 1024]
+pub(crate) fn doubles(list: &[u8], from: usize, n: usize) -> [f64; 1024]
     requires { ⌜ n ≤ 1024 ⌝ }
     ensures { λ r. ⌜ Lends n r ⌝ }
 {
@@ -109,7 +109,7 @@ fn number(list: &[u8], k: usize) -> u32 {
 }
 
 // The same, as numbers of 32 bits.
-pub fn numbers(list: &[u8], from: usize, n: usize) -> [u32; 1024]
+pub(crate) fn numbers(list: &[u8], from: usize, n: usize) -> [u32; 1024]
     requires { ⌜ n ≤ 1024 ⌝ }
     ensures { λ r. ⌜ Lends n r ⌝ }
 {
@@ -136,7 +136,7 @@ fn nth(list: &[u8], from: usize, eight: bool, i: usize) -> u8 {
 }
 
 // The same, as bytes: the lowest of each word, or all eight.
-pub fn bytes(list: &[u8], from: usize, eight: bool, n: usize) -> [u8; 1024]
+pub(crate) fn bytes(list: &[u8], from: usize, eight: bool, n: usize) -> [u8; 1024]
     requires { ⌜ n ≤ 1024 ⌝ }
     ensures { λ r. ⌜ Lends n r ⌝ }
 {
