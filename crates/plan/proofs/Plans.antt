@@ -102,14 +102,18 @@ module _ (n : ℕ) (p : Plan) where
       go (here l) f = let z : m ≡ k = omega arith in rw z (omega arith)
       go (there l) f = let q = f l in omega arith
 
-  module _ (m : ℕ) (e : rowsRefusal n p m ≡ 0) where
+  -- bounds that no row lowers rise from any row to any later one
+  module _ (m : ℕ) (step : (j : ℕ) → suc j < m → (rowStart p j ≤ rowStart p (suc j)) × (rowEnd p j ≤ rowEnd p (suc j))) where
     climb : (j d : ℕ) → j + d < m → (rowStart p j ≤ rowStart p (j + d)) × (rowEnd p j ≤ rowEnd p (j + d))
     climb j zero h = rw add-zero (le-refl _, le-refl _)
     climb j (suc d) h =
         let i = climb j d (omega arith) in
         let z : j + suc d ≡ suc (j + d) = add-suc j d in
-        let g = subst Good z (all-good m (j + suc d) e h) in
-        rw z (le-trans (i .0) (g .starts), le-trans (i .1) (g .ends))
+        let g = step (j + d) (omega arith) in
+        rw z (le-trans (i .0) (g .0), le-trans (i .1) (g .1))
+
+    rise : (j k : ℕ) → j ≤ k → k < m → (rowStart p j ≤ rowStart p k) × (rowEnd p j ≤ rowEnd p k)
+    rise j k o h = let z : j + (k - j) ≡ k = omega arith in rw z at (climb j (k - j) (rw z h))
 
   pub planned : length (p .starts) ≡ length (p .ends) → rowsRefusal n p (rows p) ≡ 0 → Planned n (widest p (rows p)) p
   planned l e =
@@ -120,9 +124,7 @@ module _ (n : ℕ) (p : Plan) where
             let w = wide-all (rows p) k h in
             let r = g .row in
             (r, g .within, omega arith);
-        rising = λ j k o h.
-            let z : j + (k - j) ≡ k = omega arith in
-            rw z at (climb (rows p) e j (k - j) (rw z h));
+        rising = rise (rows p) (λ j h. let g = all-good (rows p) (suc j) e h in (g .starts, g .ends));
       }
 
   -- ---- a plan that is in order is not refused
@@ -173,26 +175,90 @@ module _ (n : ℕ) (p : Plan) where
   unfolding widest
   scan-wide k w x e f = f ∙ rw (add-one, e)
 
-  -- ---- the pass that only asks whether a test fails
-  passed : (k w x : ℕ) → (rowsRefusal n p k ≡ 0) × (w ≡ widest p k) → Row k ≡ 0 →
-      (rowStart p k ≤ rowEnd p k → x ≡ max w (rowEnd p k - rowStart p k)) → (rowsRefusal n p (k + 1) ≡ 0) × (x ≡ widest p (k + 1))
-  passed k w x o e f = (scan-row k 0 (o .0) (sym e) refl, scan-wide k w x (o .1) (f (good k e .row)))
+  -- ---- the pass that compares each row with the one before it and keeps the widest width, which may have wrapped
+  -- the first k rows, none of whose bounds falls: a width that wrapped is near 2 ^ 32
+  pub record Passing (wide k : ℕ) : Type 0 where
+    pub steps : (j : ℕ) → suc j < k → (rowStart p j ≤ rowStart p (suc j)) × (rowEnd p j ≤ rowEnd p (suc j))
+    pub wraps : (j : ℕ) → j < k → rowEnd p j < rowStart p j → rowEnd p j + 4294967296 ≤ rowStart p j + wide
+    pub wide-is : ((j : ℕ) → j < k → rowStart p j ≤ rowEnd p j) → wide ≡ widest p k
 
-  pub pass-first : (x : ℕ) → (rowStart p 0 ≤ rowEnd p 0 → x ≡ rowEnd p 0 - rowStart p 0) →
-      (ltb (rowEnd p 0) (rowStart p 0) || ltb n (rowEnd p 0)) ≡ false → (rowsRefusal n p 1 ≡ 0) × (x ≡ widest p 1)
-  unfolding rowsRefusal widest
-  pass-first x f t =
-      let a = neither _ _ t in
-      passed 0 0 x (refl, refl) (unrefused 0 (a .0) (a .1) (le-ltb (rowStart p 0) 0 (omega arith)) (le-ltb (rowEnd p 0) 0 (omega arith)))
-      (λ o. let z = f o in omega arith)
+  -- a width x with row k's own, after w
+  pub record Width (k w x : ℕ) : Type 0 where
+    pub kept : w ≤ x
+    pub plain : rowStart p k ≤ rowEnd p k → x ≡ max w (rowEnd p k - rowStart p k)
+    pub wrapped : rowEnd p k < rowStart p k → rowEnd p k + 4294967296 ≤ rowStart p k + x
 
-  pub pass-row : (k w x : ℕ) (refused : Bool) → 1 ≤ k → (refused ≡ false → (rowsRefusal n p k ≡ 0) × (w ≡ widest p k)) →
-      (rowStart p k ≤ rowEnd p k → x ≡ max w (rowEnd p k - rowStart p k)) →
-      ((((refused || ltb (rowEnd p k) (rowStart p k)) || ltb n (rowEnd p k)) || ltb (rowStart p k) (getD (p .starts) (k - 1) 0)) || ltb (rowEnd p k) (getD (p .ends) (k - 1) 0))
-      ≡ false → (rowsRefusal n p (k + 1) ≡ 0) × (x ≡ widest p (k + 1))
-  pass-row k w x refused h i f t =
-      let d = neither _ _ t in
-      let c = neither _ _ (d .0) in
-      let b = neither _ _ (c .0) in
+  pass-wraps : (k w x j : ℕ) → Passing w k → Width k w x → j < suc k → rowEnd p j < rowStart p j → rowEnd p j + 4294967296 ≤ rowStart p j + x
+  pass-wraps k w x j i o h f = go (order k j)
+    where
+      go : Or (k ≤ j) (j < k) → rowEnd p j + 4294967296 ≤ rowStart p j + x
+      go (here l) = let z : k ≡ j = omega arith in subst (λ j. rowEnd p j < rowStart p j → rowEnd p j + 4294967296 ≤ rowStart p j + x) z (o .wrapped) f
+      go (there l) = let a = i .wraps j l f in let b = o .kept in omega arith
+
+  passed : (k w x : ℕ) → Passing w k → Width k w x →
+      ((j : ℕ) → suc j < suc k → (rowStart p j ≤ rowStart p (suc j)) × (rowEnd p j ≤ rowEnd p (suc j))) → Passing x (suc k)
+  unfolding widest
+  passed k w x i o steps =
+      record {
+        steps = steps;
+        wraps = λ j h f. pass-wraps k w x j i o h f;
+        wide-is = λ f. o .plain (f k (omega arith)) ∙ rw (i .wide-is (λ j h. f j (omega arith)));
+      }
+
+  pub pass-first : (x : ℕ) → Width 0 0 x → Passing x 1
+  unfolding widest
+  pass-first x o =
+      passed 0 0 x (record { steps = λ j h. absurd (omega arith); wraps = λ j h. absurd (omega arith); wide-is = λ _. refl }) o
+      (λ j h. absurd (omega arith))
+
+  pub pass-row : (k w x : ℕ) (falls : Bool) → 1 ≤ k → (falls ≡ false → Passing w k) → Width k w x →
+      ((falls || ltb (rowStart p k) (rowStart p (k - 1))) || ltb (rowEnd p k) (rowEnd p (k - 1))) ≡ false → Passing x (k + 1)
+  pass-row zero w x falls h i o t = absurd (omega arith)
+  pass-row (suc k) w x falls h i o t =
+      let z : suc k - 1 ≡ k = omega arith in
+      let b = neither _ _ (rw z at t) in
       let a = neither _ _ (b .0) in
-      passed k w x (i (a .0)) (unrefused k (a .1) (b .1) (rw (before-at (p .starts) k h) (c .1)) (rw (before-at (p .ends) k h) (d .1))) f
+      let was = i (a .0) in
+      rw add-one (passed (suc k) w x was o (λ j h. go j h (was .steps) (ltb-false _ _ (a .1), ltb-false _ _ (b .1)) (order k j)))
+    where
+      go : (j : ℕ) → suc j < suc (suc k) →
+          ((j : ℕ) → suc j < suc k → (rowStart p j ≤ rowStart p (suc j)) × (rowEnd p j ≤ rowEnd p (suc j))) →
+          (rowStart p k ≤ rowStart p (suc k)) × (rowEnd p k ≤ rowEnd p (suc k)) → Or (k ≤ j) (j < k) →
+          (rowStart p j ≤ rowStart p (suc j)) × (rowEnd p j ≤ rowEnd p (suc j))
+      go j h f g (here l) = let z : k ≡ j = omega arith in subst (λ j. (rowStart p j ≤ rowStart p (suc j)) × (rowEnd p j ≤ rowEnd p (suc j))) z g
+      go j h f g (there l) = f j (omega arith)
+
+  -- at the last row: where it and the widest width are within the series, no width has wrapped and no row is refused
+  module _ (w last : ℕ) (l : length (p .starts) ≡ length (p .ends)) (few : n ≤ 16777216) (q : suc last ≡ rows p) (i : Passing w (rows p))
+      (s : rowStart p last ≤ n) (e : rowEnd p last ≤ n) (o : w ≤ n) where
+    within : (k : ℕ) → k < rows p → (rowStart p k ≤ n) × (rowEnd p k ≤ n)
+    within k h =
+        let r = rise (rows p) (i .steps) k last (omega arith) (omega arith) in
+        (le-trans (r .0) s, le-trans (r .1) e)
+
+    in-turn : (k : ℕ) → k < rows p → Or (rowStart p k ≤ rowEnd p k) (rowEnd p k < rowStart p k) → rowStart p k ≤ rowEnd p k
+    in-turn k h (here f) = f
+    in-turn k h (there f) = let a = i .wraps k h f in let b = within k h .0 in absurd (omega arith)
+
+    turns : (k : ℕ) → k < rows p → rowStart p k ≤ rowEnd p k
+    turns k h = in-turn k h (order (rowStart p k) (rowEnd p k))
+
+    ordered : Planned n (widest p (rows p)) p
+    ordered =
+        record {
+          same = l;
+          row = λ k h. let w = wide-all (rows p) k h in let f = turns k h in (f, within k h .1, omega arith);
+          rising = rise (rows p) (i .steps);
+        }
+
+    all-passed : (rowsRefusal n p (rows p) ≡ 0) × (w ≡ widest p (rows p))
+    all-passed = (rows-in-order (widest p (rows p)) (rows p) ordered (le-refl _), i .wide-is turns)
+
+  pub pass-last : (w last : ℕ) (falls : Bool) → length (p .starts) ≡ length (p .ends) → n ≤ 16777216 → suc last ≡ rows p →
+      (falls ≡ false → Passing w (rows p)) → (falls || ((ltb n (rowStart p last) || ltb n (rowEnd p last)) || ltb n w)) ≡ false →
+      (rowsRefusal n p (rows p) ≡ 0) × (w ≡ widest p (rows p))
+  pass-last w last falls l few q i t =
+      let a = neither _ _ t in
+      let b = neither _ _ (a .1) in
+      let d = neither _ _ (b .0) in
+      all-passed w last l few q (i (a .0)) (ltb-false _ _ (d .0)) (ltb-false _ _ (d .1)) (ltb-false _ _ (b .1))

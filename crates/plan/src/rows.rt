@@ -4,7 +4,7 @@ ghost use mathlib.Core.Path.{_≡_};
 ghost use lib.ListN.{length};
 ghost use Rattle.plan.specs.Plan.{planning};
 ghost use Rattle.plan.specs.Refusals.{rowRefusal};
-ghost use Rattle.plan.specs.Code.Accepted.{Scans, Tests};
+ghost use Rattle.plan.specs.Code.Accepted.{Scans, Testable, Tests};
 use crate::Checked;
 
 // What refuses a row of a plan over n places after the row before: 5, 6, 7, or 0.
@@ -71,10 +71,11 @@ struct Tested {
     widest: u32,
 }
 
-// The rows' tests alone, without a branch on a row, so that several rows are tested at once. A width that wraps is one of a row
-// that is refused.
+// The rows' tests alone, without a branch on a row, so that several rows are tested at once. A row is compared with the row before it, and
+// its width kept, which wraps where it ends before it starts. Where no bound falls, the last ones are the largest, so one test at the end
+// tells for all rows whether they lie in the trace; and of rows that do, a width that wrapped is wider than the trace.
 fn test_rows(n: u32, starts: &[u32], ends: &[u32]) -> Tested
-    requires { ⌜ length (now starts) ≡ length (now ends) ⌝ }
+    requires { ⌜ Testable n (now starts) (now ends) ⌝ }
     ensures { λ r. ⌜ Tests n (planning starts ends) (r .refused) (r .widest) ⌝ }
 {
     if starts.len() == 0 {
@@ -83,22 +84,25 @@ fn test_rows(n: u32, starts: &[u32], ends: &[u32]) -> Tested
             widest: 0,
         };
     }
-    let start = starts[0];
-    let end = ends[0];
-    let mut refused = (end < start) | (n < end);
-    let mut widest = std::num::wrapping_sub_u32(end, start);
+    let mut falls = false;
+    let mut widest = std::num::wrapping_sub_u32(ends[0], starts[0]);
     let mut row = 1;
     while row < starts.len() {
         let start = starts[row];
         let end = ends[row];
         let before_start = starts[row - 1];
         let before_end = ends[row - 1];
-        refused = refused | (end < start) | (n < end) | (start < before_start) | (end < before_end);
+        falls = falls | (start < before_start) | (end < before_end);
         let wide = std::num::wrapping_sub_u32(end, start);
         widest = if widest < wide { wide } else { widest };
         row += 1;
     }
-    Tested { refused, widest }
+    let last = starts.len() - 1;
+    let past = (n < starts[last]) | (n < ends[last]) | (n < widest);
+    Tested {
+        refused: falls | past,
+        widest,
+    }
 }
 
 // The rows of a plan over n places. Bounds are of 32 bits, and so are those of a trace that is not too long.

@@ -307,8 +307,8 @@ impl KurtosisMoment {
     ) -> KurtosisWindow
         requires { ⌜ CanWork kurtosisStored «has_map» (now map) (now values) rows (now starts) (now ends)
             (min (length (now figures)) (length (now present))) first until (opening .window) (opening .«agg_back») (now work) ⌝ }
-        ensures { λ q. ⌜ Works kurtosisStored (λ z. kurtosisFinalize z (self .fisher) (self .bias)) «has_map» (entering map) (entering values)
-            rows (entering starts) (entering ends) first until (entering work) (entering figures) (entering present)
+        ensures { λ q. ⌜ Works kurtosisStored (λ z. kurtosisFinalize z (self .fisher) (self .bias)) «has_map» (entering map)
+            (entering values) rows (entering starts) (entering ends) first until (entering work) (entering figures) (entering present)
             (q .window) (q .«agg_back») (leaving work) (leaving figures) (leaving present) ⌝ }
     {
         let mut w = opening;

@@ -2,6 +2,7 @@
 use Prim.Native.Nat.{ℕ, _+_, _*_, _≤_, _<_}
 use mathlib.Core.Path.{_≡_}
 use mathlib.Core.Bool.{Bool, false}
+use mathlib.Core.List.{List}
 use lib.ListN.{length}
 use Rattle.plan.specs.Plan.{Plan, rows, rowStart, rowEnd}
 use Rattle.plan.specs.Bounds.{bounds}
@@ -41,3 +42,8 @@ pub record Scans (n : ℕ) (p : Plan) (number wide : ℕ) : Type 0 where
 -- what the tests of all rows answer: where none fails, none is refused, and the widest window
 pub record Tests (n : ℕ) (p : Plan) (refused : Bool) (wide : ℕ) : Type 0 where
   pub passed : refused ≡ false → (rowsRefusal n p (rows p) ≡ 0) × (wide ≡ widest p (rows p))
+
+-- lists of one length, over a trace that is not too long
+pub record Testable (n : ℕ) (starts ends : List ℕ) : Type 0 where
+  pub same : length starts ≡ length ends
+  pub few : n ≤ 16777216
