@@ -3,14 +3,8 @@ use borrow.Author.Needs.{needs}
 use Rattle.moments.proofs.moments_skew_finalize.Statement.{statement}
 use Rattle.moments.proofs.moments_skew_finalize.Tie as tie
 
-finalize-requires : tie.Need-finalize-requires
-finalize-requires c κs = search needs
-
-store-figure-requires : tie.Need-store-figure-requires
-store-figure-requires c κs = search needs
-
 returns : tie.Need-returns
 returns c = rw (← c .before .before .finalize .ensures) (c .store-figure .ensures)
 
 pub moments-skew-finalize-spec : {M : Type 1} → statement M
-moments-skew-finalize-spec = tie.close (tie.spec finalize-requires store-figure-requires returns)
+moments-skew-finalize-spec = let met = tie.spec (λ c κs. search needs) (λ c κs. search needs) returns in tie.close met

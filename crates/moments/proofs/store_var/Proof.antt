@@ -4,12 +4,6 @@ use mathlib.Core.Path.{refl}
 use Rattle.moments.proofs.store_var.Statement.{statement}
 use Rattle.moments.proofs.store_var.Tie as tie
 
-enum-known-answer : tie.Need-enum-known-answer
-enum-known-answer c = search needs
-
-enum-known-answer-2 : tie.Need-enum-known-answer-2
-enum-known-answer-2 c = search needs
-
 returns : tie.Need-returns
 returns c = rw (c .before .before .answer .given .1) record { number = refl; state = refl }
 
@@ -17,4 +11,4 @@ returns-2 : tie.Need-returns-2
 returns-2 c = rw (c .before .answer2 .given .1) record { number = refl; state = refl }
 
 pub store-var-spec : {M : Type 1} → statement M
-store-var-spec = tie.close (tie.spec enum-known-answer enum-known-answer-2 returns returns-2)
+store-var-spec = let met = tie.spec (λ c. search needs) (λ c. search needs) returns returns-2 in tie.close met
