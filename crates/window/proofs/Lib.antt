@@ -1,4 +1,4 @@
--- Laws of places, stacks and moves, over any moment and any layout; of single readings; of rows; of the lists that are filled.
+-- Laws of places, stacks and moves, over any moment and any layout; of single readings; of rows; of the lists that are filled; of what two moments keep alike.
 pub mod Places
 pub mod Stacks
 pub mod Moves
@@ -6,3 +6,4 @@ pub mod Readings
 pub mod Rows
 pub mod Steps
 pub mod Outputs
+pub mod Related
