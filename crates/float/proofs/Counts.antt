@@ -13,7 +13,7 @@ use lib.Ieee.Fits.{down-pos}
 use lib.Ieee.Exact.{HasValue}
 use lib.Ieee.Back.{round-whole}
 use lib.Ieee.Scale.{round-same}
-use Rattle.float.specs.Operators.{_⊕_, zero64, one64, count}
+use Rattle.float.specs.Operators.{_⊕_, zero64, one64, ofNat64}
 use Rattle.float.proofs.Booleans.{bool-same, and-true, or-left, or-right}
 
 -- ---- sums
@@ -35,20 +35,20 @@ add-values (fin false m e) (fin false n d) a b p q =
     round-same binary64 false (m * up e * down d + n * up d * down e) (down e * down d) (a + b) 1 (mul-pos (down-pos e) (down-pos d)) (zero-lt-suc 0) (mul-one _ ∙ w)
 
 -- the float of a plus the float of b is the float of a + b
-pub count-add : (a b : ℕ) → a ≤ 2 ^ 53 → b ≤ 2 ^ 53 → count a ⊕ count b ≡ count (a + b)
+pub count-add : (a b : ℕ) → a ≤ 2 ^ 53 → b ≤ 2 ^ 53 → ofNat64 a ⊕ ofNat64 b ≡ ofNat64 (a + b)
 unfolding ofInt
 count-add a b h k = add-values (round binary64 false a 1) (round binary64 false b 1) a b (round-whole binary64 false a h) (round-whole binary64 false b k)
 
-pub one-is : one64 ≡ count 1
+pub one-is : one64 ≡ ofNat64 1
 unfolding ofBits ofInt
 one-is = refl
 
-pub zero-is : zero64 ≡ count 0
+pub zero-is : zero64 ≡ ofNat64 0
 unfolding ofBits ofInt
 zero-is = refl
 
 -- raised by 1.0
-pub count-one : (n : ℕ) → n ≤ 2 ^ 53 → count n ⊕ one64 ≡ count (n + 1)
+pub count-one : (n : ℕ) → n ≤ 2 ^ 53 → ofNat64 n ⊕ one64 ≡ ofNat64 (n + 1)
 count-one n h = rw one-is (count-add n 1 h (lit≤ tt))
 
 -- ---- order
@@ -115,16 +115,16 @@ le-values : (x y : Float) (a b : ℕ) → HasValue x false a 1 → HasValue y fa
 unfolding le
 le-values x y a b p q = ap (λ (z : Bool). z || eq x y) (lt-values x y a b p q) ∙ ap (λ (z : Bool). ltb a b || z) (eq-values x y a b p q) ∙ or-leb a b
 
-count-value : (n : ℕ) → n ≤ 2 ^ 53 → HasValue (count n) false n 1
+count-value : (n : ℕ) → n ≤ 2 ^ 53 → HasValue (ofNat64 n) false n 1
 unfolding ofInt
 count-value n h = round-whole binary64 false n h
 
 -- a count is at most another exactly where the numbers are so
-pub count-le : (a b : ℕ) → a ≤ 2 ^ 53 → b ≤ 2 ^ 53 → le (count a) (count b) ≡ leb a b
-count-le a b h k = le-values (count a) (count b) a b (count-value a h) (count-value b k)
+pub count-le : (a b : ℕ) → a ≤ 2 ^ 53 → b ≤ 2 ^ 53 → le (ofNat64 a) (ofNat64 b) ≡ leb a b
+count-le a b h k = le-values (ofNat64 a) (ofNat64 b) a b (count-value a h) (count-value b k)
 
-pub count-eq : (a b : ℕ) → a ≤ 2 ^ 53 → b ≤ 2 ^ 53 → eq (count a) (count b) ≡ eqb a b
-count-eq a b h k = eq-values (count a) (count b) a b (count-value a h) (count-value b k)
+pub count-eq : (a b : ℕ) → a ≤ 2 ^ 53 → b ≤ 2 ^ 53 → eq (ofNat64 a) (ofNat64 b) ≡ eqb a b
+count-eq a b h k = eq-values (ofNat64 a) (ofNat64 b) a b (count-value a h) (count-value b k)
 
-pub count-zero : (n : ℕ) → n ≤ 2 ^ 53 → eq (count n) zero64 ≡ eqb n 0
+pub count-zero : (n : ℕ) → n ≤ 2 ^ 53 → eq (ofNat64 n) zero64 ≡ eqb n 0
 count-zero n h = rw zero-is (count-eq n 0 h (lit≤ tt))

@@ -52,5 +52,5 @@ abbrev pub epsilon64 : Float
 epsilon64 = ofBits binary64 0x3cb0_0000_0000_0000
 
 -- n as f64, for a whole number n: the nearest float, which is n itself up to 2 ^ 53
-abbrev pub count : ℕ → Float
-count n = ofInt binary64 (pos n)
+abbrev pub ofNat64 : ℕ → Float
+ofNat64 n = ofInt binary64 (pos n)

@@ -7,7 +7,7 @@ use native.Mathlib.Omega.{arith}
 use lib.Dec.{eqb}
 use lib.ListN.{length, take, drop, getD, set}
 use lib.Ieee.{Float, nan}
-use Rattle.float.specs.Operators.{_⊗_, _⊘_, one64, zero64, _⊕_, count}
+use Rattle.float.specs.Operators.{_⊗_, _⊘_, one64, zero64, _⊕_, ofNat64}
 use Rattle.moment.specs.Sums.{sumOf, itself, firstOf, secondOf}
 use Rattle.trace.specs.Trace.{validFrom}
 use Rattle.moment.proofs.Folds.{Folded, fold-step, fold-end}
@@ -72,12 +72,12 @@ module _ {S : Type 0} (empty : S) (about : Float → Float → Float → List (F
   abbrev pub byPairs : S
   byPairs =
       let ps = zip xs ys in
-      let w = count (length ps) in
+      let w = ofNat64 (length ps) in
       cond (eqb (length ps) 0) empty (about w (sumOf firstOf ps ⊗ (one64 ⊘ w)) (sumOf secondOf ps ⊗ (one64 ⊘ w)) ps)
 
   abbrev pub byLists : S
   byLists =
-      let w = count (length xs) in
+      let w = ofNat64 (length xs) in
       cond (eqb (length xs) 0) empty (about w (sumOf itself xs ⊗ (one64 ⊘ w)) (sumOf itself ys ⊗ (one64 ⊘ w)) (zip xs ys))
 
   pub pairs-lists : byPairs ≡ byLists

@@ -10,7 +10,7 @@ use borrow.Author.Tests.{eqb-false, ne-eqb}
 use lib.Dec.{T, eqb, leb, eqb→eq}
 use lib.ListN.{length}
 use lib.Ieee.{Float, eq, le}
-use Rattle.float.specs.Operators.{_⊕_, zero64, one64, count}
+use Rattle.float.specs.Operators.{_⊕_, zero64, one64, ofNat64}
 use Rattle.float.proofs.Counts.{count-one, count-add, count-zero, count-le, zero-is}
 use Rattle.moment.specs.declared.var_state.VarState.{VarState}
 use Rattle.moment.specs.declared.cov_state.CovState.{CovState}
@@ -25,51 +25,51 @@ use Rattle.moment.specs.Kurtosis.{kurtosisClear, kurtosisInsert, kurtosi
 
 -- ---- a weight that is the float of a count, compared
 -- it is zero exactly where the count is
-pub at-zero : (w : Float) (n : ℕ) → n ≤ 2 ^ 53 → w ≡ count n → eq w zero64 ≡ eqb n 0
+pub at-zero : (w : Float) (n : ℕ) → n ≤ 2 ^ 53 → w ≡ ofNat64 n → eq w zero64 ≡ eqb n 0
 at-zero w n h e = ap (λ (w : Float). eq w zero64) e ∙ count-zero n h
 
 -- it is at most ddof exactly where the count is
-pub at-most-ddof : (w : Float) (n ddof : ℕ) → n ≤ 2 ^ 53 → ddof < 256 → w ≡ count n → le w (count ddof) ≡ leb n ddof
-at-most-ddof w n ddof h k e = ap (λ (w : Float). le w (count ddof)) e ∙ count-le n ddof h (omega arith)
+pub at-most-ddof : (w : Float) (n ddof : ℕ) → n ≤ 2 ^ 53 → ddof < 256 → w ≡ ofNat64 n → le w (ofNat64 ddof) ≡ leb n ddof
+at-most-ddof w n ddof h k e = ap (λ (w : Float). le w (ofNat64 ddof)) e ∙ count-le n ddof h (omega arith)
 
 -- ---- the law
 -- one reading more
-raised : (w : Float) (n : ℕ) → n < 2 ^ 53 → w ≡ count n → w ⊕ one64 ≡ count (n + 1)
+raised : (w : Float) (n : ℕ) → n < 2 ^ 53 → w ≡ ofNat64 n → w ⊕ one64 ≡ ofNat64 (n + 1)
 raised w n h e = ap (λ (w : Float). w ⊕ one64) e ∙ count-one n (omega arith)
 
 -- what is shown of a state: that inserts count, and that `combine` adds counts
 abbrev pub InsertsCount : {S A : Type 0} → (S → Float) → (S → A → S) → Type 0
-InsertsCount {S} {A} weight insert = (xs : List A) (s : S) (a : ℕ) → weight s ≡ count a → a + length xs ≤ 2 ^ 53 → weight (foldl insert s xs) ≡ count (a + length xs)
+InsertsCount {S} {A} weight insert = (xs : List A) (s : S) (a : ℕ) → weight s ≡ ofNat64 a → a + length xs ≤ 2 ^ 53 → weight (foldl insert s xs) ≡ ofNat64 (a + length xs)
 
 abbrev pub CombineCounts : {S : Type 0} → (S → Float) → (S → S → S) → Type 0
-CombineCounts {S} weight combine = (s o : S) (a b : ℕ) → a ≤ 2 ^ 53 → b ≤ 2 ^ 53 → weight s ≡ count a → weight o ≡ count b → weight (combine s o) ≡ count (a + b)
+CombineCounts {S} weight combine = (s o : S) (a b : ℕ) → a ≤ 2 ^ 53 → b ≤ 2 ^ 53 → weight s ≡ ofNat64 a → weight o ≡ ofNat64 b → weight (combine s o) ≡ ofNat64 (a + b)
 
 module _ {S A : Type 0} (weight : S → Float) (insert : S → A → S) (raises : (s : S) (x : A) → weight (insert s x) ≡ weight s ⊕ one64) where
   -- n entries put into a state of weight a give one of weight a + n
   pub inserts-count : InsertsCount weight insert
-  inserts-count [] s a e h = e ∙ ap count (sym (add-zero a))
+  inserts-count [] s a e h = e ∙ ap ofNat64 (sym (add-zero a))
   inserts-count (x ∷ xs) s a e h =
       inserts-count xs (insert s x) (a + 1) (raises s x ∙ raised _ a (omega arith) e) (omega arith)
-      ∙ ap count (let k : a + 1 + length xs ≡ a + suc (length xs) = omega arith in k)
+      ∙ ap ofNat64 (let k : a + 1 + length xs ≡ a + suc (length xs) = omega arith in k)
 
   -- the same in falling order
-  pub falls-count : (xs : List A) (s : S) → weight s ≡ count 0 → length xs ≤ 2 ^ 53 → weight (foldr (λ x t. insert t x) s xs) ≡ count (length xs)
+  pub falls-count : (xs : List A) (s : S) → weight s ≡ ofNat64 0 → length xs ≤ 2 ^ 53 → weight (foldr (λ x t. insert t x) s xs) ≡ ofNat64 (length xs)
   falls-count [] s e h = e
   falls-count (x ∷ xs) s e h =
       raises _ x ∙ raised _ (length xs) (omega arith) (falls-count xs s e (omega arith))
-      ∙ ap count (let k : length xs + 1 ≡ suc (length xs) = omega arith in k)
+      ∙ ap ofNat64 (let k : length xs + 1 ≡ suc (length xs) = omega arith in k)
 
   -- a window: one part inserted in rising order, combined with another inserted in falling order
-  pub parts-count : (combine : S → S → S) → CombineCounts weight combine → (empty : S) → weight empty ≡ count 0 → (xs ys : List A) → length xs + length ys ≤ 2 ^ 53
-      → weight (combine (foldl insert empty xs) (foldr (λ x t. insert t x) empty ys)) ≡ count (length xs + length ys)
+  pub parts-count : (combine : S → S → S) → CombineCounts weight combine → (empty : S) → weight empty ≡ ofNat64 0 → (xs ys : List A) → length xs + length ys ≤ 2 ^ 53
+      → weight (combine (foldl insert empty xs) (foldr (λ x t. insert t x) empty ys)) ≡ ofNat64 (length xs + length ys)
   parts-count combine adds empty e xs ys h =
       let k : 0 + length xs ≡ length xs = omega arith in
-      adds _ _ (length xs) (length ys) (omega arith) (omega arith) (inserts-count xs empty 0 e (omega arith) ∙ ap count k) (falls-count ys empty e (omega arith))
+      adds _ _ (length xs) (length ys) (omega arith) (omega arith) (inserts-count xs empty 0 e (omega arith) ∙ ap ofNat64 k) (falls-count ys empty e (omega arith))
 
 -- what `combine` answers: the first where the other's weight is zero, the other where its own is zero, else the two merged
-module _ {S : Type 0} (weight : S → Float) (s o m : S) (a b : ℕ) (h : a ≤ 2 ^ 53) (k : b ≤ 2 ^ 53) (p : weight s ≡ count a) (q : weight o ≡ count b) (adds : weight m ≡ weight s ⊕ weight o) where
-  merged : weight m ≡ count (a + b)
-  merged = adds ∙ ap (λ (w : Float). w ⊕ weight o) p ∙ ap (λ (w : Float). count a ⊕ w) q ∙ count-add a b h k
+module _ {S : Type 0} (weight : S → Float) (s o m : S) (a b : ℕ) (h : a ≤ 2 ^ 53) (k : b ≤ 2 ^ 53) (p : weight s ≡ ofNat64 a) (q : weight o ≡ ofNat64 b) (adds : weight m ≡ weight s ⊕ weight o) where
+  merged : weight m ≡ ofNat64 (a + b)
+  merged = adds ∙ ap (λ (w : Float). w ⊕ weight o) p ∙ ap (λ (w : Float). ofNat64 a ⊕ w) q ∙ count-add a b h k
 
   none-other : T (eqb b 0) → a ≡ a + b
   none-other t = let z : b ≡ 0 = eqb→eq b 0 t in omega arith
@@ -77,20 +77,20 @@ module _ {S : Type 0} (weight : S → Float) (s o m : S) (a b : ℕ) (h : a ≤ 
   none-own : T (eqb a 0) → b ≡ a + b
   none-own t = let z : a ≡ 0 = eqb→eq a 0 t in omega arith
 
-  other-tested : (t : Bool) (n : S) → t ≡ eqb b 0 → weight n ≡ count (a + b) → weight (cond t s n) ≡ count (a + b)
-  other-tested true n e f = p ∙ ap count (none-other (subst T e tt))
+  other-tested : (t : Bool) (n : S) → t ≡ eqb b 0 → weight n ≡ ofNat64 (a + b) → weight (cond t s n) ≡ ofNat64 (a + b)
+  other-tested true n e f = p ∙ ap ofNat64 (none-other (subst T e tt))
   other-tested false n e f = f
 
-  own-tested : (t : Bool) → t ≡ eqb a 0 → weight (cond t o m) ≡ count (a + b)
-  own-tested true e = q ∙ ap count (none-own (subst T e tt))
+  own-tested : (t : Bool) → t ≡ eqb a 0 → weight (cond t o m) ≡ ofNat64 (a + b)
+  own-tested true e = q ∙ ap ofNat64 (none-own (subst T e tt))
   own-tested false e = merged
 
   -- variance's combine, which does not test its own weight
-  pub merged-count : weight (cond (eq (weight o) zero64) s m) ≡ count (a + b)
+  pub merged-count : weight (cond (eq (weight o) zero64) s m) ≡ ofNat64 (a + b)
   merged-count = other-tested _ m (at-zero (weight o) b k q) merged
 
   -- the other states' combine
-  pub combined-count : weight (cond (eq (weight o) zero64) s (cond (eq (weight s) zero64) o m)) ≡ count (a + b)
+  pub combined-count : weight (cond (eq (weight o) zero64) s (cond (eq (weight s) zero64) o m)) ≡ ofNat64 (a + b)
   combined-count = other-tested _ _ (at-zero (weight o) b k q) (own-tested _ (at-zero (weight s) a h p))
 
 -- clearing keeps the weight
@@ -99,7 +99,7 @@ cleared weight true s z e = e
 cleared weight false s z e = refl
 
 -- a state of one or more readings: its weight is not zero, so nothing is cleared
-uncleared : {S : Type 0} (weight : S → Float) (s z : S) (n : ℕ) → 0 < n → n ≤ 2 ^ 53 → weight s ≡ count n → s ≡ cond (eq (weight s) zero64) z s
+uncleared : {S : Type 0} (weight : S → Float) (s z : S) (n : ℕ) → 0 < n → n ≤ 2 ^ 53 → weight s ≡ ofNat64 n → s ≡ cond (eq (weight s) zero64) z s
 uncleared weight s z n k h e = rw (at-zero (weight s) n h e, ne-eqb n 0 (λ y. omega arith))
 
 -- ---- clearing keeps the weight
@@ -158,7 +158,7 @@ unfolding varCombine
 var-combine-count s o a b h k p q = merged-count varWeight s o (varMerge s o) a b h k p q (var-cleared _)
 
 pub var-parts-count : (xs ys : List Float) → length xs + length ys ≤ 2 ^ 53
-    → varCombine (foldl varInsert varEmpty xs) (foldr (λ x s. varInsert s x) varEmpty ys) .weight ≡ count (length xs + length ys)
+    → varCombine (foldl varInsert varEmpty xs) (foldr (λ x s. varInsert s x) varEmpty ys) .weight ≡ ofNat64 (length xs + length ys)
 var-parts-count = parts-count varWeight varInsert var-raises varCombine var-combine-count varEmpty zero-is
 
 pub skew-combine-count : CombineCounts skewWeight skewCombine
@@ -178,15 +178,15 @@ unfolding pearsonCombine
 pearson-combine-count s o a b h k p q = combined-count pearsonWeight s o (pearsonMerge s o) a b h k p q refl
 
 -- ---- a state of readings has nothing to clear, and which state `combine` answers is told by the counts
-pub var-inserted : (s : VarState) (x : Float) (n : ℕ) → n < 2 ^ 53 → s .weight ≡ count n → varInserted s x ≡ varInsert s x
+pub var-inserted : (s : VarState) (x : Float) (n : ℕ) → n < 2 ^ 53 → s .weight ≡ ofNat64 n → varInserted s x ≡ varInsert s x
 unfolding varClear
 var-inserted s x n h e = uncleared varWeight (varInserted s x) _ (n + 1) (omega arith) (omega arith) (raised (s .weight) n h e)
 
-pub skew-inserted : (s : SkewState) (x : Float) (n : ℕ) → n < 2 ^ 53 → s .weight ≡ count n → skewInserted s x ≡ skewInsert s x
+pub skew-inserted : (s : SkewState) (x : Float) (n : ℕ) → n < 2 ^ 53 → s .weight ≡ ofNat64 n → skewInserted s x ≡ skewInsert s x
 unfolding skewClear
 skew-inserted s x n h e = uncleared skewWeight (skewInserted s x) _ (n + 1) (omega arith) (omega arith) (raised (s .weight) n h e)
 
-pub var-by-counts : (s o : VarState) (a b : ℕ) → a + b ≤ 2 ^ 53 → s .weight ≡ count a → o .weight ≡ count b → varCombine s o ≡ cond (eqb b 0) s (varMerged s o)
+pub var-by-counts : (s o : VarState) (a b : ℕ) → a + b ≤ 2 ^ 53 → s .weight ≡ ofNat64 a → o .weight ≡ ofNat64 b → varCombine s o ≡ cond (eqb b 0) s (varMerged s o)
 unfolding varCombine varClear
 var-by-counts s o a b h p q = rw (at-zero (o .weight) b (omega arith) q) (go (eqb b 0) refl)
   where
@@ -196,11 +196,11 @@ var-by-counts s o a b h p q = rw (at-zero (o .weight) b (omega arith) q) (go (eq
         let n = eqb-false b 0 e in
         sym (uncleared varWeight (varMerged s o) _ (a + b) (omega arith) h (merged varWeight s o (varMerged s o) a b (omega arith) (omega arith) p q refl))
 
-pub skew-by-counts : (s o : SkewState) (a b : ℕ) → a ≤ 2 ^ 53 → b ≤ 2 ^ 53 → s .weight ≡ count a → o .weight ≡ count b
+pub skew-by-counts : (s o : SkewState) (a b : ℕ) → a ≤ 2 ^ 53 → b ≤ 2 ^ 53 → s .weight ≡ ofNat64 a → o .weight ≡ ofNat64 b
     → skewCombine s o ≡ cond (eqb b 0) s (cond (eqb a 0) o (skewMerge s o))
 unfolding skewCombine
 skew-by-counts s o a b h k p q = rw (at-zero (o .weight) b k q, at-zero (s .weight) a h p)
 
-pub skew-merged : (s o : SkewState) (a b : ℕ) → a ≤ 2 ^ 53 → b ≤ 2 ^ 53 → a + b ≤ 2 ^ 53 → 0 < a + b → s .weight ≡ count a → o .weight ≡ count b → skewMerged s o ≡ skewMerge s o
+pub skew-merged : (s o : SkewState) (a b : ℕ) → a ≤ 2 ^ 53 → b ≤ 2 ^ 53 → a + b ≤ 2 ^ 53 → 0 < a + b → s .weight ≡ ofNat64 a → o .weight ≡ ofNat64 b → skewMerged s o ≡ skewMerge s o
 unfolding skewClear
 skew-merged s o a b h k l m p q = uncleared skewWeight (skewMerged s o) _ (a + b) m l (merged skewWeight s o (skewMerged s o) a b h k p q refl)

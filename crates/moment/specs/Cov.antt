@@ -6,7 +6,7 @@ use mathlib.Core.List.{List}
 use lib.Dec.{eqb}
 use lib.ListN.{length}
 use lib.Ieee.{Float, eq, le}
-use Rattle.float.specs.Operators.{_⊕_, _⊖_, _⊗_, _⊘_, zero64, one64, count}
+use Rattle.float.specs.Operators.{_⊕_, _⊖_, _⊗_, _⊘_, zero64, one64, ofNat64}
 use Rattle.moment.specs.Sums.{sumOf, firstOf, secondOf, deviationProduct}
 use Rattle.moment.specs.Updates.{meanWith, productsWith}
 use Rattle.moment.specs.declared.cov_state.CovState.{CovState}
@@ -19,7 +19,7 @@ covEmpty = record { weight = zero64; «mean_x» = zero64; «mean_y» = zero64; �
 
 -- a mean of one or more pairs: the sum of one member, times one over the count
 abbrev pub pairMean : (Float × Float → Float) → List (Float × Float) → Float
-pairMean member ps = sumOf member ps ⊗ (one64 ⊘ count (length ps))
+pairMean member ps = sumOf member ps ⊗ (one64 ⊘ ofNat64 (length ps))
 
 -- `CovState::new` of one or more pairs, about two means
 abbrev pub covAbout : Float → Float → Float → List (Float × Float) → CovState
@@ -28,7 +28,7 @@ covAbout w meanX meanY ps = record { weight = w; «mean_x» = meanX; «mean_y» 
 -- `CovState::new`
 unfoldable pub covNew : List (Float × Float) → CovState
 covNew ps =
-    cond (eqb (length ps) 0) covEmpty (covAbout (count (length ps)) (pairMean firstOf ps) (pairMean secondOf ps) ps)
+    cond (eqb (length ps) 0) covEmpty (covAbout (ofNat64 (length ps)) (pairMean firstOf ps) (pairMean secondOf ps) ps)
 
 -- `CovState::insert_one`
 abbrev pub covInsert : CovState → Float → Float → CovState
@@ -52,4 +52,4 @@ covCombine s o = cond (eq (o .weight) zero64) s (cond (eq (s .weight) zero64) o 
 
 -- `CovState::finalize`: "missing: variance and covariance when weight ≤ ddof"; a quotient below zero stays
 unfoldable pub covFinalize : CovState → ℕ → Figure
-covFinalize s ddof = cond (le (s .weight) (count ddof)) Missing (Present (s .«dp_xy» ⊘ (s .weight ⊖ count ddof)))
+covFinalize s ddof = cond (le (s .weight) (ofNat64 ddof)) Missing (Present (s .«dp_xy» ⊘ (s .weight ⊖ ofNat64 ddof)))

@@ -4,7 +4,7 @@ use mathlib.Core.List.{List}
 use lib.Dec.{eqb}
 use lib.ListN.{length}
 use lib.Ieee.{Float, nan, eq, le}
-use Rattle.float.specs.Operators.{_⊕_, _⊖_, _⊗_, _⊘_, zero64, one64, two64, three64, four64, six64, count}
+use Rattle.float.specs.Operators.{_⊕_, _⊖_, _⊗_, _⊘_, zero64, one64, two64, three64, four64, six64, ofNat64}
 use Rattle.moment.specs.Sums.{sumOf, square, cube, fourth}
 use Rattle.moment.specs.Var.{meanOf}
 use Rattle.moment.specs.Skew.{isZero, skewInserted, skewMerged}
@@ -30,7 +30,7 @@ kurtosisAbout w mean xs =
 
 -- `KurtosisState::new` and `KurtosisState::from_iter`
 unfoldable pub kurtosisNew : List Float → KurtosisState
-kurtosisNew xs = cond (eqb (length xs) 0) kurtosisEmpty (kurtosisAbout (count (length xs)) (meanOf xs) xs)
+kurtosisNew xs = cond (eqb (length xs) 0) kurtosisEmpty (kurtosisAbout (ofNat64 (length xs)) (meanOf xs) xs)
 
 -- `KurtosisState::clear_zero_weight_nan`
 unfoldable pub kurtosisClear : KurtosisState → KurtosisState

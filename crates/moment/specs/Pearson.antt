@@ -5,7 +5,7 @@ use mathlib.Core.List.{List}
 use lib.Dec.{eqb}
 use lib.ListN.{length}
 use lib.Ieee.{Float, nan, eq, lt}
-use Rattle.float.specs.Operators.{_⊕_, _⊖_, _⊗_, _⊘_, zero64, one64, count}
+use Rattle.float.specs.Operators.{_⊕_, _⊖_, _⊗_, _⊘_, zero64, one64, ofNat64}
 use Rattle.root.specs.Root.{root}
 use Rattle.moment.specs.Sums.{sumOf, firstOf, secondOf, square, deviationProduct}
 use Rattle.moment.specs.Cov.{pairMean}
@@ -47,7 +47,7 @@ pearsonAbout w meanX meanY ps =
 unfoldable pub pearsonNew : List (Float × Float) → PearsonState
 pearsonNew ps =
     cond (eqb (length ps) 0) pearsonEmpty
-    (pearsonAbout (count (length ps)) (pairMean firstOf ps) (pairMean secondOf ps) ps)
+    (pearsonAbout (ofNat64 (length ps)) (pairMean firstOf ps) (pairMean secondOf ps) ps)
 
 -- `PearsonState::insert_one`
 abbrev pub pearsonInsert : PearsonState → Float → Float → PearsonState

@@ -5,7 +5,7 @@ use mathlib.Core.List.{List}
 use lib.Dec.{eqb}
 use lib.ListN.{length}
 use lib.Ieee.{Float, nan, eq, le}
-use Rattle.float.specs.Operators.{_⊕_, _⊖_, _⊗_, _⊘_, zero64, one64, two64, three64, epsilon64, count}
+use Rattle.float.specs.Operators.{_⊕_, _⊖_, _⊗_, _⊘_, zero64, one64, two64, three64, epsilon64, ofNat64}
 use Rattle.root.specs.Root.{root}
 use Rattle.moment.specs.Sums.{sumOf, square, cube}
 use Rattle.moment.specs.Var.{meanOf}
@@ -23,7 +23,7 @@ skewAbout w mean xs = record { weight = w; mean = mean; m2 = sumOf (square mean)
 
 -- `SkewState::new` and `SkewState::from_iter`
 unfoldable pub skewNew : List Float → SkewState
-skewNew xs = cond (eqb (length xs) 0) skewEmpty (skewAbout (count (length xs)) (meanOf xs) xs)
+skewNew xs = cond (eqb (length xs) 0) skewEmpty (skewAbout (ofNat64 (length xs)) (meanOf xs) xs)
 
 -- `SkewState::clear_zero_weight_nan`
 unfoldable pub skewClear : SkewState → SkewState

@@ -6,7 +6,7 @@ use mathlib.Core.List.{List}
 use lib.Dec.{eqb}
 use lib.ListN.{length}
 use lib.Ieee.{Float, isNan, eq, lt, le}
-use Rattle.float.specs.Operators.{_⊕_, _⊖_, _⊗_, _⊘_, zero64, one64, count}
+use Rattle.float.specs.Operators.{_⊕_, _⊖_, _⊗_, _⊘_, zero64, one64, ofNat64}
 use Rattle.moment.specs.Sums.{sumOf, itself, square}
 use Rattle.moment.specs.Updates.{meanWith, productsWith}
 use Rattle.moment.specs.declared.var_state.VarState.{VarState}
@@ -19,13 +19,13 @@ varEmpty = record { weight = zero64; mean = zero64; dp = zero64 }
 
 -- the mean of one or more readings: their sum over their count
 abbrev pub meanOf : List Float → Float
-meanOf xs = sumOf itself xs ⊘ count (length xs)
+meanOf xs = sumOf itself xs ⊘ ofNat64 (length xs)
 
 -- `VarState::new`
 unfoldable pub varNew : List Float → VarState
 varNew xs =
     cond (eqb (length xs) 0) varEmpty
-    (record { weight = count (length xs); mean = meanOf xs; dp = sumOf (square (meanOf xs)) xs })
+    (record { weight = ofNat64 (length xs); mean = meanOf xs; dp = sumOf (square (meanOf xs)) xs })
 
 -- `VarState::clear_zero_weight_nan`
 unfoldable pub varClear : VarState → VarState
@@ -64,7 +64,7 @@ notNegative v = cond (lt v zero64) zero64 v
 
 -- `VarState::finalize`: "missing .. when weight ≤ ddof"
 unfoldable pub varFinalize : VarState → ℕ → Figure
-varFinalize s ddof = cond (le (s .weight) (count ddof)) Missing (Present (notNegative (s .dp ⊘ (s .weight ⊖ count ddof))))
+varFinalize s ddof = cond (le (s .weight) (ofNat64 ddof)) Missing (Present (notNegative (s .dp ⊘ (s .weight ⊖ ofNat64 ddof))))
 
 -- "variance is shown NaN or at least zero", where it is not missing
 unfoldable pub notBelowZero : Figure → Bool

@@ -9,7 +9,7 @@ use lib.Dec.{T, leb, eqb}
 use lib.ListN.{length, length-append}
 use lib.Ieee.{Float, isNan}
 use borrow.Author.Tests.{le-leb, leb-true, leb-false, eqb-true}
-use Rattle.float.specs.Operators.{_⊖_, _⊘_, count}
+use Rattle.float.specs.Operators.{_⊖_, _⊘_, ofNat64}
 use Rattle.float.proofs.Signs.{nan-or-at-least-zero}
 use Rattle.trace.specs.Trace.{Trace}
 use Rattle.moment.specs.declared.var_state.VarState.{VarState}
@@ -96,7 +96,7 @@ module _ (p : Plan) (minPeriods : ℕ) (t : Trace) (widest : ℕ) (plan : Planne
     state = varCombine (rising variance varEmpty (back w B)) (falling variance (front w B))
 
     abbrev value : Float
-    value = notNegative (state .dp ⊘ (state .weight ⊖ count ddof))
+    value = notNegative (state .dp ⊘ (state .weight ⊖ ofNat64 ddof))
 
     figure-is : B .start ≡ s → B .end ≡ e
         → figureOf variance (λ z. varFinalize z ddof) w B ≡ orNan (nonfiniteCount (w .places) s e) (cond (leb N ddof) Missing (Present value))
@@ -108,7 +108,7 @@ module _ (p : Plan) (minPeriods : ℕ) (t : Trace) (widest : ℕ) (plan : Planne
         let b = count-le (w .places .valid) (λ j. j) s e in
         let m : length (front w B) + length (back w B) ≡ N = two-counts (w .places .valid) (w .entry) (B .start) (B .split) (B .end) (i .start-le) (i .split-le) ∙ many-chosen (w .places .valid) (w .entry) (B .start) (B .end) ∙ rw (x, y) in
         let o : length (back w B) + length (front w B) ≡ N = omega arith in
-        let f = var-parts-count (back w B) (front w B) (omega arith) ∙ ap count o in
+        let f = var-parts-count (back w B) (front w B) (omega arith) ∙ ap ofNat64 o in
         let d : nonfiniteCount (w .places) (B .start) (B .end) ≡ nonfiniteCount (w .places) s e = rw (x, y) in
         ap (λ (z : ℕ). orNan z (varFinalize state ddof)) d ∙ ap (orNan (nonfiniteCount (w .places) s e)) (var-missing N (omega arith) state ddof byte f)
 
@@ -160,7 +160,7 @@ module _ (p : Plan) (minPeriods : ℕ) (t : Trace) (widest : ℕ) (plan : Planne
               byte-is = inr refl;
               missing = (λ z. absurd (omega arith), not-few (leb-true _ _ x) (leb-false _ _ y));
               not-finite = λ z f. absurd (some-nonfinite f (eqb-true _ _ n));
-              not-below = λ z. one-of _ _ (nan-or-at-least-zero (state .dp ⊘ (state .weight ⊖ count ddof)));
+              not-below = λ z. one-of _ _ (nan-or-at-least-zero (state .dp ⊘ (state .weight ⊖ ofNat64 ddof)));
             }
         go true false false x y n =
             record {

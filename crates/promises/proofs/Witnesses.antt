@@ -6,7 +6,7 @@ use mathlib.Core.Bool.{true, false}
 use mathlib.Core.List.{List, [], _∷_}
 use native.Mathlib.Omega.{arith}
 use lib.Ieee.{Float, nan, binary64, ofBits, toBits, ofInt, add, sub, mul, div, eq, lt, le}
-use Rattle.float.specs.Operators.{zero64, one64, two64}
+use Rattle.float.specs.Operators.{zero64, one64, two64, ofNat64}
 use Rattle.float.specs.Tables.{table}
 use Rattle.trace.specs.Trace.{Trace, traceOf, validAt}
 use Rattle.trace.specs.Refusals.{refusal, _orElse_, wrongMap}
@@ -25,7 +25,7 @@ use Rattle.rolling.specs.Calls.{Query, Called}
 use Rattle.rolling.specs.Fixed.{CalledFixed}
 use Rattle.weighted.specs.Weights.{weightedAt, weightsRefusal, CalledWeights}
 use Rattle.moments.specs.HostCall.{CalledBytes}
-use Rattle.promises.specs.Table.{whole, varianceBy, p7, trace7, p8, p9, trace9}
+use Rattle.promises.specs.Table.{varianceBy, p7, trace7, p8, p9, trace9}
 use Rattle.promises.specs.Demands.{AcceptedCall, planCall, Alike, Agree}
 
 -- ---- there are accepted calls
@@ -63,7 +63,7 @@ bytes8 =
     0 ∷ 0 ∷ 0 ∷ 0 ∷ 0 ∷ 0 ∷ 0xF8 ∷ 0x7F ∷ 0 ∷ 0 ∷ 0 ∷ 0 ∷ 0 ∷ 0 ∷ 0x10 ∷ 0x40 ∷ 0 ∷ 0 ∷ 0 ∷ 0 ∷ 0 ∷ 0 ∷ 0x18 ∷ 0x40 ∷ []
 
 -- P8 as a host call, its three readings decoded before what stands behind them
-pub p8-accepted : CalledBytes (varianceBy p8 1) (record { bytes = bytes8; mapped = false; map = [] }) (table (λ i. one64) 4) (nan ∷ whole 4 ∷ whole 6 ∷ one64 ∷ [])
+pub p8-accepted : CalledBytes (varianceBy p8 1) (record { bytes = bytes8; mapped = false; map = [] }) (table (λ i. one64) 4) (nan ∷ ofNat64 4 ∷ ofNat64 6 ∷ one64 ∷ [])
     (fourLent 8) (fourLeft 8 (nan ∷ two64 ∷ one64 ∷ one64 ∷ []) (1 ∷ 1 ∷ 7 ∷ 7 ∷ [])) 0
 unfolding table refusal _orElse_ wrongMap planRefusal filled kept ofBits ofInt add sub mul div eq lt le varClear varCombine varFinalize entriesFrom splitAfter figureOf insertedAt nonfiniteAt answerAt validAt
 p8-accepted =
@@ -92,7 +92,7 @@ p9-accepted =
 
 -- "Trailing window 2, minimum 1, trace 1,3", with ddof 1: row 0 has one place, and so no figure
 abbrev trace13 : Trace
-trace13 = traceOf (whole 1 ∷ whole 3 ∷ []) false []
+trace13 = traceOf (ofNat64 1 ∷ ofNat64 3 ∷ []) false []
 
 pub trailing-accepted : CalledFixed false 2 1 (Variance 1) trace13 (fourLent 8) (fourLeft 8 (zero64 ∷ two64 ∷ one64 ∷ one64 ∷ []) (0 ∷ 1 ∷ 7 ∷ 7 ∷ [])) 0
 unfolding table refusal _orElse_ wrongMap planRefusal bounds fixedRefusal filled kept ofBits ofInt add sub mul div eq lt le varClear varCombine varFinalize entriesFrom splitAfter figureOf insertedAt nonfiniteAt answerAt validAt
@@ -130,10 +130,10 @@ abbrev shortRow : Query
 shortRow = varianceBy (planOf (0 ∷ 0 ∷ 1 ∷ []) (0 ∷ 2 ∷ 4 ∷ [])) 3
 
 abbrev ones : Trace
-ones = traceOf (whole 2 ∷ whole 0 ∷ whole 1 ∷ whole 3 ∷ []) true (15 ∷ [])
+ones = traceOf (ofNat64 2 ∷ ofNat64 0 ∷ ofNat64 1 ∷ ofNat64 3 ∷ []) true (15 ∷ [])
 
 abbrev noMap : Trace
-noMap = traceOf (whole 2 ∷ whole 0 ∷ whole 1 ∷ whole 3 ∷ []) false []
+noMap = traceOf (ofNat64 2 ∷ ofNat64 0 ∷ ofNat64 1 ∷ ofNat64 3 ∷ []) false []
 
 -- the two calls' lists, which differ in one bit of row 2's double
 abbrev onesLeft : Lent

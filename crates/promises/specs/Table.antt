@@ -7,7 +7,7 @@ use lib.Dec.{eqb}
 use lib.ListN.{length}
 use lib.IntN.{negsuc}
 use lib.Ieee.{Float, nan, inf, binary64, ofBits, toBits, ofInt}
-use Rattle.float.specs.Operators.{zero64, one64, count}
+use Rattle.float.specs.Operators.{zero64, one64, ofNat64}
 use Rattle.root.specs.Root.{root}
 use Rattle.trace.specs.Trace.{Trace, traceOf}
 use Rattle.trace.specs.Refusals.{traceRefusal}
@@ -41,10 +41,6 @@ same x y = eqb (toBits binary64 x) (toBits binary64 y)
 abbrev pub gives : Figure → ℕ → Float → Bool
 gives figure byte x = eqb (byteOf figure) byte && same (doubleOf figure) x
 
--- a reading that is a whole number
-abbrev pub whole : ℕ → Float
-whole n = count n
-
 -- all of a list of tests hold
 unfoldable pub every : List Bool → Bool
 every [] = true
@@ -66,7 +62,7 @@ correlationOf (pearson.Refused number) = zero64
 
 -- 2 and 4 inserted
 abbrev pub twoInserted : VarState
-twoInserted = foldl varInsert varEmpty (whole 2 ∷ whole 4 ∷ [])
+twoInserted = foldl varInsert varEmpty (ofNat64 2 ∷ ofNat64 4 ∷ [])
 
 -- a variance with ddof 1, of a plan and with a minimum
 abbrev pub varianceBy : Plan → ℕ → Query
@@ -95,19 +91,19 @@ abbrev pub p7 : Plan
 p7 = planOf (0 ∷ 1 ∷ 3 ∷ []) (2 ∷ 3 ∷ 4 ∷ [])
 
 abbrev pub trace7 : Trace
-trace7 = traceOf (whole 2 ∷ whole 4 ∷ whole 6 ∷ whole 8 ∷ []) false []
+trace7 = traceOf (ofNat64 2 ∷ ofNat64 4 ∷ ofNat64 6 ∷ ofNat64 8 ∷ []) false []
 
 abbrev pub p8 : Plan
 p8 = planOf (0 ∷ 1 ∷ []) (2 ∷ 3 ∷ [])
 
 abbrev pub trace8 : Trace
-trace8 = traceOf (nan ∷ whole 4 ∷ whole 6 ∷ []) false []
+trace8 = traceOf (nan ∷ ofNat64 4 ∷ ofNat64 6 ∷ []) false []
 
 abbrev pub p9 : Plan
 p9 = planOf (0 ∷ []) (3 ∷ [])
 
 abbrev pub trace9 : Trace
-trace9 = traceOf (whole 2 ∷ whole 7 ∷ whole 4 ∷ []) true (5 ∷ [])
+trace9 = traceOf (ofNat64 2 ∷ ofNat64 7 ∷ ofNat64 4 ∷ []) true (5 ∷ [])
 
 -- P1 empty variance, ddof 0: missing. P2 insert 2, 4: ddof 0, 1, 2 gives 1, 2, missing. P3 empty combined with (weight 1,
 -- mean infinity, dp 0): NaN at ddof 0. P4 Pearson of (1,2),(3,4): 1; of one pair: NaN. P5 range 0,0,0,0,5, biased skewness:
@@ -117,28 +113,28 @@ trace9 = traceOf (whole 2 ∷ whole 7 ∷ whole 4 ∷ []) true (5 ∷ [])
 unfoldable pub cases : List Bool
 cases =
     gives (varFinalize varEmpty 0) 0 zero64
-    ∷ gives (varFinalize twoInserted 0) 1 (whole 1)
-    ∷ gives (varFinalize twoInserted 1) 1 (whole 2)
+    ∷ gives (varFinalize twoInserted 0) 1 (ofNat64 1)
+    ∷ gives (varFinalize twoInserted 1) 1 (ofNat64 2)
     ∷ gives (varFinalize twoInserted 2) 0 zero64
     ∷ gives (varFinalize (varCombine varEmpty (record { weight = one64; mean = inf false; dp = zero64 })) 0) 1 nan
-    ∷ same (correlationOf (pearsonAnswer (whole 1 ∷ whole 3 ∷ []) false [] (whole 2 ∷ whole 4 ∷ []) false [])) (whole 1)
-    ∷ same (correlationOf (pearsonAnswer (whole 1 ∷ []) false [] (whole 2 ∷ []) false [])) nan
+    ∷ same (correlationOf (pearsonAnswer (ofNat64 1 ∷ ofNat64 3 ∷ []) false [] (ofNat64 2 ∷ ofNat64 4 ∷ []) false [])) (ofNat64 1)
+    ∷ same (correlationOf (pearsonAnswer (ofNat64 1 ∷ []) false [] (ofNat64 2 ∷ []) false [])) nan
     ∷ gives
-    (skewnessOf (skewRange (whole 0 ∷ whole 0 ∷ whole 0 ∷ whole 0 ∷ whole 5 ∷ []) false [] 0 5))
+    (skewnessOf (skewRange (ofNat64 0 ∷ ofNat64 0 ∷ ofNat64 0 ∷ ofNat64 0 ∷ ofNat64 5 ∷ []) false [] 0 5))
     1
     (ofBits binary64 0x3FF8000000000000)
-    ∷ gives (kurtosisOf false (kurtosisRange (whole 1 ∷ whole 3 ∷ []) false [] 0 2)) 1 (whole 1)
-    ∷ gives (kurtosisOf true (kurtosisRange (whole 1 ∷ whole 3 ∷ []) false [] 0 2)) 1 (ofInt binary64 (negsuc 1))
+    ∷ gives (kurtosisOf false (kurtosisRange (ofNat64 1 ∷ ofNat64 3 ∷ []) false [] 0 2)) 1 (ofNat64 1)
+    ∷ gives (kurtosisOf true (kurtosisRange (ofNat64 1 ∷ ofNat64 3 ∷ []) false [] 0 2)) 1 (ofInt binary64 (negsuc 1))
     ∷ accepted p7 trace7
-    ∷ rowGives p7 1 trace7 0 1 (whole 2)
-    ∷ rowGives p7 1 trace7 1 1 (whole 2)
+    ∷ rowGives p7 1 trace7 0 1 (ofNat64 2)
+    ∷ rowGives p7 1 trace7 1 1 (ofNat64 2)
     ∷ rowGives p7 1 trace7 2 0 zero64
     ∷ accepted p8 trace8
     ∷ rowGives p8 1 trace8 0 1 nan
-    ∷ rowGives p8 1 trace8 1 1 (whole 2)
+    ∷ rowGives p8 1 trace8 1 1 (ofNat64 2)
     ∷ accepted p9 trace9
-    ∷ rowGives p9 2 trace9 0 1 (whole 2)
+    ∷ rowGives p9 2 trace9 0 1 (ofNat64 2)
     ∷ rowGives p9 3 trace9 0 0 zero64
-    ∷ same (root (whole 2)) (ofBits binary64 0x3FF6A09E667F3BCD)
+    ∷ same (root (ofNat64 2)) (ofBits binary64 0x3FF6A09E667F3BCD)
     ∷ same (root (ofBits binary64 1)) (ofBits binary64 0x1E60000000000000)
     ∷ []

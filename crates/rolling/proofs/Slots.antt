@@ -10,7 +10,7 @@ use lib.Dec.{eqb, leb}
 use lib.ListN.{length, take, drop, set, getD, length-take, length-set, length-map, List·getD-append, List·getD-map, replicate, length-replicate, getD-replicate}
 use lib.Seq.{getD-set-same, getD-set-other, getD-take}
 use lib.Ieee.{Float, nan, inf, fin, mul, div, ofBits}
-use Rattle.float.specs.Operators.{_⊗_, _⊘_, zero64, one64, count}
+use Rattle.float.specs.Operators.{_⊗_, _⊘_, zero64, one64, ofNat64}
 use Rattle.float.specs.Tables.{table}
 use Rattle.float.proofs.Counts.{zero-is}
 use Rattle.float.proofs.Tables.{table-same}
@@ -33,11 +33,11 @@ use Rattle.rolling.specs.Code.Slots.{Corrections, m2Of, m3Of, leastOf, e
 
 -- the weight of a window's two states combined
 pub total-weight : (w : Window) (agg : SkewState) (work : List Float) → Weighed skewStates skewWeight w agg work →
-    skewCombine agg (topOf skewStored work (w .front)) .weight ≡ count (w .front + w .back)
+    skewCombine agg (topOf skewStored work (w .front)) .weight ≡ ofNat64 (w .front + w .back)
 total-weight w agg work q =
     let h = q .few in
     let k : w .back + w .front ≡ w .front + w .back = omega arith in
-    skew-combine-count agg _ (w .back) (w .front) (omega arith) (omega arith) (q .back-is) (q .front-is) ∙ ap count k
+    skew-combine-count agg _ (w .back) (w .front) (omega arith) (omega arith) (q .back-is) (q .front-is) ∙ ap ofNat64 k
 
 -- ---- what a slot comes to
 div-nan : (y : Float) → nan ⊘ y ≡ nan
@@ -57,7 +57,7 @@ nothing true = refl
 nothing false = refl
 
 -- too few readings
-too-few : (s : SkewState) (bias : Bool) (n nonfinite : ℕ) → n ≤ 2 ^ 53 → s .weight ≡ count n → leb (leastOf bias) n ≡ false → orNan nonfinite (skewFinalize s bias) ≡ Figure·Missing
+too-few : (s : SkewState) (bias : Bool) (n nonfinite : ℕ) → n ≤ 2 ^ 53 → s .weight ≡ ofNat64 n → leb (leastOf bias) n ≡ false → orNan nonfinite (skewFinalize s bias) ≡ Figure·Missing
 unfolding orNan
 too-few s bias n nonfinite h e f = ap (orNan nonfinite) (go bias f) ∙ same (eqb nonfinite 0)
   where
@@ -70,7 +70,7 @@ too-few s bias n nonfinite h e f = ap (orNan nonfinite) (go bias f) ∙ same (eq
     go false f = skew-unbiased-missing n h s e ∙ rw (le-leb n 2 (let g = leb-false 3 n f in omega arith))
 
 -- enough readings
-module _ (s : SkewState) (n nonfinite : ℕ) (h : n ≤ 2 ^ 53) (e : s .weight ≡ count n) where
+module _ (s : SkewState) (n nonfinite : ℕ) (h : n ≤ 2 ^ 53) (e : s .weight ≡ ofNat64 n) where
   abbrev R : Float
   R = root (m2Of s)
 
@@ -83,12 +83,12 @@ module _ (s : SkewState) (n nonfinite : ℕ) (h : n ≤ 2 ^ 53) (e : s .weight �
   biased-is true z = rw z (div-nan _)
   biased-is false z = rw z
 
-  present-double : (bias : Bool) (factor : Float) → leb (leastOf bias) n ≡ true → (bias ≡ false → factor ≡ skewCorrection (count n)) →
+  present-double : (bias : Bool) (factor : Float) → leb (leastOf bias) n ≡ true → (bias ≡ false → factor ≡ skewCorrection (ofNat64 n)) →
       estimate bias (m2Of s) (m3Of s nonfinite) factor R ≡ doubleOf (orNan nonfinite (skewFinalize s bias))
   unfolding orNan
   present-double bias factor f c = rw (figured bias f) (go bias c (eqb nonfinite 0))
     where
-      go : (bias : Bool) → (bias ≡ false → factor ≡ skewCorrection (count n)) → (b : Bool) →
+      go : (bias : Bool) → (bias ≡ false → factor ≡ skewCorrection (ofNat64 n)) → (b : Bool) →
           estimate bias (m2Of s) (cond b (cond (isZero (m2Of s) (s .mean)) nan (s .m3 ⊘ s .weight)) nan) factor R
           ≡ doubleOf (cond b (Present (cond bias (skewBiased s) (skewCorrection (s .weight) ⊗ skewBiased s))) (Present nan))
       go true c true = biased-is _ refl
@@ -158,8 +158,8 @@ missing-waits bias answer e k m2s m3s factors =
       byte-is = rw e;
     }
 
-pub present-waits : (bias : Bool) (s : SkewState) (n nonfinite : ℕ) → n ≤ 2 ^ 53 → s .weight ≡ count n → leb (leastOf bias) n ≡ true →
-    (factor : Float) → (bias ≡ false → factor ≡ skewCorrection (count n)) → (answer : Figure) → answer ≡ orNan nonfinite (skewFinalize s bias) →
+pub present-waits : (bias : Bool) (s : SkewState) (n nonfinite : ℕ) → n ≤ 2 ^ 53 → s .weight ≡ ofNat64 n → leb (leastOf bias) n ≡ true →
+    (factor : Float) → (bias ≡ false → factor ≡ skewCorrection (ofNat64 n)) → (answer : Figure) → answer ≡ orNan nonfinite (skewFinalize s bias) →
     (k : ℕ) (m2s m3s factors m2s' m3s' factors' : List Float) → m2s' ≡ set m2s k (m2Of s) → m3s' ≡ set m3s k (m3Of s nonfinite) → factors' ≡ set factors k factor →
     SlotHolds bias answer k 1 m2s m3s factors m2s' m3s' factors'
 present-waits bias s n nonfinite h e f factor c answer a k m2s m3s factors m2s' m3s' factors' x y z =
@@ -201,7 +201,7 @@ set-at l i j a d h = go (eqb j i) refl
     go false e = getD-set-other l i j a d (eqb-false j i e)
 
 -- a place taken by another count
-pub taken-place : (counts : List ℕ) (corrections : List Float) → Corrections counts corrections → (i : ℕ) → i < 256 → (n : ℕ) (f : Float) → f ≡ skewCorrection (count n) →
+pub taken-place : (counts : List ℕ) (corrections : List Float) → Corrections counts corrections → (i : ℕ) → i < 256 → (n : ℕ) (f : Float) → f ≡ skewCorrection (ofNat64 n) →
     Corrections (set counts i n) (set corrections i f)
 taken-place counts corrections c i h n f e =
     let l = c .counts-long in
@@ -212,7 +212,7 @@ taken-place counts corrections c i h n f e =
       correction-is = λ j k. rw (set-at corrections i j f nan (omega arith), set-at counts i j n 0 (omega arith)) (go j k (eqb j i));
     }
   where
-    go : (j : ℕ) → j < 256 → (b : Bool) → cond b f (getD corrections j nan) ≡ skewCorrection (count (cond b n (getD counts j 0)))
+    go : (j : ℕ) → j < 256 → (b : Bool) → cond b f (getD corrections j nan) ≡ skewCorrection (ofNat64 (cond b n (getD counts j 0)))
     go j k true = e
     go j k false = c .correction-is j k
 

@@ -7,7 +7,7 @@ use mathlib.Core.List.{List}
 use native.Mathlib.Omega.{arith}
 use lib.ListN.{length, take, drop, length-take, length-drop}
 use lib.Ieee.{Float}
-use Rattle.float.specs.Operators.{_⊕_, one64, count}
+use Rattle.float.specs.Operators.{_⊕_, one64, ofNat64}
 use Rattle.float.proofs.Counts.{zero-is}
 use Rattle.moment.specs.declared.Figure.the-variants.{Missing}
 use Rattle.moment.specs.Var.{varInserted}
@@ -29,10 +29,10 @@ use Rattle.rolling.specs.Code.Weighed.{varWeight, skewWeight, Weighed}
 -- a moment whose states have a weight that an insert raises by one, with an insert that clears nothing
 pub record Weighs (m : ReadingStates) : Type 0 where
   pub weight : m .moment .State → Float
-  pub none : weight (m .moment .empty) ≡ count 0
+  pub none : weight (m .moment .empty) ≡ ofNat64 0
   pub raises : (s : m .moment .State) (x : Float) → weight (m .moment .insert s x) ≡ weight s ⊕ one64
   pub inserted : m .moment .State → Float → m .moment .State
-  pub plain : (s : m .moment .State) (x : Float) (n : ℕ) → n < 2 ^ 53 → weight s ≡ count n → inserted s x ≡ m .moment .insert s x
+  pub plain : (s : m .moment .State) (x : Float) (n : ℕ) → n < 2 ^ 53 → weight s ≡ ofNat64 n → inserted s x ≡ m .moment .insert s x
 
 abbrev pub var-weighs : Weighs varStates
 var-weighs = record { weight = varWeight; none = zero-is; raises = var-raises; inserted = varInserted; plain = var-inserted }
@@ -43,11 +43,11 @@ skew-weighs = record { weight = skewWeight; none = zero-is; raises = skew-raises
 module _ (m : ReadingStates) (q : Weighs m) where
   -- the weight of a window's back state, and of both its states
   pub rising-weight : (t : Series Float) (base : ℕ) (w : Window) (agg : m .moment .State) (work : List Float) → Held (ofReadings m) t base w agg work → w .back ≤ 2 ^ 53 →
-      q .weight agg ≡ count (w .back)
+      q .weight agg ≡ ofNat64 (w .back)
   rising-weight t base w agg work held h =
       let b = back-many t w (held .numbers) in
       let k : 0 + length (back t (account w)) ≡ w .back = omega arith in
-      ap (q .weight) (held .agg-is) ∙ inserts-count (q .weight) (m .moment .insert) (q .raises) (back t (account w)) (m .moment .empty) 0 (q .none) (omega arith) ∙ ap count k
+      ap (q .weight) (held .agg-is) ∙ inserts-count (q .weight) (m .moment .insert) (q .raises) (back t (account w)) (m .moment .empty) 0 (q .none) (omega arith) ∙ ap ofNat64 k
 
   pub weighed : (t : Series Float) (base : ℕ) (w : Window) (agg : m .moment .State) (work : List Float) → Held (ofReadings m) t base w agg work →
       m .inFront .width * w .front ≤ length work → w .front + w .back ≤ 2 ^ 53 → Weighed m (q .weight) w agg work
@@ -58,7 +58,7 @@ module _ (m : ReadingStates) (q : Weighs m) where
         few = h;
         back-is = rising-weight t base w agg work held (omega arith);
         front-is = ap (q .weight) (top-is (ofReadings m) (λ z. Missing) t base w agg work held)
-            ∙ falls-count (q .weight) (m .moment .insert) (q .raises) (front t (account w)) (m .moment .empty) (q .none) (omega arith) ∙ ap count (sym f);
+            ∙ falls-count (q .weight) (m .moment .insert) (q .raises) (front t (account w)) (m .moment .empty) (q .none) (omega arith) ∙ ap ofNat64 (sym f);
       }
 
   -- a turn of a flip inserts and clears nothing
@@ -74,7 +74,7 @@ module _ (m : ReadingStates) (q : Weighs m) where
 
   -- nor does a turn of an append
   pub append-inserted : (has : Bool) (map : List ℕ) (values l₀ : List Float) (n nonfinite₀ : ℕ) (s₀ : m .moment .State) (a e : ℕ) {l : List Float} {many nonfinite : ℕ} {s : m .moment .State} {i : ℕ} →
-      Appending m has map values l₀ n nonfinite₀ s₀ a e l many nonfinite s i → i < e → Appendable (ofReadings m) (series has map values) a e (length values) n nonfinite₀ l₀ → q .weight s₀ ≡ count n →
+      Appending m has map values l₀ n nonfinite₀ s₀ a e l many nonfinite s i → i < e → Appendable (ofReadings m) (series has map values) a e (length values) n nonfinite₀ l₀ → q .weight s₀ ≡ ofNat64 n →
       (x : Float) → q .inserted s x ≡ m .moment .insert s x
   append-inserted has map values l₀ n nonfinite₀ s₀ a e {s = s} {i = i} f more can w x =
       let t = series has map values in

@@ -6,7 +6,7 @@ ghost use Prim.Native.Nat.{_*_, _≤_, min};
 ghost use lib.Dec.{leb};
 ghost use lib.ListN.{length, set, getD};
 ghost use lib.Ieee.{nan};
-ghost use Rattle.float.specs.Operators.{_⊗_, count};
+ghost use Rattle.float.specs.Operators.{_⊗_, ofNat64};
 ghost use Rattle.float.specs.Tables.{table};
 ghost use Rattle.trace.specs.Trace.{tracing};
 ghost use Rattle.moment.specs.Skew.{skewEmpty, skewCombine, skewCorrection, skewFinalize};
@@ -105,7 +105,7 @@ impl SkewMoment {
         agg_back: SkewState,
     ) -> SkewAppended
         requires { ⌜ Appendable skewStored (series «has_map» (now map) (now values)) a b (length (now values)) n nonfinite (now back) ⌝ }
-        requires { ⌜ «agg_back» .weight ≡ count n ⌝ }
+        requires { ⌜ «agg_back» .weight ≡ ofNat64 n ⌝ }
         ensures { λ q. ⌜ Appended skewStored (seriesIn «has_map» map values) (entering back) n nonfinite «agg_back» a b
             (leaving back) (q .back) (q .nonfinite) (q .«agg_back») ⌝ }
     {
@@ -275,7 +275,7 @@ impl SkewMoment {
     // The correction for a count of readings. Rows of one count share it: a root and a division less for each.
     fn correction(self, counts: &mut [u64], corrections: &mut [f64], valid: usize) -> f64
         requires { ⌜ Corrections (now counts) (now corrections) ⌝ }
-        ensures { λ r. ⌜ (self .bias ≡ false → r ≡ skewCorrection (count valid)) × Corrections (leaving counts) (leaving corrections) ⌝ }
+        ensures { λ r. ⌜ (self .bias ≡ false → r ≡ skewCorrection (ofNat64 valid)) × Corrections (leaving counts) (leaving corrections) ⌝ }
     {
         if self.bias {
             return 0.0;

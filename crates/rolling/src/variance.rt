@@ -3,7 +3,7 @@
 ghost use mathlib.Core.Path.{_≡_};
 ghost use Prim.Native.Nat.{_*_, _≤_, min};
 ghost use lib.ListN.{length};
-ghost use Rattle.float.specs.Operators.{count};
+ghost use Rattle.float.specs.Operators.{ofNat64};
 ghost use Rattle.trace.specs.Trace.{tracing};
 ghost use Rattle.moment.specs.Var.{varEmpty, varCombine, varFinalize};
 ghost use Rattle.window.specs.Window.{orNan};
@@ -88,7 +88,7 @@ impl VarianceMoment {
         agg_back: VarState,
     ) -> VarAppended
         requires { ⌜ Appendable varStored (series «has_map» (now map) (now values)) a b (length (now values)) n nonfinite (now back) ⌝ }
-        requires { ⌜ «agg_back» .weight ≡ count n ⌝ }
+        requires { ⌜ «agg_back» .weight ≡ ofNat64 n ⌝ }
         ensures { λ q. ⌜ Appended varStored (seriesIn «has_map» map values) (entering back) n nonfinite «agg_back» a b
             (leaving back) (q .back) (q .nonfinite) (q .«agg_back») ⌝ }
     {

@@ -8,7 +8,7 @@ use mathlib.Core.List.{List}
 use lib.Dec.{eqb, leb}
 use lib.ListN.{length, set, getD}
 use lib.Ieee.{Float, nan}
-use Rattle.float.specs.Operators.{_⊗_, _⊘_, count}
+use Rattle.float.specs.Operators.{_⊗_, _⊘_, ofNat64}
 use Rattle.root.specs.Root.{root}
 use Rattle.moment.specs.Figure.{doubleOf, byteOf}
 use Rattle.moment.specs.Skew.{isZero, skewCorrection, skewFinalize}
@@ -26,7 +26,7 @@ use Rattle.rolling.specs.declared.skew.SkewPending.the-variants.{Missing
 pub record Corrections (counts : List ℕ) (corrections : List Float) : Type 0 where
   pub counts-long : length counts ≡ 256
   pub corrections-long : length corrections ≡ 256
-  pub correction-is : (i : ℕ) → i < 256 → getD corrections i nan ≡ skewCorrection (count (getD counts i 0))
+  pub correction-is : (i : ℕ) → i < 256 → getD corrections i nan ≡ skewCorrection (ofNat64 (getD counts i 0))
 
 -- the m2 of `finalize`
 abbrev pub m2Of : SkewState → Float

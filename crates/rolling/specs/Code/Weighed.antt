@@ -5,7 +5,7 @@ use mathlib.Core.Path.{_≡_}
 use mathlib.Core.List.{List}
 use lib.ListN.{length}
 use lib.Ieee.{Float}
-use Rattle.float.specs.Operators.{count}
+use Rattle.float.specs.Operators.{ofNat64}
 use Rattle.moment.specs.declared.var_state.VarState.{VarState}
 use Rattle.moment.specs.declared.skew_state.SkewState.{SkewState}
 use Rattle.window.specs.Code.Memory.{ReadingStates, ofReadings}
@@ -23,5 +23,5 @@ skewWeight s = s .weight
 pub record Weighed (m : ReadingStates) (weight : m .moment .State → Float) (w : Window) (agg : m .moment .State) (work : List Float) : Type 0 where
   pub front-in : m .inFront .width * w .front ≤ length work
   pub few : w .front + w .back ≤ 2 ^ 53
-  pub back-is : weight agg ≡ count (w .back)
-  pub front-is : weight (topOf (ofReadings m) work (w .front)) ≡ count (w .front)
+  pub back-is : weight agg ≡ ofNat64 (w .back)
+  pub front-is : weight (topOf (ofReadings m) work (w .front)) ≡ ofNat64 (w .front)

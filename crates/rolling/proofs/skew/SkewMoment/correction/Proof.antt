@@ -2,7 +2,7 @@
 use Prim.Native.Nat.{_%_, _<_}
 use mathlib.Core.Path.{sym, ap, _∙_}
 use native.Mathlib.Omega.{arith}
-use Rattle.float.specs.Operators.{count}
+use Rattle.float.specs.Operators.{ofNat64}
 use Rattle.moment.specs.Skew.{skewCorrection}
 use Rattle.float.proofs.Cases.{apart}
 use Rattle.rolling.proofs.Slots.{taken-place}
@@ -29,7 +29,7 @@ returns-2 : tie.Need-returns-2
 returns-2 c =
     let a = c .before .before .before .before .before .before in
     let h : a .args .valid % 256 < 256 = omega arith in
-    (λ z. a .pre .correction-is (a .args .valid % 256) h ∙ ap (λ n. skewCorrection (count n)) (c .before .if2 .taken), a .pre)
+    (λ z. a .pre .correction-is (a .args .valid % 256) h ∙ ap (λ n. skewCorrection (ofNat64 n)) (c .before .if2 .taken), a .pre)
 
 nearest-u64-to-f64-requires : tie.Need-nearest-u64-to-f64-requires
 nearest-u64-to-f64-requires c κs = search needs
