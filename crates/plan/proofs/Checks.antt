@@ -4,14 +4,14 @@ use mathlib.Core.Path.{_≡_, refl, sym, ap, _∙_, subst}
 use mathlib.Core.Bool.{Bool, true, false, _||_}
 use native.Mathlib.Nat.{zero-mul, div-lt-iff-lt-mul, le-div-iff-mul-le}
 use native.Mathlib.Omega.{arith}
-use borrow.Author.Tests.{eqb-true, eqb-false, not-false, ltb-true, ltb-false, le-ltb}
+use borrow.Author.Tests.{eq-eqb, ne-eqb, eqb-true, eqb-false, not-false, ltb-true, ltb-false, le-ltb}
 use lib.Dec.{ltb, eqb, lit≤}
 use lib.ListN.{length}
 use Rattle.trace.specs.Refusals.{refusal, _orElse_}
 use Rattle.trace.proofs.Accepted.{none-of, not-refused}
 use Rattle.plan.specs.Plan.{Plan, rows}
 use Rattle.plan.specs.Refusals.{wrongLists, rowsRefusal, widest, planRefusal}
-use Rattle.plan.specs.Code.Accepted.{Accepted}
+use Rattle.plan.specs.Code.Accepted.{Accepted, planNumber, widestWhere}
 use Rattle.plan.proofs.Plans.{neither, first-stands, none-then, planned, widest-le}
 
 pos-of-ne : (n : ℕ) → (n ≡ 0 → ⊥) → 0 < n
@@ -53,6 +53,13 @@ quotient work width wide h = go (ltb (work / width) wide) (ltb work (width * wid
 pub nothing-needed : (work width wide : ℕ) → width ≡ 0 → ltb work (width * wide) ≡ false
 nothing-needed work width wide e = le-ltb work (width * wide) (rw (e, zero-mul) (omega arith))
 
+-- the width that goes with a number
+pub wide-where : (number : ℕ) (p : Plan) → number ≡ 0 → widestWhere number p ≡ widest p (rows p)
+wide-where number p z = rw (eq-eqb number 0 z)
+
+pub wide-nowhere : (number : ℕ) (p : Plan) → (number ≡ 0 → ⊥) → 0 ≡ widestWhere number p
+wide-nowhere number p h = rw (ne-eqb number 0 h)
+
 pub both-same : {a b x y : ℕ} → a ≡ x → b ≡ y → a orElse b ≡ x orElse y
 both-same e f = rw (e, f)
 
@@ -88,14 +95,17 @@ module _ (given : ℕ) (p : Plan) (n : ℕ) (short : Bool) (outputs width work f
   pub same-lists : first ≡ 0 → length (p .starts) ≡ length (p .ends)
   same-lists z = eqb-true _ _ (not-false _ (neither _ _ (not-refused 4 _ (lit≤ tt) (none-of _ _ (sym first-is ∙ z) .1)) .0))
 
-  module _ (z : first ≡ 0) (found wide : ℕ) (found-is : found ≡ rowsRefusal n p (rows p)) (wide-is : found ≡ 0 → wide ≡ widest p (rows p)) (number : ℕ)
+  pub first-wide : (first ≡ 0 → ⊥) → 0 ≡ widestWhere (planNumber given p n) p
+  first-wide h = wide-nowhere (planNumber given p n) p (λ e. h (first-is ∙ none-of _ _ e .0))
+
+  module _ (z : first ≡ 0) (found wide : ℕ) (found-is : found ≡ rowsRefusal n p (rows p)) (wide-is : wide ≡ widestWhere found p) (number : ℕ)
       (number-is : number ≡ found orElse refusal 12 (short || ltb outputs (rows p)) orElse refusal 13 (ltb work (width * wide))) where
     abbrev Twelve : ℕ
     Twelve = refusal 12 (short || ltb outputs (rows p))
 
     by-found : (b : Bool) → eqb found 0 ≡ b →
         found orElse Twelve orElse refusal 13 (ltb work (width * wide)) ≡ found orElse Twelve orElse refusal 13 (ltb work (width * widest p (rows p)))
-    by-found true e = rw (wide-is (eqb-true found 0 e))
+    by-found true e = rw (wide-is ∙ wide-where found p (eqb-true found 0 e))
     by-found false e = let h = eqb-false found 0 e in rw (first-stands found Twelve h, first-stands found _ h, first-stands found _ h)
 
     pub judged : number ≡ Number
@@ -105,4 +115,7 @@ module _ (given : ℕ) (p : Plan) (n : ℕ) (short : Bool) (outputs width work f
     pub judged-accepted : number ≡ 0 → Accepted given p n short outputs width work wide
     judged-accepted e =
         let q = none-of _ _ (none-of _ _ (sym number-is ∙ e) .0) .0 in
-        rw (wide-is q) (taken given p n short outputs width work (sym judged ∙ e))
+        rw (wide-is ∙ wide-where found p q) (taken given p n short outputs width work (sym judged ∙ e))
+
+    pub judged-wide : wide ≡ widestWhere (planNumber given p n) p
+    judged-wide = wide-is ∙ rw (← first-is, none-then first (rowsRefusal n p (rows p)) z, ← found-is)

@@ -24,10 +24,10 @@ use Rattle.moment.proofs.Weights.{at-zero}
 use Rattle.plan.specs.Bounds.{boundsAt}
 use Rattle.plan.specs.Code.Reaching.{rightOf}
 use Rattle.plan.proofs.FixedWindows.{bounds-at}
-use Rattle.window.specs.Outputs.{Column, column, filled}
+use Rattle.window.specs.Outputs.{Column, column, columnAfter, filled}
 use Rattle.window.specs.Code.Filling.{Upto}
 use Rattle.window.proofs.Outputs.{upto-done, unfilled, column-is}
-use Rattle.weighted.specs.Weights.{Sums, totalOf, varianceOf, computeVarWeights, weightsStart, aligned, weightedAt, weightsRefusal, columnAfter, CalledWeights}
+use Rattle.weighted.specs.Weights.{Sums, totalOf, varianceOf, computeVarWeights, weightsStart, aligned, weightedAt, weightsRefusal, CalledWeights}
 use Rattle.weighted.specs.Code.Sums.{sumsOf, SumsUpTo}
 use Rattle.weighted.specs.Code.Rows.{answerOfVariance, answerOfSums, weightedBy, Tabled, AcceptedWeights, WrittenWeights}
 

@@ -13,12 +13,11 @@ use Rattle.trace.specs.Slices.{Slice, entering, leaving}
 use Rattle.trace.specs.Trace.{Trace}
 use Rattle.trace.specs.Refusals.{refusal, _orElse_, traceRefusal}
 use Rattle.moment.specs.Sums.{sumOf, itself}
-use Rattle.moment.specs.Figure.{doubleOf, byteOf}
 use Rattle.moment.specs.declared.Figure.{Figure}
 use Rattle.moment.specs.declared.Figure.the-variants.{Missing, Present}
 use Rattle.plan.specs.Bounds.{boundsAt}
 use Rattle.window.specs.Readings.{readingOf}
-use Rattle.window.specs.Outputs.{Column, column, filled}
+use Rattle.window.specs.Outputs.{Column, column, columnAfter}
 
 -- "their sum, added left to right from +0.0"
 abbrev pub totalOf : List Float → Float
@@ -78,11 +77,6 @@ weightsRefusal given mapped n windowSize count total outputs =
     orElse refusal 9 (eq total zero64)
     orElse refusal 10 (not (eqb count windowSize))
     orElse refusal 12 (ltb outputs n)
-
--- the two lists of a figure after a call of n rows that answers `number`, by the row function f
-abbrev pub columnAfter : ℕ → (ℕ → Figure) → ℕ → Column → Column
-columnAfter number f n c =
-    column (filled number (λ i. doubleOf (f i)) n (c .doubles)) (filled number (λ i. byteOf (f i)) n (c .bytes))
 
 -- a weighted call: its number, and what it leaves in the two lists that it is lent
 pub record CalledWeights (center : Bool) (windowSize minPeriods : ℕ) (weights : List Float) (t : Trace) (c₀ c₁ : Column) (number : ℕ) : Type 0 where

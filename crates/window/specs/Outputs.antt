@@ -42,12 +42,15 @@ filled number f n l = cond (eqb number 0) (table f n ++ drop n l) l
 unfoldable pub kept : ℕ → ℕ → List Float → List Float → Type 0
 kept number need l l' = cond (eqb number 0) (drop need l' ≡ drop need l) (l' ≡ l)
 
--- the lists of the figures after a call of n rows, one pair for each row function
+-- the two lists of a figure after a call of n rows, by its row function
+abbrev pub columnAfter : ℕ → (ℕ → Figure) → ℕ → Column → Column
+columnAfter number f n c = column (filled number (λ k. doubleOf (f k)) n (c .doubles)) (filled number (λ k. byteOf (f k)) n (c .bytes))
+
+-- the lists of the figures, one pair for each row function
 abbrev pub answered : ℕ → ℕ → List (ℕ → Figure) → List Column → List Column
 answered number n [] cs = cs
 answered number n (f ∷ fs) [] = []
-answered number n (f ∷ fs) (c ∷ cs) =
-    column (filled number (λ k. doubleOf (f k)) n (c .doubles)) (filled number (λ k. byteOf (f k)) n (c .bytes)) ∷ answered number n fs cs
+answered number n (f ∷ fs) (c ∷ cs) = columnAfter number f n c ∷ answered number n fs cs
 
 -- the lists of the counts
 abbrev pub numbered : ℕ → ℕ → List (ℕ → ℕ) → List (List ℕ) → List (List ℕ)

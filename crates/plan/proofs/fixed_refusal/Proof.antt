@@ -38,7 +38,7 @@ returns c =
     ∙ both-same
     (c .before .first .ensures ∙ both-same {a = a .given} refl (c .before .before .before .before .refuse .ensures))
     (c .before .before .refuse2 .ensures ∙ ap (refusal 13) (c .before .before .before .too-little .ensures ∙ ap (λ (w : ℕ). ltb (a .work) (a .width * w)) s)) in
-    record { number-is = e; accepted = λ z center. rw s (fixed-accepted center (a .«window-size») (a .n) (a .given) (a .outputs) (a .width) (a .work) (sym e ∙ z)) }
+    record { number-is = e; wide-is = s; accepted = λ z center. rw s (fixed-accepted center (a .«window-size») (a .n) (a .given) (a .outputs) (a .width) (a .work) (sym e ∙ z)) }
 
 pub fixed-refusal-spec : {M : Type 1} → statement M
 fixed-refusal-spec =

@@ -4,7 +4,7 @@ use mathlib.Core.Bool.{_||_}
 use Rattle.trace.specs.Refusals.{refusal, _orElse_}
 use Rattle.plan.specs.Plan.{Plan, planOf}
 use Rattle.plan.specs.Refusals.{wrongLists}
-use Rattle.plan.proofs.Checks.{both-same, judged-first, same-lists, judged, judged-accepted}
+use Rattle.plan.proofs.Checks.{both-same, judged-first, first-wide, same-lists, judged, judged-wide, judged-accepted}
 use borrow.Author.Needs.{needs}
 use Rattle.plan.proofs.plan_refusal.Statement.{statement}
 use Rattle.plan.proofs.plan_refusal.Tie as tie
@@ -30,6 +30,7 @@ returns c =
     let g = a .before .before .before .before .before .args in
     record {
       number-is = judged-first (g .given) (P a) (g .n) (g .short) (g .outputs) (g .width) (g .work) _ (first-is a) (c .if1 .taken);
+      wide-is = first-wide (g .given) (P a) (g .n) (g .short) (g .outputs) (g .width) (g .work) _ (first-is a) (c .if1 .taken);
       accepted = λ z. absurd (c .if1 .taken z);
     }
 
@@ -70,6 +71,7 @@ returns-2 c =
     (c .before .before .refuse3 .ensures ∙ ap (refusal 13) (c .before .before .before .too-little .ensures)) in
     record {
       number-is = judged (g .given) (P a) (g .n) (g .short) (g .outputs) (g .width) (g .work) _ (first-is a) z _ _ (s .number-is) (s .wide-is) _ e;
+      wide-is = judged-wide (g .given) (P a) (g .n) (g .short) (g .outputs) (g .width) (g .work) _ (first-is a) z _ _ (s .number-is) (s .wide-is) _ e;
       accepted = judged-accepted (g .given) (P a) (g .n) (g .short) (g .outputs) (g .width) (g .work) _ (first-is a) z _ _ (s .number-is) (s .wide-is) _ e;
     }
 

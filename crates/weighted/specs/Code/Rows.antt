@@ -11,8 +11,8 @@ use Rattle.trace.specs.Slices.{Slice, entering, leaving}
 use Rattle.moment.specs.Figure.{doubleOf, byteOf}
 use Rattle.moment.specs.declared.Figure.{Figure}
 use Rattle.moment.specs.declared.Figure.the-variants.{Missing, Present}
-use Rattle.window.specs.Outputs.{Column}
-use Rattle.weighted.specs.Weights.{totalOf, varianceOf, weightedAt, columnAfter, lendingColumn}
+use Rattle.window.specs.Outputs.{Column, columnAfter}
+use Rattle.weighted.specs.Weights.{totalOf, varianceOf, weightedAt, lendingColumn}
 use Rattle.weighted.specs.Code.Sums.{Block, sumsOf, sumsAt}
 
 -- row k's answer, of its variance

@@ -8,6 +8,7 @@ use borrow.Author.Needs.{needs}
 use lib.ListN.{length}
 use Rattle.plan.specs.Plan.{Plan}
 use Rattle.plan.specs.Refusals.{before, rowsRefusal, widest}
+use Rattle.plan.proofs.Checks.{wide-nowhere}
 use Rattle.plan.proofs.Plans.{Row, own, good, scan-stop, scan-row, scan-wide}
 use Rattle.plan.specs.Plan.{planOf}
 use Rattle.plan.proofs.rows.first_refusal.Statement.{statement}
@@ -69,7 +70,7 @@ returns c =
     let l = r .before .before .before .before .before .before in
     record {
       number-is = scan-stop (N r) (P r) (K r) _ (r .before .before .before .before .before .loop-test .taken) (l .loop .inv .1) (number r) (c .if1 .taken);
-      wide-is = λ z. absurd (c .if1 .taken z);
+      wide-is = wide-nowhere _ (P r) (c .if1 .taken);
     }
 
 sub-wide : tie.Need-sub-wide Inv-loop μ-loop
@@ -108,7 +109,7 @@ returns-2 c =
     let h = c .loop-test .left in
     let e : l .row ≡ length (a .starts .now) = omega arith in
     let z = rw e at (l .inv .1) in
-    record { number-is = sym z; wide-is = λ _. rw (← e) (l .inv .2) }
+    record { number-is = sym z; wide-is = rw (← e) (l .inv .2) }
 
 pub first-refusal-spec : {M : Type 1} → statement M
 first-refusal-spec =

@@ -28,7 +28,7 @@ place-requires c κs = search needs
 returns-3 : tie.Need-returns-3
 returns-3 c =
     let t = c .before .before .test-rows .ensures .passed (c .before .if2 .left) in
-    record { number-is = sym (t .0); wide-is = λ _. c .place .ensures ∙ t .1 }
+    record { number-is = sym (t .0); wide-is = c .place .ensures ∙ t .1 }
 
 pub scan-spec : {M : Type 1} → statement M
 scan-spec =
