@@ -30,7 +30,7 @@ use Rattle.promises.specs.SourceWeights.{rollingVarWeights}
 
 -- An accepted call without weights, its number 0, on what is given with a plan and a setting q, that leaves the lists l: a plan call, a
 -- host call or a call with fixed windows, whatever the lists held before. Answers that are equal here and no NaN have the same bits.
--- NaN is one value here: that its bits are 7FF8000000000000 is carried by the code, for `window::write`, and for skewness
+-- NaN is one value here: that its bits are 7FF8000000000000 is carried by the code, for `row::write` of `rolling`, and for skewness
 -- `float::canonical`, store the constant 0.0 / 0.0, which the compiler folds to them, and is seen by the oracle's `fuzz`, which compares
 -- bits.
 pub data AcceptedCall : (q : Query) → GivenTo q → Lent → Type 0 where

@@ -3,7 +3,7 @@ use borrow.Author.Needs.{needs}
 use Prim.Native.Nat.{_-_}
 use lib.ListN.{length}
 use mathlib.Core.Path.{_≡_}
-use Rattle.vectors.specs.Lends.{room-lends}
+use Rattle.vectors.proofs.Lending.{room-lends}
 use Rattle.vectors.proofs.words.bytes.Statement.{statement}
 use Rattle.vectors.proofs.words.bytes.Tie as tie
 

@@ -1,0 +1,2 @@
+-- Laws of the lists that the program lends.
+pub mod Lending
