@@ -17,6 +17,7 @@ use Rattle.trace.specs.Trace.{validAt}
 use Rattle.moment.specs.declared.Figure.{Figure}
 use Rattle.moment.specs.declared.Figure.the-variants.{Missing, Present}
 use Rattle.window.specs.Window.{Moment}
+use Rattle.promises.specs.SourceStates.{isEmpty}
 
 -- `Bitmap`: bytes, and how many of their bits count, the lowest first
 pub record Bitmap : Type 0 where
@@ -82,11 +83,6 @@ turns f (suc k) idx w = turns f k (suc idx) (f idx w)
 
 abbrev pub forIn : {A : Type 0} → ℕ → ℕ → (ℕ → A → A) → A → A
 forIn a b f w = turns f (b - a) a w
-
--- `Vec::is_empty`
-abbrev pub isEmpty : {A : Type 0} → List A → Bool
-isEmpty [] = true
-isEmpty (x ∷ l) = false
 
 -- what `Vec::pop` leaves
 abbrev pub popped : {A : Type 0} → List A → List A
