@@ -8,6 +8,7 @@ pub mod Validity
 pub mod SourceRows
 pub mod SourceFixed
 pub mod SourceWeights
+pub mod DemandOne
 pub mod Accepted
 pub mod RowsSame
 pub mod DemandTwo

@@ -5,5 +5,7 @@ pub mod SourceWindow
 pub mod SourceRows
 pub mod SourceFixed
 pub mod SourceWeights
+pub mod Calls
+pub mod DemandOne
 pub mod Demands
 pub mod Table
