@@ -38,7 +38,7 @@ use Rattle.promises.specs.Calls.{readingsOf, rangeOf, pairsOf, varList, 
 use Rattle.promises.specs.DemandOne.{MapOfWrongLength, WrongLists, BelowRowBefore, SomeShorter, OutputShorter, Check, _when_}
 use Rattle.promises.specs.DemandOne.{traceChecks, pairChecks, rangeChecks, givenChecks, rowChecks, rowsChecks, plannedChecks, rowNumbers, InOrder}
 use Rattle.promises.specs.DemandOne.{NoWholeReadings, ReadingsShorter, planChecks, hostChecks, fixedChecks, weightsChecks, HostLeft}
-use Rattle.promises.specs.DemandOne.{WorkTooShort, NoneApplies, FirstApplies, Answered, DemandOne}
+use Rattle.promises.specs.DemandOne.{WorkTooShort, FixedWorkTooShort, NoneApplies, FirstApplies, Answered, DemandOne}
 
 -- ---- what checks say of a number: none applies and it is 0, or it is the first that applies
 data Says (checks : List Check) (number : ℕ) : Type 0 where
@@ -421,8 +421,8 @@ demand-one =
       trace-order = λ t. inr (inl (refl, inr (inl (refl, tt))));
       pair-order = λ x y. inr (inl (refl, inl (refl, inl (refl, tt))));
       range-order = λ t s n. inr (inl (refl, inr (inl (refl, inr (inr (inr (inr (inl (refl, tt)))))))));
-      plan-order = λ q t l. inr (planned-order (kindOf (q .statistic)) t _ _ q l);
+      plan-order = λ q t l. in-later (planChecks q t l) (14 ∷ []) _ (planned-order (kindOf (q .statistic)) t _ _ q l);
       host-order = λ q h r l. inl (refl, planned-order (kindOf (q .statistic)) (decodedOf (kindOf (q .statistic)) h) _ _ q l);
-      fixed-order = λ s a t l. inr (in-both (givenChecks (kindOf a) t) _ (1 ∷ 2 ∷ 3 ∷ []) _ (given-order (kindOf a) t) (inr (lists-order _ _)));
+      fixed-order = λ s a t l. in-later (fixedChecks s a t l) (14 ∷ []) _ (in-both (givenChecks (kindOf a) t) _ (1 ∷ 2 ∷ 3 ∷ []) (4 ∷ 8 ∷ 9 ∷ 10 ∷ 11 ∷ 12 ∷ 13 ∷ []) (given-order (kindOf a) t) (inr (lists-order (OutputShorter (l .outputs) (placesOf (kindOf a) t)) (FixedWorkTooShort a s (placesOf (kindOf a) t) l))));
       weights-order = λ s w t c. inr (inl (refl, inr (inl (refl, inr (inl (refl, inl (refl, inl (refl, inr (inl (refl, tt))))))))));
     }
