@@ -18,7 +18,7 @@ use Rattle.window.proofs.Outputs.{answered-at, numbered-at}
 use Rattle.rolling.specs.Moments.{kindOf, workWidth}
 use Rattle.rolling.specs.Calls.{Query, GivenTo, yields, tallies, refusalOf, Left}
 use Rattle.moments.specs.HostCall.{decodedOf, shortLists}
-use Rattle.promises.specs.Demands.{AcceptedCall, planCall, hostCall, fixedCall}
+use Rattle.promises.specs.Calls.{AcceptedCall, planCall, hostCall, fixedCall}
 
 pub record Known (q : Query) (t : GivenTo q) (l : Lent) : Type 0 where
   pub given-is : givenRefusal (kindOf (q .statistic)) t ≡ 0

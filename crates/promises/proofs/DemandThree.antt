@@ -1,4 +1,5 @@
--- Demand 3: two calls' rows depend on the same; a variance's weight is the valid count, which tells where it is missing. Assumes nothing.
+-- Demand 3: two calls' rows depend on the same; a variance's weight is the valid count, which tells where it is missing. The first is proved
+-- in a stronger form: where the same rows move both windows, which is so where both traces have a map or neither. Assumes nothing.
 use Prim.Native.Nat.{ℕ, zero, suc, _+_, _-_, _≤_, _<_}
 use mathlib.Core.Path.{_≡_, refl, sym, ap, _∙_}
 use mathlib.Core.Bool.{Bool, true, false, cond, _||_}
@@ -23,19 +24,30 @@ use Rattle.plan.specs.Code.Accepted.{Planned}
 use Rattle.window.specs.Places.{Series, entries, validCount, nonfiniteCount}
 use Rattle.window.specs.Window.{Account, front, back, rising, falling, asNan, orNan, figureOf}
 use Rattle.window.specs.Readings.{nonfiniteAt}
-use Rattle.window.specs.Given.{Readings, seriesOf, placesOf}
+use Rattle.window.specs.Given.{Readings, Given, seriesOf, placesOf}
 use Rattle.window.specs.Rows.{moves, accountAt, counted, answerOf, answerAt}
-use Rattle.window.specs.Outputs.{Lent, ofFigure}
+use Rattle.window.specs.Outputs.{Lent, answersIn, countsIn, ofFigure}
 use Rattle.window.proofs.Places.{entries-split, entries-cons, many-chosen, count-le, two-counts}
-use Rattle.rolling.specs.Moments.{Variance, variance, kindOf, momentOf, finalsOf}
+use Rattle.rolling.specs.Moments.{Statistic, Variance, Skewness, Kurtosis, variance, kindOf, momentOf, finalsOf}
 use Rattle.rolling.specs.Calls.{Query, query, GivenTo}
 use Rattle.rolling.proofs.Calls.{few-places}
-use Rattle.promises.specs.Demands.{AcceptedCall, SameMoves, SomeNotFinite, VarianceRow, VarianceIn, DemandThree}
+use Rattle.promises.specs.Calls.{AcceptedCall}
+use Rattle.promises.specs.DemandThree.{Agree, SomeNotFinite, VarianceRow, WhereVariance, DemandThree}
 use Rattle.promises.proofs.Accounts.{lies, row-account}
 use Rattle.promises.proofs.RowsSame.{counted-is, figures-same}
 use Rattle.promises.proofs.Accepted.{known}
 
 -- ---- where the same rows move the window
+-- whether row k of a query moves the window of what is given
+abbrev pub movesAt : (q : Query) → GivenTo q → ℕ → Bool
+movesAt q t k = moves (seriesOf (kindOf (q .statistic)) t .places .mapped) (q .minPeriods) k (rowStart (q .plan) k) (rowEnd (q .plan) k)
+
+-- The same rows before row k move the window. By Rows every row does with a map, but "Without one, a row shorter than the minimum ..
+-- doesn't move the window": a map of ones, which misses what no map misses, can leave another split, and other bits in a later row
+-- (`ones-are-a-map` of proofs/Witnesses). So the demand speaks of two traces "both by a map or both without one".
+abbrev pub SameMoves : (q : Query) (t t′ : GivenTo q) → ℕ → Type 0
+SameMoves q t t′ k = (j : ℕ) → j < k → movesAt q t j ≡ movesAt q t′ j
+
 -- a map for both traces, or for neither
 pub both-or-neither : (q : Query) (t t′ : GivenTo q) (k : ℕ) → seriesOf (kindOf (q .statistic)) t .places .mapped ≡ seriesOf (kindOf (q .statistic)) t′ .places .mapped → SameMoves q t t′ k
 both-or-neither q t t′ k e j h = rw e
@@ -170,26 +182,47 @@ module _ (p : Plan) (minPeriods : ℕ) (t : Trace) (widest : ℕ) (plan : Planne
               not-below = λ z. inl refl;
             }
 
+-- row k's answers and counts in the lists that two calls leave
+pub record SameRow (k : ℕ) (l l′ : Lent) : Type 0 where
+  pub answers : answersIn (l .outputs .answers) k ≡ answersIn (l′ .outputs .answers) k
+  pub counts : countsIn (l .outputs .counts) k ≡ countsIn (l′ .outputs .counts) k
+
+-- the demand's first part, of any two traces of which the same rows move the window, and of counts too
+pub same-moves-same-row : (q : Query) (t t′ : GivenTo q) (l l′ : Lent) → AcceptedCall q t l → AcceptedCall q t′ l′
+    → ((i : ℕ) → i < placesOf (kindOf (q .statistic)) t → seriesOf (kindOf (q .statistic)) t .places .valid i ≡ seriesOf (kindOf (q .statistic)) t′ .places .valid i)
+    → (k : ℕ) → k < rows (q .plan) → SameMoves q t t′ k → Agree (kindOf (q .statistic)) t t′ (rowStart (q .plan) k) (rowEnd (q .plan) k) → SameRow k l l′
+same-moves-same-row q t t′ l l′ c c′ places k h m g =
+    let a = known q t l c in
+    let a′ = known q t′ l′ c′ in
+    let kind = kindOf (q .statistic) in
+    record {
+      answers = a .answers k h
+          ∙ figures-same kind (momentOf (q .statistic)) (finalsOf (q .statistic)) t t′ (q .minPeriods) (placesOf kind t) (a .widest) (q .plan) (a .plan) places k h m g
+          ∙ sym (a′ .answers k h);
+      counts = a .counts k h ∙ sym (a′ .counts k h);
+    }
+
+where-variance : (a : Statistic) (t : Given (kindOf a)) (p : Plan) (minPeriods : ℕ) (l : Lent) → AcceptedCall (query p minPeriods a) t l → (k : ℕ) → k < rows p
+    → WhereVariance a t p minPeriods k l
+where-variance (Variance ddof) t p minPeriods l c k h =
+    λ byte.
+    let a = known (query p minPeriods (Variance ddof)) t l c in
+    record {
+      answer = _;
+      others = [];
+      stands = a .answers k h;
+      row = var-row p minPeriods t (a .widest) (a .plan) (few-places Readings t (a .given-is)) ddof byte k h;
+    }
+where-variance (Skewness bias) t p minPeriods l c k h = tt
+where-variance (Kurtosis fisher bias) t p minPeriods l c k h = tt
+
 pub demand-three : DemandThree
 demand-three =
     record {
-      two = λ q t t′ l l′ c c′ alike k h m g.
-          let a = known q t l c in
-          let a′ = known q t′ l′ c′ in
-          let kind = kindOf (q .statistic) in
+      two = λ q t t′ l l′ alike c c′ k h g. same-moves-same-row q t t′ l l′ c c′ (alike .places) k h (both-or-neither q t t′ k (alike .mapped)) g .answers;
+      one = λ q t l c k h.
           record {
-            answers = a .answers k h
-                ∙ figures-same kind (momentOf (q .statistic)) (finalsOf (q .statistic)) t t′ (q .minPeriods) (placesOf kind t) (a .widest) (q .plan) (a .plan) (alike .places) k h m g
-                ∙ sym (a′ .answers k h);
-            counts = a .counts k h ∙ sym (a′ .counts k h);
-          };
-      account = λ q t l c k h. let a = known q t l c in record { answers = a .answers k h; counts = a .counts k h };
-      variance-is = λ p minPeriods ddof byte t l c k h.
-          let a = known (query p minPeriods (Variance ddof)) t l c in
-          record {
-            answer = _;
-            others = [];
-            stands = a .answers k h;
-            row = var-row p minPeriods t (a .widest) (a .plan) (few-places Readings t (a .given-is)) ddof byte k h;
+            account = known q t l c .answers k h;
+            variance = where-variance (q .statistic) t (q .plan) (q .minPeriods) l c k h;
           };
     }

@@ -42,7 +42,8 @@ use Rattle.promises.specs.SourceWindow.{Rust}
 use Rattle.promises.specs.SourceRows.{planRow, rowOf}
 use Rattle.promises.specs.SourceFixed.{fixedRow}
 use Rattle.promises.specs.SourceWeights.{rollingVarWeights}
-use Rattle.promises.specs.Demands.{AcceptedCall, fixedCall, rowsOf, sourceRows, sourceFixedRows, DemandTwo}
+use Rattle.promises.specs.Calls.{AcceptedCall, fixedCall}
+use Rattle.promises.specs.DemandTwo.{rowsOf, sourceRows, sourceFixedRows, DemandTwo}
 use Rattle.promises.proofs.SourceRows.{Neutral, plan-row}
 use Rattle.promises.proofs.SourceFixed.{fixed-row}
 use Rattle.promises.proofs.SourceWeights.{weighted-row, weights-many}

@@ -5,28 +5,29 @@ use mathlib.Core.Path.{_≡_, refl, ap}
 use mathlib.Core.Bool.{true, false}
 use mathlib.Core.List.{List, [], _∷_}
 use native.Mathlib.Omega.{arith}
+use lib.ListN.{length}
 use lib.Ieee.{Float, nan, binary64, ofBits, toBits, ofInt, add, sub, mul, div, eq, lt, le}
 use Rattle.float.specs.Operators.{zero64, one64, two64, ofNat64}
 use Rattle.float.specs.Tables.{table}
 use Rattle.trace.specs.Trace.{Trace, traceOf, validAt}
 use Rattle.trace.specs.Refusals.{refusal, _orElse_, wrongMap}
 use Rattle.moment.specs.Var.{varClear, varCombine, varFinalize}
-use Rattle.plan.specs.Plan.{Plan, planOf, rows, rowStart, rowEnd}
+use Rattle.plan.specs.Plan.{Plan, planOf}
 use Rattle.plan.specs.Bounds.{bounds}
 use Rattle.plan.specs.Refusals.{planRefusal, fixedRefusal}
 use Rattle.window.specs.Places.{entriesFrom}
 use Rattle.window.specs.Window.{splitAfter, figureOf}
 use Rattle.window.specs.Readings.{insertedAt, nonfiniteAt}
-use Rattle.window.specs.Given.{Readings}
 use Rattle.window.specs.Rows.{answerAt}
-use Rattle.window.specs.Outputs.{Column, Lent, column, outputsOf, filled, kept, Answer, answersIn}
+use Rattle.window.specs.Outputs.{Column, Lent, column, outputsOf, filled, kept, Answer}
 use Rattle.rolling.specs.Moments.{Variance}
 use Rattle.rolling.specs.Calls.{Query, Called}
 use Rattle.rolling.specs.Fixed.{CalledFixed}
 use Rattle.weighted.specs.Weights.{weightedAt, weightsRefusal, CalledWeights}
 use Rattle.moments.specs.HostCall.{CalledBytes}
 use Rattle.promises.specs.Table.{varianceBy, p7, trace7, p8, p9, trace9}
-use Rattle.promises.specs.Demands.{AcceptedCall, planCall, Alike, Agree}
+use Rattle.promises.specs.Calls.{AcceptedCall, planCall}
+use Rattle.promises.specs.DemandThree.{SameAnswers}
 
 -- ---- there are accepted calls
 -- four places to each output list, each place with something in it
@@ -166,29 +167,27 @@ no-map-accepted =
       };
     }
 
-ones-alike : Alike Readings ones noMap
+-- they miss the same places, namely none
+ones-places : (i : ℕ) → i < 4 → validAt true (15 ∷ []) i ≡ validAt false [] i
 unfolding validAt
-ones-alike = record { long = refl; places = place }
-  where
-    place : (i : ℕ) → i < 4 → validAt true (15 ∷ []) i ≡ validAt false [] i
-    place zero h = refl
-    place (suc zero) h = refl
-    place (suc (suc zero)) h = refl
-    place (suc (suc (suc zero))) h = refl
-    place (suc (suc (suc (suc i)))) h = absurd (omega arith)
+ones-places zero h = refl
+ones-places (suc zero) h = refl
+ones-places (suc (suc zero)) h = refl
+ones-places (suc (suc (suc zero))) h = refl
+ones-places (suc (suc (suc (suc i)))) h = absurd (omega arith)
 
--- demand 3's sentence without `SameMoves`, of plan calls for such a variance
-abbrev AnyMoves : Type 0
-AnyMoves =
-    (p : Plan) (minPeriods : ℕ) (t t′ : Trace) (l l′ : Lent) → AcceptedCall (varianceBy p minPeriods) t l
-    → AcceptedCall (varianceBy p minPeriods) t′ l′ → Alike Readings t t′ → (k : ℕ) → k < rows p
-    → Agree Readings t t′ (rowStart p k) (rowEnd p k) → answersIn (l .outputs .answers) k ≡ answersIn (l′ .outputs .answers) k
+-- demand 3's first part without "both by a map or both without one", of such a variance
+abbrev WithoutTheClause : Type 0
+WithoutTheClause =
+    (p : Plan) (minPeriods : ℕ) (t t′ : Trace) (l l′ : Lent) → length (t .readings) ≡ length (t′ .readings)
+    → ((i : ℕ) → i < length (t .readings) → validAt (t .mapped) (t .map) i ≡ validAt (t′ .mapped) (t′ .map) i)
+    → AcceptedCall (varianceBy p minPeriods) t l → AcceptedCall (varianceBy p minPeriods) t′ l′ → SameAnswers (varianceBy p minPeriods) t t′ l l′
 
 -- it does not hold: the traces hold the same readings and miss no place, and row 2's answers have other bits
-pub ones-are-a-map : AnyMoves → ⊥
+pub ones-are-a-map : WithoutTheClause → ⊥
 unfolding ofBits toBits
 ones-are-a-map all =
-    let same = all (shortRow .plan) 3 ones noMap onesLeft noMapLeft (planCall ones-accepted) (planCall no-map-accepted) ones-alike 2 (omega arith) (λ i s e v. refl) in
+    let same = all (shortRow .plan) 3 ones noMap onesLeft noMapLeft refl ones-places (planCall ones-accepted) (planCall no-map-accepted) 2 (omega arith) (λ i s e v. refl) in
     let bits : _≡_ {A = ℕ} 0x4002AAAAAAAAAAAB 0x4002AAAAAAAAAAAA = ap firstBits same in
     omega arith
   where

@@ -7,5 +7,6 @@ pub mod SourceFixed
 pub mod SourceWeights
 pub mod Calls
 pub mod DemandOne
-pub mod Demands
+pub mod DemandTwo
+pub mod DemandThree
 pub mod Table
