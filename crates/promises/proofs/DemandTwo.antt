@@ -1,24 +1,28 @@
 -- Demand 2 for windows: an accepted call's answers are what the split account yields, and so are the source's rows; those of fixed
 -- windows are the rows of a plan; a weighted call's answers are row by row the source's. Assumes nothing.
-use Prim.Native.Nat.{ℕ, _+_, _*_, _/_, _^_, _≤_, _<_, min}
-use mathlib.Core.Path.{_≡_, refl, sym, ap, _∙_}
+use Prim.Native.Nat.{ℕ, zero, suc, _+_, _*_, _/_, _^_, _≤_, _<_, min}
+use mathlib.Core.Path.{_≡_, refl, sym, ap, _∙_, subst}
 use mathlib.Core.Bool.{Bool, true, false, cond}
 use mathlib.Core.List.{List, [], _∷_, append-nil}
 use native.Mathlib.Nat.{zero-add}
 use native.Mathlib.Omega.{arith}
-use lib.Dec.{lit≤}
+use lib.Dec.{T, lit≤}
 use lib.ListN.{length, getD, drop}
-use lib.Ieee.{Float, nan, eq}
+use lib.Ieee.{Float, nan, inf, fin, binary64, fits, eq}
+use borrow.Author.Tests.{le-leb}
 use Rattle.float.specs.Operators.{zero64}
 use Rattle.float.specs.Tables.{table}
 use Rattle.float.proofs.Counts.{zero-is}
 use Rattle.float.proofs.Tables.{table-at}
+use Rattle.root.specs.Root.{root}
+use Rattle.root.proofs.Rounding.{root-is-nearest}
 use Rattle.trace.specs.Trace.{Trace}
 use Rattle.trace.specs.Refusals.{traceRefusal}
 use Rattle.moment.specs.Figure.{doubleOf, byteOf}
-use Rattle.moment.specs.Var.{varCombine}
-use Rattle.moment.specs.Skew.{skewCombine}
-use Rattle.moment.specs.Kurtosis.{kurtosisCombine}
+use Rattle.moment.specs.Var.{varClear, varCombine, varFinalize}
+use Rattle.moment.specs.Skew.{skewClear, skewCombine, skewBiased, skewFinalize}
+use Rattle.moment.specs.Kurtosis.{kurtosisClear, kurtosisCombine, kurtosisFinalize}
+use Rattle.moment.specs.declared.kurtosis_state.KurtosisState.{KurtosisState}
 use Rattle.moment.specs.declared.Figure.{Figure}
 use Rattle.moment.specs.declared.Figure.the-variants.{Missing}
 use Rattle.moment.proofs.Weights.{at-zero}
@@ -30,7 +34,7 @@ use Rattle.window.specs.Window.{Moment}
 use Rattle.window.specs.Readings.{series}
 use Rattle.window.specs.Given.{Readings, Given, seriesOf, placesOf, givenRefusal}
 use Rattle.window.specs.Rows.{answerAt}
-use Rattle.window.specs.Outputs.{Column, Lent, ofFigure, answersIn, answersAt, filled}
+use Rattle.window.specs.Outputs.{Column, Lent, Answer, ofFigure, answersIn, answersAt, filled}
 use Rattle.window.proofs.Outputs.{_then_}
 use Rattle.rolling.specs.Moments.{Statistic, Variance, Skewness, Kurtosis, variance, skewness, kurtosis, kindOf, momentOf, finalsOf}
 use Rattle.rolling.specs.Calls.{Query, GivenTo, figuresBy}
@@ -38,12 +42,15 @@ use Rattle.rolling.specs.Fixed.{fixedQuery, CalledFixed}
 use Rattle.rolling.proofs.Calls.{few-places}
 use Rattle.weighted.specs.Weights.{totalOf, weightedAt, CalledWeights}
 use Rattle.weighted.proofs.WeightedRows.{weights-accepted}
+use Rattle.promises.specs.SourceStates.{VarState·clearZeroWeightNan, VarState·insertOne, VarState·combine, VarState·finalize}
+use Rattle.promises.specs.SourceStates.{SkewState·clearZeroWeightNan, SkewState·insertOne, SkewState·combine, SkewState·finalize}
+use Rattle.promises.specs.SourceStates.{KurtosisState·clearZeroWeightNan, KurtosisState·insertOne, KurtosisState·combine, KurtosisState·finalize}
 use Rattle.promises.specs.SourceWindow.{Rust}
 use Rattle.promises.specs.SourceRows.{planRow, rowOf}
 use Rattle.promises.specs.SourceFixed.{fixedRow}
 use Rattle.promises.specs.SourceWeights.{rollingVarWeights}
 use Rattle.promises.specs.Calls.{AcceptedCall, fixedCall}
-use Rattle.promises.specs.DemandTwo.{rowsOf, sourceRows, sourceFixedRows, DemandTwo}
+use Rattle.promises.specs.DemandTwo.{StatesEqual, varianceMoment, skewMoment, kurtosisMoment, sourceRows, sourceFixedRows, CorrectRoot, DemandTwo}
 use Rattle.promises.proofs.SourceRows.{Neutral, plan-row}
 use Rattle.promises.proofs.SourceFixed.{fixed-row}
 use Rattle.promises.proofs.SourceWeights.{weighted-row, weights-many}
@@ -65,38 +72,90 @@ kurtosis-neutral : Neutral kurtosis
 unfolding kurtosisCombine
 kurtosis-neutral s = rw zero-zero
 
--- ---- the source's rows, over any plan that is in order
+kurtosis-finalize : (s : KurtosisState) (fisher bias : Bool) → KurtosisState·finalize s fisher bias ≡ kurtosisFinalize s fisher bias
+kurtosis-finalize s fisher bias = ?
+
+states : StatesEqual
+states = ?
+
+-- ---- the rows of a driver over our moments
+-- one for each figure
+abbrev rowsBy : (M : Moment Float) → ((M .State → Figure) → ℕ → Figure) → List (M .State → Figure) → List (ℕ → Figure)
+rowsBy M row [] = []
+rowsBy M row (final ∷ finals) = row final ∷ rowsBy M row finals
+
 module _ (rust : Rust) (M : Moment Float) (neutral : Neutral M) (t : Trace) (accepted : traceRefusal t ≡ 0) (minPeriods : ℕ) where
   few : length (t .readings) ≤ 16777216
   few = few-places Readings t accepted
 
+  -- of a plan that is in order
   module _ (widest : ℕ) (p : Plan) (plan : Planned (length (t .readings)) widest p) (k : ℕ) (h : k < rows p) where
     rows-same : (finals : List (M .State → Figure)) →
-        answersAt (figuresBy M finals (seriesOf Readings t) minPeriods p) k ≡ answersAt (rowsOf M (λ f. planRow M rust f t minPeriods p) finals) k
+        answersAt (figuresBy M finals (seriesOf Readings t) minPeriods p) k ≡ answersAt (rowsBy M (λ f. planRow M rust f t minPeriods p) finals) k
     rows-same [] = refl
     rows-same (final ∷ finals) = ap ofFigure (sym (plan-row M rust neutral final t minPeriods widest p plan few (map-long t accepted) k h)) then rows-same finals
 
-  -- those of fixed windows
+  -- of fixed windows
   fixed-same : (center : Bool) (size : ℕ) → size < 2 ^ 64 → (k : ℕ) → k < length (t .readings) → (finals : List (M .State → Figure)) →
-      answersAt (rowsOf M (λ f. planRow M rust f t minPeriods (bounds center size (length (t .readings)))) finals) k
-      ≡ answersAt (rowsOf M (λ f. fixedRow M rust f t minPeriods center size) finals) k
+      answersAt (rowsBy M (λ f. planRow M rust f t minPeriods (bounds center size (length (t .readings)))) finals) k
+      ≡ answersAt (rowsBy M (λ f. fixedRow M rust f t minPeriods center size) finals) k
   fixed-same center size fits k h [] = refl
   fixed-same center size fits k h (final ∷ finals) =
       ap ofFigure (fixed-row M rust final t minPeriods center size k fits few h) then fixed-same center size fits k h finals
 
+-- ---- the source's moments are ours, so a driver gives the same rows over both
+module _ (row : (M : Moment Float) → (M .State → Figure) → ℕ → Figure) where
+  variance-rows : (ddof : ℕ) → (row varianceMoment (λ s. VarState·finalize s ddof) ∷ []) ≡ rowsBy variance (row variance) (finalsOf (Variance ddof))
+  unfolding VarState·insertOne VarState·combine VarState·clearZeroWeightNan VarState·finalize varClear varCombine varFinalize
+  variance-rows ddof = refl
+
+  skewness-rows : (bias : Bool) → (row skewMoment (λ s. SkewState·finalize s bias) ∷ []) ≡ rowsBy skewness (row skewness) (finalsOf (Skewness bias))
+  unfolding SkewState·insertOne SkewState·combine SkewState·clearZeroWeightNan SkewState·finalize skewClear skewCombine skewBiased skewFinalize
+  skewness-rows bias = refl
+
+  kurtosis-rows : (fisher bias : Bool)
+      → (row kurtosisMoment (λ s. KurtosisState·finalize s fisher bias) ∷ []) ≡ rowsBy kurtosis (row kurtosis) (finalsOf (Kurtosis fisher bias))
+  unfolding KurtosisState·insertOne KurtosisState·combine KurtosisState·clearZeroWeightNan kurtosisClear kurtosisCombine
+  kurtosis-rows fisher bias = λ i. row kurtosis (λ s. kurtosis-finalize s fisher bias i) ∷ []
+
 -- ---- by what is asked
 sourced : (rust : Rust) (a : Statistic) (t : Given (kindOf a)) → givenRefusal (kindOf a) t ≡ 0 → (minPeriods widest : ℕ) (p : Plan) → Planned (placesOf (kindOf a) t) widest p
     → (k : ℕ) → k < rows p → answersAt (figuresBy (momentOf a) (finalsOf a) (seriesOf (kindOf a) t) minPeriods p) k ≡ answersAt (sourceRows rust a t minPeriods p) k
-sourced rust (Variance ddof) t g m w p o k h = rows-same rust variance var-neutral t g m w p o k h (finalsOf (Variance ddof))
-sourced rust (Skewness bias) t g m w p o k h = rows-same rust skewness skew-neutral t g m w p o k h (finalsOf (Skewness bias))
-sourced rust (Kurtosis fisher bias) t g m w p o k h = rows-same rust kurtosis kurtosis-neutral t g m w p o k h (finalsOf (Kurtosis fisher bias))
+sourced rust (Variance ddof) t g m w p o k h =
+    rows-same rust variance var-neutral t g m w p o k h (finalsOf (Variance ddof))
+    ∙ ap (λ (l : List (ℕ → Figure)). answersAt l k) (sym (variance-rows (λ M f. planRow M rust f t m p) ddof))
+sourced rust (Skewness bias) t g m w p o k h =
+    rows-same rust skewness skew-neutral t g m w p o k h (finalsOf (Skewness bias))
+    ∙ ap (λ (l : List (ℕ → Figure)). answersAt l k) (sym (skewness-rows (λ M f. planRow M rust f t m p) bias))
+sourced rust (Kurtosis fisher bias) t g m w p o k h =
+    rows-same rust kurtosis kurtosis-neutral t g m w p o k h (finalsOf (Kurtosis fisher bias))
+    ∙ ap (λ (l : List (ℕ → Figure)). answersAt l k) (sym (kurtosis-rows (λ M f. planRow M rust f t m p) fisher bias))
 
-fixed-sourced : (rust : Rust) (a : Statistic) (t : Given (kindOf a)) → givenRefusal (kindOf a) t ≡ 0 → (minPeriods : ℕ) (center : Bool) (size : ℕ) → size < 2 ^ 64
-    → (k : ℕ) → k < placesOf (kindOf a) t
-    → answersAt (sourceRows rust a t minPeriods (bounds center size (placesOf (kindOf a) t))) k ≡ answersAt (sourceFixedRows rust a t minPeriods center size) k
-fixed-sourced rust (Variance ddof) t g m c s f k h = fixed-same rust variance var-neutral t g m c s f k h (finalsOf (Variance ddof))
-fixed-sourced rust (Skewness bias) t g m c s f k h = fixed-same rust skewness skew-neutral t g m c s f k h (finalsOf (Skewness bias))
-fixed-sourced rust (Kurtosis fisher bias) t g m c s f k h = fixed-same rust kurtosis kurtosis-neutral t g m c s f k h (finalsOf (Kurtosis fisher bias))
+-- a fixed row is the plan's row of the bounds
+module _ (rust : Rust) (minPeriods : ℕ) (center : Bool) (size : ℕ) (fits : size < 2 ^ 64) where
+  abbrev byPlan : Trace → (M : Moment Float) → (M .State → Figure) → ℕ → Figure
+  byPlan t M final = planRow M rust final t minPeriods (bounds center size (length (t .readings)))
+
+  abbrev bySize : Trace → (M : Moment Float) → (M .State → Figure) → ℕ → Figure
+  bySize t M final = fixedRow M rust final t minPeriods center size
+
+  abbrev at : ℕ → List (ℕ → Figure) → List Answer
+  at k l = answersAt l k
+
+  fixed-sourced : (a : Statistic) (t : Given (kindOf a)) → givenRefusal (kindOf a) t ≡ 0 → (k : ℕ) → k < placesOf (kindOf a) t
+      → answersAt (sourceRows rust a t minPeriods (bounds center size (placesOf (kindOf a) t))) k ≡ answersAt (sourceFixedRows rust a t minPeriods center size) k
+  fixed-sourced (Variance ddof) t g k h =
+      ap (at k) (variance-rows (byPlan t) ddof)
+      ∙ fixed-same rust variance var-neutral t g minPeriods center size fits k h (finalsOf (Variance ddof))
+      ∙ sym (ap (at k) (variance-rows (bySize t) ddof))
+  fixed-sourced (Skewness bias) t g k h =
+      ap (at k) (skewness-rows (byPlan t) bias)
+      ∙ fixed-same rust skewness skew-neutral t g minPeriods center size fits k h (finalsOf (Skewness bias))
+      ∙ sym (ap (at k) (skewness-rows (bySize t) bias))
+  fixed-sourced (Kurtosis fisher bias) t g k h =
+      ap (at k) (kurtosis-rows (byPlan t) fisher bias)
+      ∙ fixed-same rust kurtosis kurtosis-neutral t g minPeriods center size fits k h (finalsOf (Kurtosis fisher bias))
+      ∙ sym (ap (at k) (kurtosis-rows (bySize t) fisher bias))
 
 plans : (rust : Rust) (q : Query) (t : GivenTo q) (l : Lent) → AcceptedCall q t l → (k : ℕ) → k < rows (q .plan)
     → answersIn (l .outputs .answers) k ≡ answersAt (sourceRows rust (q .statistic) t (q .minPeriods) (q .plan)) k
@@ -112,7 +171,7 @@ fixed rust center size minPeriods a t l₀ l fits c k h =
     let q = fixedQuery center size minPeriods a t in
     let d = fixedCall c in
     plans rust q t l d k (rw (bounds-rows center size (placesOf (kindOf a) t)) h)
-    ∙ fixed-sourced rust a t (known q t l d .given-is) minPeriods center size fits k h
+    ∙ fixed-sourced rust minPeriods center size fits a t (known q t l d .given-is) k h
 
 -- a weighted call's lists hold every row's answer
 weighted : (rust : Rust) (center : Bool) (size minPeriods : ℕ) (weights : List Float) (t : Trace) (c₀ c : Column)
@@ -130,5 +189,23 @@ weighted rust center size minPeriods weights t c₀ c fits d k h =
     )
     (ap ofFigure (sym (weighted-row rust center size minPeriods weights (t .readings) fits (a .few) (a .some) s k h)) then refl)
 
+-- the root of each sort of double
+correct-root : (x : Float) → T (fits binary64 x) → CorrectRoot x (root x)
+unfolding root
+correct-root (fin false (suc m) e) h = root-is-nearest (fin false (suc m) e) (subst T (sym (le-leb 1 (suc m) (omega arith))) tt) h
+correct-root (fin false zero e) h = refl
+correct-root (fin true zero e) h = refl
+correct-root (fin true (suc m) e) h = refl
+correct-root (inf false) h = refl
+correct-root (inf true) h = refl
+correct-root nan h = refl
+
 pub demand-two : DemandTwo
-demand-two = record { plans = plans; fixed = fixed; weights = weighted }
+demand-two =
+    record {
+      states = states;
+      plans = plans;
+      fixed = fixed;
+      weights = weighted;
+      root-is = correct-root;
+    }
