@@ -38,7 +38,7 @@ use Rattle.rolling.specs.Fixed.{fixedQuery, CalledFixed}
 use Rattle.rolling.proofs.Calls.{few-places}
 use Rattle.weighted.specs.Weights.{totalOf, weightedAt, CalledWeights}
 use Rattle.weighted.proofs.WeightedRows.{weights-accepted}
-use Rattle.promises.specs.SourceWindow.{Rust}
+use Rattle.promises.specs.Rust.{Rust}
 use Rattle.promises.specs.SourceRows.{planRow, rowOf}
 use Rattle.promises.specs.SourceFixed.{fixedRow}
 use Rattle.promises.specs.SourceWeights.{rollingVarWeights}

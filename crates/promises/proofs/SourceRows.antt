@@ -24,8 +24,9 @@ use Rattle.window.specs.Places.{Series, entriesFrom, chosenCount, validCount, n
 use Rattle.window.specs.Window.{Account, fresh, splitAfter, front, back, moved, Moment, rising, falling, orNan, figureOf}
 use Rattle.window.specs.Readings.{series, nonfiniteAt}
 use Rattle.window.specs.Rows.{moves, accountAt, counted, answerOf, answerAt}
-use Rattle.promises.specs.SourceWindow.{Rust, Bitmap, combined, mapNan, MomentWindow, newImpl, getMoment, updateNoNulls, updateNulls, isValid}
-use Rattle.promises.specs.SourceRows.{outNoNulls, rollingNoNulls, Array, rowOf, matched, outNulls, rollingNulls, offsets, bitmapOf, planRow}
+use Rattle.promises.specs.Rust.{Rust, Bitmap, bitmapOf}
+use Rattle.promises.specs.SourceWindow.{combined, mapNan, MomentWindow, newImpl, getMoment, updateNoNulls, updateNulls, isValid}
+use Rattle.promises.specs.SourceRows.{outNoNulls, rollingNoNulls, Array, rowOf, matched, outNulls, rollingNulls, offsets, planRow}
 use Rattle.promises.proofs.Accounts.{lies, meets}
 use Rattle.promises.proofs.Validity.{From, created, created-marks}
 use Rattle.promises.proofs.SourceWindow.{tops, updateOn, Whole, new-whole, moved-whole, no-nulls-same, nulls-same}

@@ -23,7 +23,7 @@ use Rattle.rolling.specs.Calls.{Query, query, GivenTo, yields, tallies, Called}
 use Rattle.rolling.specs.Fixed.{fixedQuery, CalledFixed}
 use Rattle.weighted.specs.Weights.{CalledWeights}
 use Rattle.moments.specs.HostCall.{Host, decodedOf, ReadingLists, CalledBytes}
-use Rattle.promises.specs.SourceWindow.{Rust}
+use Rattle.promises.specs.Rust.{Rust}
 use Rattle.promises.specs.SourceRows.{planRow, rowOf}
 use Rattle.promises.specs.SourceFixed.{fixedRow}
 use Rattle.promises.specs.SourceWeights.{rollingVarWeights}
