@@ -32,7 +32,7 @@ use Rattle.promises.specs.SourceRows.{tooShort, rowOf}
 use Rattle.promises.specs.SourceFixed.{offsetFn}
 use Rattle.promises.specs.SourceWeights as source
 use Rattle.promises.proofs.Validity.{created, created-marks, created-off}
-use Rattle.promises.proofs.SourceRows.{span, span-table}
+use Rattle.promises.proofs.Spans.{span, span-table}
 use Rattle.promises.proofs.SourceFixed.{offsets-are}
 
 -- ---- `compute_var_weights`
