@@ -2,7 +2,7 @@
 -- the values left is the fold over the chunks of both, and a left and a right chunk hold a chunk of pairs. Readings: an accepted map's
 -- bits are its places, so what is kept by the bits, and counted by them, are the valid ones; where no bit is 0 they are all.
 -- Assumes nothing.
-use Prim.Native.Nat.{ℕ, zero, suc, _+_, _-_, _*_, _/_, _<_, _≤_}
+use Prim.Native.Nat.{ℕ, zero, suc, _+_, _*_, _/_, _<_, _≤_}
 use mathlib.Core.Path.{_≡_, refl, sym, ap, _∙_, fun-ext}
 use mathlib.Core.Bool.{Bool, true, false, not, cond, _&&_, _||_}
 use mathlib.Core.List.{List, [], _∷_, _++_, foldl, append-assoc, append-nil, map, map-append, zip, zipWith, filterMap}
@@ -14,11 +14,10 @@ use lib.Dec.{T, leb, ltb, leb→le, nleb→lt, lit≤}
 use lib.ListN.{length, take, drop, length-append, length-map, drop-of-length-le, length-drop}
 use lib.Seq.{take-at, drop-at, take-all, take-length, length-take-le}
 use lib.Ieee.{Float}
-use Rattle.float.specs.Tables.{table}
 use Rattle.float.proofs.Tables.{table-same}
 use Rattle.float.proofs.Cases.{Or, here, there, order}
 use Rattle.trace.specs.Trace.{Trace, validAt, bothAt, validFrom, validReadings, validPairs}
-use Rattle.trace.specs.Refusals.{refusal, _orElse_, tooMany, wrongMap, arrayRefusal, traceRefusal, pairRefusal, rangeRefusal}
+use Rattle.trace.specs.Refusals.{refusal, _orElse_, tooMany, wrongMap, traceRefusal, pairRefusal, rangeRefusal}
 use Rattle.trace.proofs.Accepted.{none-of, not-refused, range-fits, pair-fits}
 use Rattle.moment.specs.Sums.{firstOf, secondOf}
 use Rattle.moment.specs.Chunks.{chunks, chunksOf, foldChunks, inChunks}
@@ -32,11 +31,12 @@ use Rattle.moment.proofs.Chunked.{chunks-cons}
 use Rattle.moment.proofs.Pairs.{length-zip}
 use Rattle.plan.proofs.Plans.{neither}
 use Rattle.promises.specs.Rust.{Rust, bitmapOf}
-use Rattle.promises.specs.SourceStates.{VarState·default, VarState·new, VarState·combine, CovState·default, CovState·new, CovState·combine}
+use Rattle.promises.specs.SourceStates.{VarState·default, VarState·new, VarState·combine}
+use Rattle.promises.specs.SourceStates.{CovState·default, CovState·new, CovState·combine}
 use Rattle.promises.specs.SourceStates.{PearsonState·default, PearsonState·new, PearsonState·combine}
 use Rattle.promises.specs.SourceStates.{SkewState·default, SkewState·fromIter, SkewState·new, SkewState·combine}
 use Rattle.promises.specs.SourceStates.{KurtosisState·default, KurtosisState·fromIter, KurtosisState·new, KurtosisState·combine}
-use Rattle.promises.specs.SourceArrays.{PrimitiveArray, bitsOf, arrayOf, unsetBits, hasNulls, NoneMissing, thenSome, valuesWhere}
+use Rattle.promises.specs.SourceArrays.{bitsOf, arrayOf, unsetBits, hasNulls, NoneMissing, thenSome, valuesWhere}
 use Rattle.promises.specs.SourceArrays.{optionsWhere, bothSome, stored, flushed, chunkAsFloat, combineNew, wholeArray}
 use Rattle.promises.specs.SourceArrays.{storedBinary, flushedBinary, chunkAsFloatBinary, combineNewBinary, pairArrays, optionsOf}
 use Rattle.promises.specs.SourceArrays.{nonNullValues, withUnset, sliced, setBits, rangeOf, fromRange, fromArray}
@@ -57,30 +57,40 @@ full-chunk h t e =
     chunks-cons (h ++ t) p ∙ rw (take-at h t 128 e, drop-at h t 128 e)
 
 module _ {A S : Type 0} (new : List A → S) (combine : S → S → S) where
+  abbrev onChunk : S → List A → S
+  onChunk = combineNew new combine
+
+  -- what the loop gives of the values left
+  abbrev looped : List A × S → List A → S
+  looped carried xs = flushed onChunk (foldl (stored onChunk) carried xs)
+
+  abbrev chunked : S → List A → S
+  chunked out xs = foldChunks new combine out (chunksOf xs)
+
   -- no value is left: what is held is the last chunk, if it holds anything
-  last-chunk : (h : List A) (out : S) → length h ≤ 128 → flushed (combineNew new combine) (h, out) ≡ foldChunks new combine out (chunksOf h)
+  last-chunk : (h : List A) (out : S) → length h ≤ 128 → flushed onChunk (h, out) ≡ chunked out h
   unfolding chunks chunksOf
   last-chunk [] out l = refl
   last-chunk (x ∷ xs) out l =
       let p : 0 < length (x ∷ xs) = omega arith in rw (one-chunk (x ∷ xs) p l, lt-ltb 0 (length (x ∷ xs)) p)
 
-  held : (xs h : List A) (out : S) → length h ≤ 128
-      → flushed (combineNew new combine) (foldl (stored (combineNew new combine)) (h, out) xs) ≡ foldChunks new combine out (chunksOf (h ++ xs))
-  held [] h out l = last-chunk h out l ∙ ap (λ (c : List A). foldChunks new combine out (chunksOf c)) (sym (append-nil h))
+  held : (xs h : List A) (out : S) → length h ≤ 128 → looped (h, out) xs ≡ chunked out (h ++ xs)
+  held [] h out l = last-chunk h out l ∙ ap (chunked out) (sym (append-nil h))
   held (x ∷ xs) h out l =
-      by (leb 128 (length h)) (leb→le 128 (length h)) (nleb→lt 128 (length h)) (held xs (x ∷ []) (combine out (new h)) (omega arith)) (λ k. held xs (h ++ (x ∷ [])) out k)
+      by (leb 128 (length h)) (leb→le 128 (length h)) (nleb→lt 128 (length h)) (held xs (x ∷ []) (combine out (new h)) (omega arith))
+      (λ k. held xs (h ++ (x ∷ [])) out k)
     where
       by : (t : Bool) → (T t → 128 ≤ length h) → (T (not t) → length h < 128)
-          → flushed (combineNew new combine) (foldl (stored (combineNew new combine)) (x ∷ [], combine out (new h)) xs) ≡ foldChunks new combine (combine out (new h)) (chunksOf (x ∷ xs))
-          → (length (h ++ (x ∷ [])) ≤ 128 → flushed (combineNew new combine) (foldl (stored (combineNew new combine)) (h ++ (x ∷ []), out) xs) ≡ foldChunks new combine out (chunksOf ((h ++ (x ∷ [])) ++ xs)))
-          → flushed (combineNew new combine) (foldl (stored (combineNew new combine)) (cond t (x ∷ [], combine out (new h)) (h ++ (x ∷ []), out)) xs) ≡ foldChunks new combine out (chunksOf (h ++ x ∷ xs))
+          → looped (x ∷ [], combine out (new h)) xs ≡ chunked (combine out (new h)) (x ∷ xs)
+          → (length (h ++ (x ∷ [])) ≤ 128 → looped (h ++ (x ∷ []), out) xs ≡ chunked out ((h ++ (x ∷ [])) ++ xs))
+          → looped (cond t (x ∷ [], combine out (new h)) (h ++ (x ∷ []), out)) xs ≡ chunked out (h ++ x ∷ xs)
       by true p q a b =
           let e : length h ≡ 128 = (let g : 128 ≤ length h = p tt in omega arith) in
           a ∙ sym (ap (foldChunks new combine out) (full-chunk h (x ∷ xs) e))
       by false p q a b =
           let g : length h < 128 = q tt in
           let k : length (h ++ (x ∷ [])) ≤ 128 = simp length-append (omega arith) in
-          b k ∙ ap (λ (c : List A). foldChunks new combine out (chunksOf c)) (append-assoc h (x ∷ []) xs)
+          b k ∙ ap (chunked out) (append-assoc h (x ∷ []) xs)
 
   -- the source's chunks, made states and combined, are ours
   pub source-in-chunks : (empty : S) (xs : List A) → chunkAsFloat (combineNew new combine) empty xs ≡ inChunks new combine empty xs
@@ -302,7 +312,8 @@ whole-array {S} new combine empty rust t e = by (hasNulls (arrayOf rust t)) (has
     driven = chunkAsFloat (combineNew new combine) empty
 
     by : (b : Bool) → (b ≡ false → NoneMissing (length (t .readings)) valid)
-        → cond b (driven (nonNullValues (arrayOf rust t))) (driven (t .readings)) ≡ inChunks new combine empty (validFrom valid 0 (t .readings))
+        → cond b (driven (nonNullValues (arrayOf rust t))) (driven (t .readings))
+        ≡ inChunks new combine empty (validFrom valid 0 (t .readings))
     by true m =
         source-in-chunks new combine empty (nonNullValues (arrayOf rust t))
         ∙ ap (inChunks new combine empty) (values-of valid (t .readings) (arrayOf rust t .validity) (validity-of rust t e))
@@ -311,7 +322,8 @@ whole-array {S} new combine empty rust t e = by (hasNulls (arrayOf rust t)) (has
         ∙ ap (inChunks new combine empty) (sym (no-nulls valid (t .readings) (m refl)))
 
 pub var-array : (rust : Rust) (t : Trace) → traceRefusal t ≡ 0
-    → wholeArray VarState·new VarState·combine VarState·default (arrayOf rust t) ≡ varWhole (validReadings (t .mapped) (t .map) (t .readings))
+    → wholeArray VarState·new VarState·combine VarState·default (arrayOf rust t)
+    ≡ varWhole (validReadings (t .mapped) (t .map) (t .readings))
 var-array rust t e =
     whole-array VarState·new VarState·combine VarState·default rust t e
     ∙ chunks-same VarState·new varNew VarState·combine varCombine varEmpty var-new var-combine _
@@ -377,10 +389,12 @@ pairs-all x y l m n =
 
 -- of any state
 pair-arrays : {S : Type 0} (new : List Float → List Float → S) (combine : S → S → S) (empty : S) (rust : Rust) (x y : Trace)
-    → pairNumber x y ≡ 0 → pairArrays new combine empty (arrayOf rust x) (arrayOf rust y) ≡ inChunks (ofPairs new) combine empty (bothOf x y)
+    → pairNumber x y ≡ 0
+    → pairArrays new combine empty (arrayOf rust x) (arrayOf rust y) ≡ inChunks (ofPairs new) combine empty (bothOf x y)
 unfolding pairArrays
 pair-arrays {S} new combine empty rust x y e =
-    by (hasNulls (arrayOf rust x) || hasNulls (arrayOf rust y)) (neither (hasNulls (arrayOf rust x)) (hasNulls (arrayOf rust y))) (pair-accepted x y e)
+    by (hasNulls (arrayOf rust x) || hasNulls (arrayOf rust y)) (neither (hasNulls (arrayOf rust x)) (hasNulls (arrayOf rust y)))
+    (pair-accepted x y e)
   where
     driven : List (Float × Float) → S
     driven = chunkAsFloatBinary (combineNewBinary new combine) empty

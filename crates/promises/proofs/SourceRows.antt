@@ -1,7 +1,7 @@
 -- The rows that the source's drivers yield are the split account's: before each row the window stands at the account that the rows
 -- before it leave, row 0's second `update` moves nothing, and `create_validity` takes the mark of too short rows only. Assumes
 -- nothing.
-use Prim.Native.Nat.{ℕ, zero, suc, _+_, _-_, _*_, _/_, _≤_, _<_}
+use Prim.Native.Nat.{ℕ, zero, suc, _+_, _-_, _/_, _≤_, _<_}
 use mathlib.Core.Path.{_≡_, refl, sym, ap, _∙_, subst}
 use mathlib.Core.Bool.{Bool, true, false, cond, not, _||_}
 use mathlib.Core.List.{List, [], _∷_}
@@ -28,6 +28,7 @@ use Rattle.promises.specs.Rust.{Rust, Bitmap, bitmapOf}
 use Rattle.promises.specs.SourceWindow.{combined, mapNan, MomentWindow, newImpl, getMoment, updateNoNulls, updateNulls, isValid}
 use Rattle.promises.specs.SourceRows.{outNoNulls, rollingNoNulls, Array, rowOf, matched, outNulls, rollingNulls, offsets, planRow}
 use Rattle.promises.proofs.Spans.{span, span-table}
+use Rattle.promises.proofs.SourceArrays.{bits-fit}
 use Rattle.promises.proofs.Accounts.{lies, meets}
 use Rattle.promises.proofs.Validity.{From, created, created-marks}
 use Rattle.promises.proofs.SourceWindow.{tops, updateOn, Whole, new-whole, moved-whole, no-nulls-same, nulls-same}
@@ -367,10 +368,6 @@ module _ (M : Moment Float) (rust : Rust) (neutral : Neutral M) (final : M .Stat
           (λ h. rw (update-yes newImpl 0 h) (before-zero h))
 
 -- ---- a row
--- an accepted map's bytes hold a bit for each place
-bits-fit : (n bytes : ℕ) → bytes ≡ (n + 7) / 8 → n ≤ 8 * bytes
-bits-fit n bytes e = omega arith
-
 -- over any plan that is in order, the source's row is what the split account yields
 pub plan-row : (M : Moment Float) (rust : Rust) → Neutral M → (final : M .State → Figure) (t : Trace) (minPeriods widest : ℕ) (p : Plan)
     → Planned (length (t .readings)) widest p → length (t .readings) ≤ 16777216
