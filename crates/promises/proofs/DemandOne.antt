@@ -34,7 +34,7 @@ use Rattle.rolling.specs.Fixed.{fixedQuery, CalledFixed}
 use Rattle.weighted.specs.Weights.{weightedAt, weightsRefusal, CalledWeights}
 use Rattle.moments.specs.HostCall.{Host, readingCount, decodedOf, oddBytes, ReadingLists, shortLists, decodedLists, CalledBytes}
 use Rattle.moments.specs.Results.{StateResult}
-use Rattle.promises.specs.Calls.{readingsOf, rangeOf, pairsOf, varList, skewList, kurtosisList, covList, pearsonList}
+use Rattle.promises.specs.Calls.{readingsOf, readingsIn, pairsOf, varList, skewList, kurtosisList, covList, pearsonList}
 use Rattle.promises.specs.DemandOne.{MapOfWrongLength, WrongLists, BelowRowBefore, SomeShorter, OutputShorter, Check, _when_}
 use Rattle.promises.specs.DemandOne.{traceChecks, pairChecks, rangeChecks, givenChecks, rowChecks, rowsChecks, plannedChecks, rowNumbers, InOrder}
 use Rattle.promises.specs.DemandOne.{NoWholeReadings, ReadingsShorter, planChecks, hostChecks, fixedChecks, weightsChecks, HostLeft}
@@ -286,11 +286,23 @@ planned-order kind t n Short q l =
 
 -- ---- states
 -- an answer that is a state or a refusal, by its definitions of number and members
-record Hands {S R : Type 0} (numberOf : R → ℕ) (membersOf : R → List Float → List Float) (state : S → R) (refusedBy : ℕ → R) (list : S → List Float) : Type 0 where
-  state-number : (s : S) → numberOf (state s) ≡ 0
-  refused-number : (n : ℕ) → numberOf (refusedBy n) ≡ n
-  state-members : (s : S) (before : List Float) → membersOf (state s) before ≡ list s
-  refused-members : (n : ℕ) (before : List Float) → membersOf (refusedBy n) before ≡ before
+pub record Hands {S R : Type 0} (numberOf : R → ℕ) (membersOf : R → List Float → List Float) (state : S → R) (refusedBy : ℕ → R) (list : S → List Float) : Type 0 where
+  pub state-number : (s : S) → numberOf (state s) ≡ 0
+  pub refused-number : (n : ℕ) → numberOf (refusedBy n) ≡ n
+  pub state-members : (s : S) (before : List Float) → membersOf (state s) before ≡ list s
+  pub refused-members : (n : ℕ) (before : List Float) → membersOf (refusedBy n) before ≡ before
+
+-- an accepted call has the number 0, and leaves the state
+pub taken : {S R : Type 0} {numberOf : R → ℕ} {membersOf : R → List Float → List Float} {state : S → R} {refusedBy : ℕ → R} {list : S → List Float}
+    → Hands numberOf membersOf state refusedBy list → (number : ℕ) (s : S) (before after : List Float)
+    → StateResult numberOf membersOf (answer state refusedBy number s) before 0 after → (number ≡ 0) × (after ≡ list s)
+unfolding answer
+taken {numberOf = numberOf} {membersOf} {state} {refusedBy} {list} laws number s before after c = go (eqb number 0) refl (c .number) (c .state)
+  where
+    go : (b : Bool) → eqb number 0 ≡ b → 0 ≡ numberOf (cond b (state s) (refusedBy number)) → after ≡ membersOf (cond b (state s) (refusedBy number)) before
+        → (number ≡ 0) × (after ≡ list s)
+    go true e n m = (eqb-true number 0 e, m ∙ laws .state-members s before)
+    go false e n m = absurd (eqb-false number 0 e (sym (n ∙ laws .refused-number number)))
 
 handed : {S R : Type 0} {numberOf : R → ℕ} {membersOf : R → List Float → List Float} {state : S → R} {refusedBy : ℕ → R} {list : S → List Float}
     → Hands numberOf membersOf state refusedBy list → {checks : List Check} (number : ℕ) → Says checks number → (s : S) (before after : List Float) (r : ℕ)
@@ -308,19 +320,19 @@ handed {numberOf = numberOf} {membersOf} {state} {refusedBy} {list} laws {checks
         let z : r ≡ number = n ∙ laws .refused-number number in
         answered (subst (Says checks) (sym z) says) (λ x. absurd (eqb-false number 0 e (sym z ∙ x))) (λ x. m ∙ laws .refused-members number before)
 
-var-hands : Hands varNumber varMembers var.State var.Refused varList
+pub var-hands : Hands varNumber varMembers var.State var.Refused varList
 var-hands = record { state-number = λ s. refl; refused-number = λ n. refl; state-members = λ s b. refl; refused-members = λ n b. refl }
 
-skew-hands : Hands skewNumber skewMembers skew.State skew.Refused skewList
+pub skew-hands : Hands skewNumber skewMembers skew.State skew.Refused skewList
 skew-hands = record { state-number = λ s. refl; refused-number = λ n. refl; state-members = λ s b. refl; refused-members = λ n b. refl }
 
-kurtosis-hands : Hands kurtosisNumber kurtosisMembers kurtosis.State kurtosis.Refused kurtosisList
+pub kurtosis-hands : Hands kurtosisNumber kurtosisMembers kurtosis.State kurtosis.Refused kurtosisList
 kurtosis-hands = record { state-number = λ s. refl; refused-number = λ n. refl; state-members = λ s b. refl; refused-members = λ n b. refl }
 
-cov-hands : Hands covNumber covMembers cov.State cov.Refused covList
+pub cov-hands : Hands covNumber covMembers cov.State cov.Refused covList
 cov-hands = record { state-number = λ s. refl; refused-number = λ n. refl; state-members = λ s b. refl; refused-members = λ n b. refl }
 
-pearson-hands : Hands pearsonNumber pearsonMembers pearson.State pearson.Refused pearsonList
+pub pearson-hands : Hands pearsonNumber pearsonMembers pearson.State pearson.Refused pearsonList
 pearson-hands = record { state-number = λ s. refl; refused-number = λ n. refl; state-members = λ s b. refl; refused-members = λ n b. refl }
 
 -- ---- windows
@@ -410,8 +422,8 @@ demand-one =
       kurtosis = λ t b a r c. handed kurtosis-hands (traceRefusal t) (trace-says t) (kurtosisWhole (readingsOf t)) b a r c;
       cov = λ x y b a r c. handed cov-hands _ (pair-says x y) (covWhole (pairsOf x y)) b a r c;
       pearson = λ x y b a r c. handed pearson-hands _ (pair-says x y) (pearsonWhole (pairsOf x y)) b a r c;
-      skew-range = λ t s n b a r c. handed skew-hands _ (range-says t s n) (skewNew (rangeOf t s n)) b a r c;
-      kurtosis-range = λ t s n b a r c. handed kurtosis-hands _ (range-says t s n) (kurtosisNew (rangeOf t s n)) b a r c;
+      skew-range = λ t s n b a r c. handed skew-hands _ (range-says t s n) (skewNew (readingsIn t s n)) b a r c;
+      kurtosis-range = λ t s n b a r c. handed kurtosis-hands _ (range-says t s n) (kurtosisNew (readingsIn t s n)) b a r c;
       plans = plans;
       hosts = hosts;
       fixed = fixed;

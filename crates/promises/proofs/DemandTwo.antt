@@ -20,8 +20,9 @@ use Rattle.trace.specs.Trace.{Trace}
 use Rattle.trace.specs.Refusals.{traceRefusal}
 use Rattle.moment.specs.Figure.{doubleOf, byteOf}
 use Rattle.moment.specs.Var.{varClear, varCombine, varFinalize}
-use Rattle.moment.specs.Skew.{skewClear, skewCombine, skewBiased, skewFinalize}
-use Rattle.moment.specs.Kurtosis.{kurtosisClear, kurtosisCombine, kurtosisFinalize}
+use Rattle.moment.specs.Skew.{skewNew, skewClear, skewCombine, skewBiased, skewFinalize}
+use Rattle.moment.specs.Kurtosis.{kurtosisNew, kurtosisClear, kurtosisCombine, kurtosisFinalize}
+use Rattle.moment.specs.Arrays.{varWhole, covWhole, pearsonWhole, skewWhole, kurtosisWhole}
 use Rattle.moment.specs.declared.kurtosis_state.KurtosisState.{KurtosisState}
 use Rattle.moment.specs.declared.Figure.{Figure}
 use Rattle.moment.specs.declared.Figure.the-variants.{Missing}
@@ -45,15 +46,20 @@ use Rattle.weighted.proofs.WeightedRows.{weights-accepted}
 use Rattle.promises.specs.SourceStates.{VarState·clearZeroWeightNan, VarState·insertOne, VarState·combine, VarState·finalize}
 use Rattle.promises.specs.SourceStates.{SkewState·clearZeroWeightNan, SkewState·insertOne, SkewState·combine, SkewState·finalize}
 use Rattle.promises.specs.SourceStates.{KurtosisState·clearZeroWeightNan, KurtosisState·insertOne, KurtosisState·combine, KurtosisState·finalize}
-use Rattle.promises.specs.SourceWindow.{Rust}
+use Rattle.promises.specs.Rust.{Rust}
 use Rattle.promises.specs.SourceRows.{planRow, rowOf}
 use Rattle.promises.specs.SourceFixed.{fixedRow}
 use Rattle.promises.specs.SourceWeights.{rollingVarWeights}
-use Rattle.promises.specs.Calls.{AcceptedCall, fixedCall}
-use Rattle.promises.specs.DemandTwo.{StatesEqual, varianceMoment, skewMoment, kurtosisMoment, sourceRows, sourceFixedRows, CorrectRoot, DemandTwo}
+use Rattle.promises.specs.Calls.{readingsOf, readingsIn, pairsOf, varList, skewList, kurtosisList, covList, pearsonList, AcceptedCall, fixedCall}
+use Rattle.promises.specs.DemandTwo.{StatesEqual, ArraysEqual, RangesEqual, varianceMoment, skewMoment, kurtosisMoment, sourceRows, sourceFixedRows, CorrectRoot, DemandTwo}
+use Rattle.promises.proofs.SourceStates.{var-insert, var-combine, var-finalize, cov-insert, cov-combine, cov-finalize}
+use Rattle.promises.proofs.SourceStates.{pearson-insert, pearson-combine, pearson-finalize, skew-insert, skew-combine, skew-finalize}
+use Rattle.promises.proofs.SourceStates.{kurtosis-insert, kurtosis-combine, kurtosis-finalize}
+use Rattle.promises.proofs.SourceArrays.{var-array, skew-array, kurtosis-array, cov-array, pearson-array, skew-range, kurtosis-range}
 use Rattle.promises.proofs.SourceRows.{Neutral, plan-row}
 use Rattle.promises.proofs.SourceFixed.{fixed-row}
 use Rattle.promises.proofs.SourceWeights.{weighted-row, weights-many}
+use Rattle.promises.proofs.DemandOne.{taken, var-hands, skew-hands, kurtosis-hands, cov-hands, pearson-hands}
 use Rattle.promises.proofs.Accepted.{known, map-long}
 
 zero-zero : eq zero64 zero64 ≡ true
@@ -72,11 +78,37 @@ kurtosis-neutral : Neutral kurtosis
 unfolding kurtosisCombine
 kurtosis-neutral s = rw zero-zero
 
-kurtosis-finalize : (s : KurtosisState) (fisher bias : Bool) → KurtosisState·finalize s fisher bias ≡ kurtosisFinalize s fisher bias
-kurtosis-finalize s fisher bias = ?
-
+-- ---- states
 states : StatesEqual
-states = ?
+states =
+    record {
+      var = λ s o x d. (ap (λ f. f s x) (sym var-insert), ap (λ f. f s o) (sym var-combine), ap (λ f. f s d) (sym var-finalize));
+      cov = λ s o x y d. (ap (λ f. f s x y) (sym cov-insert), ap (λ f. f s o) (sym cov-combine), ap (λ f. f s d) (sym cov-finalize));
+      pearson = λ s o x y. (ap (λ f. f s x y) (sym pearson-insert), ap (λ f. f s o) (sym pearson-combine), ap (λ f. f s) (sym pearson-finalize));
+      skew = λ s o x b. (ap (λ f. f s x) (sym skew-insert), ap (λ f. f s o) (sym skew-combine), ap (λ f. f s b) (sym skew-finalize));
+      kurtosis = λ s o x f b. (ap (λ g. g s x) (sym kurtosis-insert), ap (λ g. g s o) (sym kurtosis-combine), sym (kurtosis-finalize s f b));
+    }
+
+-- ---- whole arrays and ranges: an accepted call is refused by nothing and leaves the state of our definition, which is the source's
+arrays : ArraysEqual
+arrays =
+    record {
+      var = λ rust t b a c. let k = taken var-hands (traceRefusal t) (varWhole (readingsOf t)) b a c in k .1 ∙ ap varList (sym (var-array rust t (k .0)));
+      skew = λ rust t b a c. let k = taken skew-hands (traceRefusal t) (skewWhole (readingsOf t)) b a c in k .1 ∙ ap skewList (sym (skew-array rust t (k .0)));
+      kurtosis = λ rust t b a c.
+          let k = taken kurtosis-hands (traceRefusal t) (kurtosisWhole (readingsOf t)) b a c in k .1 ∙ ap kurtosisList (sym (kurtosis-array rust t (k .0)));
+      cov = λ rust x y b a c. let k = taken cov-hands _ (covWhole (pairsOf x y)) b a c in k .1 ∙ ap covList (sym (cov-array rust x y (k .0)));
+      pearson = λ rust x y b a c.
+          let k = taken pearson-hands _ (pearsonWhole (pairsOf x y)) b a c in k .1 ∙ ap pearsonList (sym (pearson-array rust x y (k .0)));
+    }
+
+ranges : RangesEqual
+ranges =
+    record {
+      skew = λ rust t s n b a c. let k = taken skew-hands _ (skewNew (readingsIn t s n)) b a c in k .1 ∙ ap skewList (sym (skew-range rust t s n (k .0)));
+      kurtosis = λ rust t s n b a c.
+          let k = taken kurtosis-hands _ (kurtosisNew (readingsIn t s n)) b a c in k .1 ∙ ap kurtosisList (sym (kurtosis-range rust t s n (k .0)));
+    }
 
 -- ---- the rows of a driver over our moments
 -- one for each figure
@@ -204,6 +236,8 @@ pub demand-two : DemandTwo
 demand-two =
     record {
       states = states;
+      arrays = arrays;
+      ranges = ranges;
       plans = plans;
       fixed = fixed;
       weights = weighted;

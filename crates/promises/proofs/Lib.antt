@@ -1,7 +1,8 @@
--- Laws by subject: whole arrays; the account over a plan; the source's windows, marks and rows, its fixed windows and its weights;
--- then the demands, accepted calls that bear witness, and the table.
+-- Laws by subject: the source's states, whole arrays and ranges; the account over a plan; the source's windows, marks and rows, its
+-- fixed windows and its weights; then the demands, accepted calls that bear witness, and the table.
 pub mod SourceStates
-pub mod Source
+pub mod Spans
+pub mod SourceArrays
 pub mod Accounts
 pub mod SourceWindow
 pub mod Validity

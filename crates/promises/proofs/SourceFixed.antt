@@ -15,8 +15,9 @@ use Rattle.moment.specs.declared.Figure.{Figure}
 use Rattle.plan.specs.Bounds.{boundsAt, bounds}
 use Rattle.plan.proofs.FixedWindows.{bounds-rows}
 use Rattle.window.specs.Window.{Moment}
-use Rattle.promises.specs.SourceWindow.{Rust, Bitmap, MomentWindow, updateNoNulls, updateNulls, isValid, getMoment}
-use Rattle.promises.specs.SourceRows.{outNoNulls, rollingNoNulls, headSet, tailSet, createValidity, matched, outNulls, rollingNulls, offsets, bitmapOf, planRow}
+use Rattle.promises.specs.Rust.{Rust, Bitmap, bitmapOf}
+use Rattle.promises.specs.SourceWindow.{MomentWindow, updateNoNulls, updateNulls, isValid, getMoment}
+use Rattle.promises.specs.SourceRows.{outNoNulls, rollingNoNulls, headSet, tailSet, createValidity, matched, outNulls, rollingNulls, offsets, planRow}
 use Rattle.promises.specs.SourceFixed.{divCeil, offsetFn, fixedRow}
 
 -- ---- the offsets

@@ -1,10 +1,10 @@
 -- The rows that the source's drivers yield are the split account's: before each row the window stands at the account that the rows
 -- before it leave, row 0's second `update` moves nothing, and `create_validity` takes the mark of too short rows only. Assumes
 -- nothing.
-use Prim.Native.Nat.{ℕ, zero, suc, _+_, _-_, _*_, _/_, _≤_, _<_}
+use Prim.Native.Nat.{ℕ, zero, suc, _+_, _-_, _/_, _≤_, _<_}
 use mathlib.Core.Path.{_≡_, refl, sym, ap, _∙_, subst}
 use mathlib.Core.Bool.{Bool, true, false, cond, not, _||_}
-use mathlib.Core.List.{List, [], _∷_, _++_}
+use mathlib.Core.List.{List, [], _∷_}
 use native.Mathlib.Nat.{add-zero, zero-add}
 use native.Mathlib.Omega.{arith}
 use lib.Dec.{leb, ltb, eqb}
@@ -24,8 +24,11 @@ use Rattle.window.specs.Places.{Series, entriesFrom, chosenCount, validCount, n
 use Rattle.window.specs.Window.{Account, fresh, splitAfter, front, back, moved, Moment, rising, falling, orNan, figureOf}
 use Rattle.window.specs.Readings.{series, nonfiniteAt}
 use Rattle.window.specs.Rows.{moves, accountAt, counted, answerOf, answerAt}
-use Rattle.promises.specs.SourceWindow.{Rust, Bitmap, combined, mapNan, MomentWindow, newImpl, getMoment, updateNoNulls, updateNulls, isValid}
-use Rattle.promises.specs.SourceRows.{outNoNulls, rollingNoNulls, Array, rowOf, matched, outNulls, rollingNulls, offsets, bitmapOf, planRow}
+use Rattle.promises.specs.Rust.{Rust, Bitmap, bitmapOf}
+use Rattle.promises.specs.SourceWindow.{combined, mapNan, MomentWindow, newImpl, getMoment, updateNoNulls, updateNulls, isValid}
+use Rattle.promises.specs.SourceRows.{outNoNulls, rollingNoNulls, Array, rowOf, matched, outNulls, rollingNulls, offsets, planRow}
+use Rattle.promises.proofs.Spans.{span, span-table}
+use Rattle.promises.proofs.SourceArrays.{bits-fit}
 use Rattle.promises.proofs.Accounts.{lies, meets}
 use Rattle.promises.proofs.Validity.{From, created, created-marks}
 use Rattle.promises.proofs.SourceWindow.{tops, updateOn, Whole, new-whole, moved-whole, no-nulls-same, nulls-same}
@@ -33,21 +36,6 @@ use Rattle.promises.proofs.SourceWindow.{tops, updateOn, Whole, new-who
 -- combining with the empty state changes nothing
 abbrev pub Neutral : Moment Float → Type 0
 Neutral M = (s : M .State) → M .combine s (M .empty) ≡ s
-
--- the k values of f from i on
-unfoldable pub span : {A : Type 0} → (ℕ → A) → ℕ → ℕ → List A
-span f zero i = []
-span f (suc k) i = f i ∷ span f k (suc i)
-
-span-snoc : {A : Type 0} (f : ℕ → A) (k i : ℕ) → span f (suc k) i ≡ span f k i ++ (f (i + k) ∷ [])
-unfolding span
-span-snoc f zero i = rw add-zero
-span-snoc f (suc k) i = let z : i + suc k ≡ suc i + k = omega arith in ap (λ (l : List _). f i ∷ l) (span-snoc f k (suc i)) ∙ rw z
-
-pub span-table : {A : Type 0} (f : ℕ → A) (k : ℕ) → span f k 0 ≡ table f k
-unfolding span table
-span-table f zero = refl
-span-table f (suc k) = span-snoc f k 0 ∙ rw (zero-add, span-table f k)
 
 -- valid and missing places together
 both : {A : Type 0} (v : ℕ → Bool) (r : ℕ → A) (k i : ℕ) → length (entriesFrom v r k i) + length (entriesFrom (λ j. not (v j)) r k i) ≡ k
@@ -380,10 +368,6 @@ module _ (M : Moment Float) (rust : Rust) (neutral : Neutral M) (final : M .Stat
           (λ h. rw (update-yes newImpl 0 h) (before-zero h))
 
 -- ---- a row
--- an accepted map's bytes hold a bit for each place
-bits-fit : (n bytes : ℕ) → bytes ≡ (n + 7) / 8 → n ≤ 8 * bytes
-bits-fit n bytes e = omega arith
-
 -- over any plan that is in order, the source's row is what the split account yields
 pub plan-row : (M : Moment Float) (rust : Rust) → Neutral M → (final : M .State → Figure) (t : Trace) (minPeriods widest : ℕ) (p : Plan)
     → Planned (length (t .readings)) widest p → length (t .readings) ≤ 16777216

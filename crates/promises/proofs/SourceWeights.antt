@@ -27,12 +27,12 @@ use Rattle.plan.proofs.FixedWindows.{bounds-at, right-le, right-some}
 use Rattle.window.specs.Readings.{readingOf}
 use Rattle.weighted.specs.Weights.{totalOf, Sums, noSums, plus, varianceOf, computeVarWeights, weightsStart, aligned, weightedAt, weightsRefusal}
 use Rattle.weighted.proofs.WeightedRows.{aligned-start}
-use Rattle.promises.specs.SourceWindow.{Rust}
+use Rattle.promises.specs.Rust.{Rust}
 use Rattle.promises.specs.SourceRows.{tooShort, rowOf}
 use Rattle.promises.specs.SourceFixed.{offsetFn}
 use Rattle.promises.specs.SourceWeights as source
 use Rattle.promises.proofs.Validity.{created, created-marks, created-off}
-use Rattle.promises.proofs.SourceRows.{span, span-table}
+use Rattle.promises.proofs.Spans.{span, span-table}
 use Rattle.promises.proofs.SourceFixed.{offsets-are}
 
 -- ---- `compute_var_weights`

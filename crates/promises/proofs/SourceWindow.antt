@@ -21,7 +21,8 @@ use Rattle.window.specs.Window.{Account, splitAfter, Moment, rising, falling, m
 use Rattle.window.specs.Window as paper
 use Rattle.window.specs.Readings.{insertedAt}
 use Rattle.window.proofs.Places.{entries-self, entries-none, entries-cons, entries-snoc, count-le, count-more}
-use Rattle.promises.specs.SourceWindow.{Rust, Bitmap, turns, forIn, popped, flipped, MomentWindow, setNonFiniteCount, setNullCount, setStart, setEnd, newImpl, reset, pushed, push, flip, pop, restarted, updateNoNulls, popAt, pushAt, updateNulls}
+use Rattle.promises.specs.Rust.{Rust, Bitmap}
+use Rattle.promises.specs.SourceWindow.{turns, forIn, popped, flipped, MomentWindow, setNonFiniteCount, setNullCount, setStart, setEnd, newImpl, reset, pushed, push, flip, pop, restarted, updateNoNulls, popAt, pushAt, updateNulls}
 use Rattle.promises.proofs.Accounts.{split-le}
 
 -- the front `Vec` of a list of readings: on its top the state of them all

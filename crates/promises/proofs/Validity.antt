@@ -12,7 +12,7 @@ use lib.ListN.{length, getD, set, replicate, length-set, length-replicate, getD-
 use lib.Seq.{getD-set-same, getD-set-other}
 use borrow.Author.Tests.{lt-ltb, eqb-true, eqb-false}
 use Rattle.float.proofs.Cases.{apart, Or, here, there, order}
-use Rattle.promises.specs.SourceWindow.{Rust}
+use Rattle.promises.specs.Rust.{Rust}
 use Rattle.promises.specs.SourceRows.{tooShort, headSet, tailSet, createValidity}
 
 module _ (rust : Rust) (minPeriods : ℕ) (detOffsets : ℕ → ℕ × ℕ) where

@@ -57,8 +57,8 @@ CallsKurtosisRange t start len before after r =
 abbrev pub readingsOf : Trace → List Float
 readingsOf t = validReadings (t .mapped) (t .map) (t .readings)
 
-abbrev pub rangeOf : Trace → ℕ → ℕ → List Float
-rangeOf t start len = rangeReadings (t .mapped) (t .map) (t .readings) start len
+abbrev pub readingsIn : Trace → ℕ → ℕ → List Float
+readingsIn t start len = rangeReadings (t .mapped) (t .map) (t .readings) start len
 
 abbrev pub pairsOf : Trace → Trace → List (Float × Float)
 pairsOf x y = validPairs (x .mapped) (x .map) (x .readings) (y .mapped) (y .map) (y .readings)

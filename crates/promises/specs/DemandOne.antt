@@ -25,7 +25,7 @@ use Rattle.weighted.specs.Weights.{totalOf, weightedAt, CalledWeights}
 use Rattle.moments.specs.HostCall.{Host, readingCount, decodedOf, ReadingLists, decodedLists, CalledBytes}
 use Rattle.moments.specs.Results.{FigureResult}
 use Rattle.promises.specs.Calls.{CallsVar, CallsSkew, CallsKurtosis, CallsCov, CallsPearson, CallsSkewRange, CallsKurtosisRange}
-use Rattle.promises.specs.Calls.{readingsOf, pairsOf, rangeOf, varList, skewList, kurtosisList, covList, pearsonList}
+use Rattle.promises.specs.Calls.{readingsOf, pairsOf, readingsIn, varList, skewList, kurtosisList, covList, pearsonList}
 
 -- ---- when a number applies
 -- "The sender of a trace: 1 more than 16,777,216 readings"
@@ -240,9 +240,9 @@ pub record DemandOne : Type 1 where
       → Answered (pairChecks x y) r before after (after ≡ pearsonList (pearsonWhole (pairsOf x y)))
   -- ranges
   pub skew-range : (t : Trace) (start len : ℕ) (before after : List Float) (r : ℕ) → CallsSkewRange t start len before after r
-      → Answered (rangeChecks t start len) r before after (after ≡ skewList (skewNew (rangeOf t start len)))
+      → Answered (rangeChecks t start len) r before after (after ≡ skewList (skewNew (readingsIn t start len)))
   pub kurtosis-range : (t : Trace) (start len : ℕ) (before after : List Float) (r : ℕ) → CallsKurtosisRange t start len before after r
-      → Answered (rangeChecks t start len) r before after (after ≡ kurtosisList (kurtosisNew (rangeOf t start len)))
+      → Answered (rangeChecks t start len) r before after (after ≡ kurtosisList (kurtosisNew (readingsIn t start len)))
   -- plans, the trace as doubles
   pub plans : (q : Query) (t : GivenTo q) (l₀ l : Lent) (r : ℕ) → Called q t l₀ l r → Answered (planChecks q t l₀) r l₀ l (Left q t l₀ l 0)
   -- host calls, the trace as bytes

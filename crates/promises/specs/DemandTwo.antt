@@ -30,16 +30,19 @@ use Rattle.rolling.specs.Moments.{Statistic, Variance, Skewness, Kurtosis, kind
 use Rattle.rolling.specs.Calls.{Query, GivenTo}
 use Rattle.rolling.specs.Fixed.{CalledFixed}
 use Rattle.weighted.specs.Weights.{CalledWeights}
-use Rattle.promises.specs.SourceStates.{VarState·default, VarState·insertOne, VarState·combine, VarState·finalize}
-use Rattle.promises.specs.SourceStates.{CovState·insertOne, CovState·combine, CovState·finalize}
-use Rattle.promises.specs.SourceStates.{PearsonState·insertOne, PearsonState·combine, PearsonState·finalize}
-use Rattle.promises.specs.SourceStates.{SkewState·default, SkewState·insertOne, SkewState·combine, SkewState·finalize}
-use Rattle.promises.specs.SourceStates.{KurtosisState·default, KurtosisState·insertOne, KurtosisState·combine, KurtosisState·finalize}
-use Rattle.promises.specs.SourceWindow.{Rust}
+use Rattle.promises.specs.Rust.{Rust}
+use Rattle.promises.specs.SourceStates.{VarState·default, VarState·new, VarState·insertOne, VarState·combine, VarState·finalize}
+use Rattle.promises.specs.SourceStates.{CovState·default, CovState·new, CovState·insertOne, CovState·combine, CovState·finalize}
+use Rattle.promises.specs.SourceStates.{PearsonState·default, PearsonState·new, PearsonState·insertOne, PearsonState·combine, PearsonState·finalize}
+use Rattle.promises.specs.SourceStates.{SkewState·default, SkewState·fromIter, SkewState·new, SkewState·insertOne, SkewState·combine, SkewState·finalize}
+use Rattle.promises.specs.SourceStates.{KurtosisState·default, KurtosisState·fromIter, KurtosisState·new}
+use Rattle.promises.specs.SourceStates.{KurtosisState·insertOne, KurtosisState·combine, KurtosisState·finalize}
+use Rattle.promises.specs.SourceArrays.{arrayOf, wholeArray, pairArrays, fromArray}
 use Rattle.promises.specs.SourceRows.{planRow, rowOf}
 use Rattle.promises.specs.SourceFixed.{fixedRow}
 use Rattle.promises.specs.SourceWeights.{rollingVarWeights}
-use Rattle.promises.specs.Calls.{AcceptedCall}
+use Rattle.promises.specs.Calls.{CallsVar, CallsSkew, CallsKurtosis, CallsCov, CallsPearson, CallsSkewRange, CallsKurtosisRange}
+use Rattle.promises.specs.Calls.{varList, skewList, kurtosisList, covList, pearsonList, AcceptedCall}
 
 -- ---- states
 -- "every state .. equals the Rust's": each method that a host can call, of any set of floats
@@ -58,6 +61,45 @@ pub record StatesEqual : Type 0 where
       → (kurtosisInsert s x ≡ KurtosisState·insertOne s x)
       × (kurtosisCombine s o ≡ KurtosisState·combine s o)
       × (kurtosisFinalize s fisher bias ≡ KurtosisState·finalize s fisher bias)
+
+-- ---- whole arrays and ranges: the members of the Rust's state
+-- `var`, `skew` and `kurtosis` of a trace
+abbrev pub sourceVar : Rust → Trace → List Float
+sourceVar rust t = varList (wholeArray VarState·new VarState·combine VarState·default (arrayOf rust t))
+
+abbrev pub sourceSkew : Rust → Trace → List Float
+sourceSkew rust t = skewList (wholeArray SkewState·new SkewState·combine SkewState·default (arrayOf rust t))
+
+abbrev pub sourceKurtosis : Rust → Trace → List Float
+sourceKurtosis rust t = kurtosisList (wholeArray KurtosisState·new KurtosisState·combine KurtosisState·default (arrayOf rust t))
+
+-- `cov` and `pearson_corr` of two
+abbrev pub sourceCov : Rust → Trace → Trace → List Float
+sourceCov rust x y = covList (pairArrays CovState·new CovState·combine CovState·default (arrayOf rust x) (arrayOf rust y))
+
+abbrev pub sourcePearson : Rust → Trace → Trace → List Float
+sourcePearson rust x y = pearsonList (pairArrays PearsonState·new PearsonState·combine PearsonState·default (arrayOf rust x) (arrayOf rust y))
+
+-- `SkewState::from_array` and `KurtosisState::from_array`
+abbrev pub sourceSkewRange : Rust → Trace → ℕ → ℕ → List Float
+sourceSkewRange rust t start len = skewList (fromArray SkewState·fromIter rust (arrayOf rust t) start len)
+
+abbrev pub sourceKurtosisRange : Rust → Trace → ℕ → ℕ → List Float
+sourceKurtosisRange rust t start len = kurtosisList (fromArray KurtosisState·fromIter rust (arrayOf rust t) start len)
+
+-- "every state .. equals the Rust's": what an accepted call leaves
+pub record ArraysEqual : Type 0 where
+  pub var : (rust : Rust) (t : Trace) (before after : List Float) → CallsVar t before after 0 → after ≡ sourceVar rust t
+  pub skew : (rust : Rust) (t : Trace) (before after : List Float) → CallsSkew t before after 0 → after ≡ sourceSkew rust t
+  pub kurtosis : (rust : Rust) (t : Trace) (before after : List Float) → CallsKurtosis t before after 0 → after ≡ sourceKurtosis rust t
+  pub cov : (rust : Rust) (x y : Trace) (before after : List Float) → CallsCov x y before after 0 → after ≡ sourceCov rust x y
+  pub pearson : (rust : Rust) (x y : Trace) (before after : List Float) → CallsPearson x y before after 0 → after ≡ sourcePearson rust x y
+
+pub record RangesEqual : Type 0 where
+  pub skew : (rust : Rust) (t : Trace) (start len : ℕ) (before after : List Float) → CallsSkewRange t start len before after 0
+      → after ≡ sourceSkewRange rust t start len
+  pub kurtosis : (rust : Rust) (t : Trace) (start len : ℕ) (before after : List Float) → CallsKurtosisRange t start len before after 0
+      → after ≡ sourceKurtosisRange rust t start len
 
 -- ---- windows
 -- 001, `VarianceMoment`, `SkewMoment` and `KurtosisMoment`, which forward to the states' own
@@ -119,6 +161,8 @@ CorrectRoot nan r = r ≡ nan
 -- ---- the demand
 pub record DemandTwo : Type 0 where
   pub states : StatesEqual
+  pub arrays : ArraysEqual
+  pub ranges : RangesEqual
   -- plan calls and host calls, and fixed windows as the plan of their bounds: "The oracle drives the Rust window with the plan's rows"
   pub plans : (rust : Rust) (q : Query) (t : GivenTo q) (l : Lent) → AcceptedCall q t l → RowsEqual rust q t l
   -- "Fixed windows (006, 004, 005)", of any size that is a `usize`

@@ -1,6 +1,8 @@
--- Demand 2: the source's drivers as functions on values; then demands 2 and 3 for windows and weights; last the table of the P cases.
+-- Demand 2: what is taken from Rust itself, the source's states, whole arrays and ranges, then its windows, rows and weights, as
+-- functions on values; then demands 2 and 3; last the table of the P cases.
+pub mod Rust
 pub mod SourceStates
-pub mod Source
+pub mod SourceArrays
 pub mod SourceWindow
 pub mod SourceRows
 pub mod SourceFixed

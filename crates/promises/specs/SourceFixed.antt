@@ -10,8 +10,8 @@ use Rattle.trace.specs.Trace.{Trace}
 use Rattle.moment.specs.declared.Figure.{Figure}
 use Rattle.moment.specs.declared.Figure.the-variants.{Missing}
 use Rattle.window.specs.Window.{Moment}
-use Rattle.promises.specs.SourceWindow.{Rust, Bitmap}
-use Rattle.promises.specs.SourceRows.{rollingNoNulls, Array, rowOf, rollingNulls, bitmapOf}
+use Rattle.promises.specs.Rust.{Rust, Bitmap, bitmapOf}
+use Rattle.promises.specs.SourceRows.{rollingNoNulls, Array, rowOf, rollingNulls}
 
 -- ---- of the Rust's library
 -- `a.saturating_sub(b)`

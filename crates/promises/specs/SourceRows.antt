@@ -6,7 +6,7 @@ use mathlib.Core.Bool.{Bool, true, false, cond}
 use mathlib.Core.List.{List, [], _∷_}
 use mathlib.Core.Option.{Option, none, some, Option·getD}
 use lib.Dec.{ltb}
-use lib.ListN.{length, getD, replicate}
+use lib.ListN.{getD, replicate}
 use lib.Ieee.{Float, nan}
 use Rattle.float.specs.Operators.{zero64}
 use Rattle.trace.specs.Trace.{Trace}
@@ -14,7 +14,8 @@ use Rattle.moment.specs.declared.Figure.{Figure}
 use Rattle.moment.specs.declared.Figure.the-variants.{Missing, Present}
 use Rattle.plan.specs.Plan.{Plan, rows, rowStart, rowEnd}
 use Rattle.window.specs.Window.{Moment}
-use Rattle.promises.specs.SourceWindow.{Rust, Bitmap, MomentWindow, updateNoNulls, newNoNulls, updateNulls, newNulls, getMoment, isValid}
+use Rattle.promises.specs.Rust.{Rust, Bitmap, bitmapOf}
+use Rattle.promises.specs.SourceWindow.{MomentWindow, updateNoNulls, newNoNulls, updateNulls, newNulls, getMoment, isValid}
 
 -- ---- 002
 module _ (M : Moment Float) (rust : Rust) (finalize : M .State → Figure) (values : List Float) (minPeriods : ℕ)
@@ -97,10 +98,6 @@ module _ (M : Moment Float) (rust : Rust) (finalize : M .State → Figure) (valu
 -- a plan's rows as `det_offsets_fn`
 abbrev pub offsets : Plan → ℕ → ℕ × ℕ
 offsets p k = (rowStart p k, rowEnd p k)
-
--- a trace's map as the Rust's `Bitmap`: "one bit a place"
-abbrev pub bitmapOf : Trace → Bitmap
-bitmapOf t = record { bytes = t .map; bits = length (t .readings) }
 
 -- row k of the Rust's `rolling_apply_agg_window`, driven with the plan's rows: 003 with a map, 002 without one
 abbrev pub planRow : (M : Moment Float) → Rust → (M .State → Figure) → Trace → ℕ → Plan → ℕ → Figure

@@ -10,7 +10,7 @@ use lib.IntN.{ℤ, pos, negsuc}
 use lib.Ieee.{Float, eq}
 use Rattle.float.specs.Operators.{_⊕_, _⊖_, _⊗_, _⊘_, zero64}
 use Rattle.float.specs.Tables.{table}
-use Rattle.promises.specs.SourceWindow.{Rust}
+use Rattle.promises.specs.Rust.{Rust}
 use Rattle.promises.specs.SourceRows.{createValidity, Array}
 use Rattle.promises.specs.SourceFixed.{offsetFn}
 

@@ -30,7 +30,7 @@ use Rattle.plan.specs.Plan.{Plan, planOf, rows}
 use Rattle.plan.specs.Refusals.{needed, planRefusal}
 use Rattle.rolling.specs.Moments.{variance, Variance, workWidth}
 use Rattle.rolling.specs.Calls.{Query, query, yields}
-use Rattle.promises.specs.SourceWindow.{someRust}
+use Rattle.promises.specs.Rust.{someRust}
 use Rattle.promises.specs.SourceRows.{planRow}
 
 -- two floats of the same bits, where every NaN is one value
