@@ -1,0 +1,2 @@
+-- The demands of a call by its contract.
+pub mod Demanded
