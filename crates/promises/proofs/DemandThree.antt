@@ -32,7 +32,7 @@ use Rattle.rolling.specs.Moments.{Statistic, Variance, Skewness, Kurtosis, vari
 use Rattle.rolling.specs.Calls.{Query, query, GivenTo}
 use Rattle.rolling.proofs.Calls.{few-places}
 use Rattle.promises.specs.Calls.{AcceptedCall}
-use Rattle.promises.specs.DemandThree.{Agree, SomeNotFinite, VarianceRow, WhereVariance, DemandThree}
+use Rattle.promises.specs.DemandThree.{Agree, SomeNotFinite, VarianceRow, IsSetting, WhereVariance, DemandThree}
 use Rattle.promises.proofs.Accounts.{lies, row-account}
 use Rattle.promises.proofs.RowsSame.{counted-is, figures-same}
 use Rattle.promises.proofs.Accepted.{known}
@@ -202,10 +202,9 @@ same-moves-same-row q t t′ l l′ c c′ places k h m g =
       counts = a .counts k h ∙ sym (a′ .counts k h);
     }
 
-where-variance : (a : Statistic) (t : Given (kindOf a)) (p : Plan) (minPeriods : ℕ) (l : Lent) → AcceptedCall (query p minPeriods a) t l → (k : ℕ) → k < rows p
-    → WhereVariance a t p minPeriods k l
-where-variance (Variance ddof) t p minPeriods l c k h =
-    λ byte.
+where-variance : (a : Statistic) → IsSetting a → (t : Given (kindOf a)) (p : Plan) (minPeriods : ℕ) (l : Lent) → AcceptedCall (query p minPeriods a) t l
+    → (k : ℕ) → k < rows p → WhereVariance a t p minPeriods k l
+where-variance (Variance ddof) byte t p minPeriods l c k h =
     let a = known (query p minPeriods (Variance ddof)) t l c in
     record {
       answer = _;
@@ -213,16 +212,16 @@ where-variance (Variance ddof) t p minPeriods l c k h =
       stands = a .answers k h;
       row = var-row p minPeriods t (a .widest) (a .plan) (few-places Readings t (a .given-is)) ddof byte k h;
     }
-where-variance (Skewness bias) t p minPeriods l c k h = tt
-where-variance (Kurtosis fisher bias) t p minPeriods l c k h = tt
+where-variance (Skewness bias) set t p minPeriods l c k h = tt
+where-variance (Kurtosis fisher bias) set t p minPeriods l c k h = tt
 
 pub demand-three : DemandThree
 demand-three =
     record {
       two = λ q t t′ l l′ alike c c′ k h g. same-moves-same-row q t t′ l l′ c c′ (alike .places) k h (both-or-neither q t t′ k (alike .mapped)) g .answers;
-      one = λ q t l c k h.
+      one = λ q t l set c k h.
           record {
             account = known q t l c .answers k h;
-            variance = where-variance (q .statistic) t (q .plan) (q .minPeriods) l c k h;
+            variance = where-variance (q .statistic) set t (q .plan) (q .minPeriods) l c k h;
           };
     }

@@ -64,9 +64,15 @@ pub record VarianceIn (t : Trace) (p : Plan) (minPeriods ddof k : ℕ) (l : Lent
   pub stands : answersIn (l .outputs .answers) k ≡ answer ∷ others
   pub row : VarianceRow t (rowStart p k) (rowEnd p k) minPeriods ddof answer
 
--- what is said of a variance, by what is asked; "ddof is a byte"
+-- "A setting is .. what the figure's `finalize` takes beside the state (ddof; ..). ddof is a byte."
+abbrev pub IsSetting : Statistic → Type 0
+IsSetting (Variance ddof) = ddof < 256
+IsSetting (Skewness bias) = Unit {0}
+IsSetting (Kurtosis fisher bias) = Unit {0}
+
+-- what is said of a variance, by what is asked
 abbrev pub WhereVariance : (a : Statistic) → Given (kindOf a) → Plan → ℕ → ℕ → Lent → Type 0
-WhereVariance (Variance ddof) t p minPeriods k l = ddof < 256 → VarianceIn t p minPeriods ddof k l
+WhereVariance (Variance ddof) t p minPeriods k l = VarianceIn t p minPeriods ddof k l
 WhereVariance (Skewness bias) t p minPeriods k l = Unit {0}
 WhereVariance (Kurtosis fisher bias) t p minPeriods k l = Unit {0}
 
@@ -84,4 +90,5 @@ pub record DemandThree : Type 0 where
   pub two : (q : Query) (t t′ : GivenTo q) (l l′ : Lent) → Alike (kindOf (q .statistic)) t t′ → AcceptedCall q t l → AcceptedCall q t′ l′
       → SameAnswers q t t′ l l′
   -- of every call by itself
-  pub one : (q : Query) (t : GivenTo q) (l : Lent) → AcceptedCall q t l → (k : ℕ) → k < rows (q .plan) → Yielded q t l k
+  pub one : (q : Query) (t : GivenTo q) (l : Lent) → IsSetting (q .statistic) → AcceptedCall q t l
+      → (k : ℕ) → k < rows (q .plan) → Yielded q t l k
