@@ -1,31 +1,201 @@
 -- A call meets the demands because its contract is what their theorems speak of. Assumes nothing.
-use Prim.Native.Nat.{ℕ}
-use mathlib.Core.Path.{_≡_, refl, subst}
-use Rattle.window.specs.Outputs.{Lent}
-use Rattle.rolling.specs.Moments.{kindOf}
-use Rattle.rolling.specs.Calls.{Query}
+use Prim.Native.Nat.{ℕ, _^_, _<_}
+use mathlib.Core.Path.{_≡_, sym, _∙_, subst}
+use mathlib.Core.Bool.{Bool, true}
+use mathlib.Core.List.{List}
+use lib.Ieee.{Float, nan}
+use Rattle.trace.specs.Trace.{Trace}
+use Rattle.root.specs.Root.{root}
+use Rattle.moment.specs.declared.Figure.{Figure}
+use Rattle.moment.specs.Var.{varInsert, varCombine, varFinalize}
+use Rattle.promises.specs.SourceStates.{VarState·insertOne, VarState·combine, VarState·finalize}
+use Rattle.moment.specs.declared.var_state.VarState.{VarState}
+use Rattle.moment.specs.Cov.{covInsert, covCombine, covFinalize}
+use Rattle.promises.specs.SourceStates.{CovState·insertOne, CovState·combine, CovState·finalize}
+use Rattle.moment.specs.declared.cov_state.CovState.{CovState}
+use Rattle.moment.specs.Pearson.{pearsonInsert, pearsonCombine, pearsonFinalize}
+use Rattle.promises.specs.SourceStates.{PearsonState·insertOne, PearsonState·combine, PearsonState·finalize}
+use Rattle.moment.specs.declared.pearson_state.PearsonState.{PearsonState}
+use Rattle.moment.specs.Skew.{skewInsert, skewCombine, skewFinalize}
+use Rattle.promises.specs.SourceStates.{SkewState·insertOne, SkewState·combine, SkewState·finalize}
+use Rattle.moment.specs.declared.skew_state.SkewState.{SkewState}
+use Rattle.moment.specs.Kurtosis.{kurtosisInsert, kurtosisCombine, kurtosisFinalize}
+use Rattle.promises.specs.SourceStates.{KurtosisState·insertOne, KurtosisState·combine, KurtosisState·finalize}
+use Rattle.moment.specs.declared.kurtosis_state.KurtosisState.{KurtosisState}
+use Rattle.promises.specs.DemandTwo.{CorrectRoot}
+use Rattle.plan.specs.Bounds.{bounds}
+use Rattle.window.specs.Given.{Given}
+use Rattle.window.specs.Outputs.{Column, Lent}
+use Rattle.rolling.specs.Moments.{Statistic, kindOf}
+use Rattle.rolling.specs.Calls.{Query, query}
+use Rattle.rolling.specs.Fixed.{fixedQuery, CalledFixed}
+use Rattle.weighted.specs.Weights.{CalledWeights}
 use Rattle.moments.specs.HostCall.{Host, decodedOf, ReadingLists, CalledBytes}
-use Rattle.promises.specs.Calls.{AcceptedCall, hostCall}
+use Rattle.moments.specs.Results.{FigureResult}
+use Rattle.promises.specs.DemandThree.{IsSetting}
+use Rattle.promises.specs.Calls.{CallsVar, CallsSkew, CallsKurtosis, CallsCov, CallsPearson, CallsSkewRange, CallsKurtosisRange}
+use Rattle.promises.specs.Calls.{AcceptedCall, hostCall, fixedCall}
 use Rattle.promises.proofs.DemandOne.{demand-one}
 use Rattle.promises.proofs.DemandTwo.{demand-two}
 use Rattle.promises.proofs.DemandThree.{demand-three}
-use Rattle.demands.specs.Meets.{MeetsHost, SameHosts}
+use Rattle.demands.specs.Meets.{MeetsHost, MeetTwoHosts, MeetsFixed, MeetTwoFixed, MeetsWeights, MeetsState, MeetsFigure, MeetsRoot}
+use Rattle.demands.specs.Meets.{MeetsArray, ofVar, ofSkew, ofKurtosis, ofCov, ofPearson, ofSkewRange, ofKurtosisRange}
 
 -- ---- host calls
 host-accepted : {q : Query} {h : Host (kindOf (q .statistic))} {r₀ r : ReadingLists (kindOf (q .statistic))} {l₀ l : Lent} {number : ℕ}
     → CalledBytes q h r₀ r l₀ l number → number ≡ 0 → AcceptedCall q (decodedOf (kindOf (q .statistic)) h) l
 host-accepted {q} {h} {r₀} {r} {l₀} {l} c e = hostCall {r₀ = r₀} {r = r} {l₀ = l₀} (subst (λ (n : ℕ). CalledBytes q h r₀ r l₀ l n) e c)
 
-pub host-met : {q : Query} {h : Host (kindOf (q .statistic))} {r₀ r : ReadingLists (kindOf (q .statistic))} {l₀ l : Lent} {number : ℕ}
-    → CalledBytes q h r₀ r l₀ l number → MeetsHost q h (r₀, r) (l₀, l) number
-host-met {q} {h} {r₀} {r} {l₀} {l} {number} c =
+pub host-meets : {q : Query} {h : Host (kindOf (q .statistic))} {r₀ r : ReadingLists (kindOf (q .statistic))} {l₀ l : Lent} {number : ℕ}
+    → CalledBytes q h r₀ r l₀ l number → IsSetting (q .statistic) → MeetsHost q h (r₀, r) (l₀, l) number
+host-meets {q} {h} {r₀} {r} {l₀} {l} {number} c set =
     record {
       one = demand-one .hosts q h r₀ r l₀ l number c;
       two = λ e rust. demand-two .plans rust q (decodedOf (kindOf (q .statistic)) h) l (host-accepted c e);
-      three = λ e. demand-three .one q (decodedOf (kindOf (q .statistic)) h) l (host-accepted c e);
+      three = λ e. demand-three .one q (decodedOf (kindOf (q .statistic)) h) l set (host-accepted c e);
     }
 
-pub hosts-met : {q : Query} {h h′ : Host (kindOf (q .statistic))} {r₀ r r₀′ r′ : ReadingLists (kindOf (q .statistic))} {l₀ l l₀′ l′ : Lent} {number number′ : ℕ}
-    → CalledBytes q h r₀ r l₀ l number → CalledBytes q h′ r₀′ r′ l₀′ l′ number′ → SameHosts q h h′ (l₀, l) (l₀′, l′) number number′
-hosts-met {q} {h} {h′} {r₀} {r} {r₀′} {r′} {l₀} {l} {l₀′} {l′} c c′ e e′ alike =
+pub two-hosts-meet : {q : Query} {h h′ : Host (kindOf (q .statistic))} {r₀ r r₀′ r′ : ReadingLists (kindOf (q .statistic))} {l₀ l l₀′ l′ : Lent}
+    {number number′ : ℕ} → CalledBytes q h r₀ r l₀ l number → CalledBytes q h′ r₀′ r′ l₀′ l′ number′ → MeetTwoHosts q h h′ (l₀, l) (l₀′, l′) number number′
+two-hosts-meet {q} {h} {h′} {l = l} {l′ = l′} c c′ alike e e′ =
     demand-three .two q (decodedOf (kindOf (q .statistic)) h) (decodedOf (kindOf (q .statistic)) h′) l l′ alike (host-accepted c e) (host-accepted c′ e′)
+
+-- ---- fixed windows
+module _ {center : Bool} {size minPeriods : ℕ} {a : Statistic} where
+  fixed-zero : {t : Given (kindOf a)} {l₀ l : Lent} {number : ℕ} → CalledFixed center size minPeriods a t l₀ l number → number ≡ 0
+      → CalledFixed center size minPeriods a t l₀ l 0
+  fixed-zero {t} {l₀} {l} c e = subst (λ (n : ℕ). CalledFixed center size minPeriods a t l₀ l n) e c
+
+  pub fixed-meets : {t : Given (kindOf a)} {l₀ l : Lent} {number : ℕ} → CalledFixed center size minPeriods a t l₀ l number → size < 2 ^ 64 → IsSetting a
+      → MeetsFixed center size minPeriods a t (l₀, l) number
+  fixed-meets {t} {l₀} {l} {number} c small set =
+      record {
+        one = demand-one .fixed center size minPeriods a t l₀ l number c;
+        two = λ e rust. demand-two .fixed rust center size minPeriods a t l₀ l small (fixed-zero c e);
+        three = λ e. demand-three .one (fixedQuery center size minPeriods a t) t l set (fixedCall (fixed-zero c e));
+      }
+
+  -- equal lengths have the same bounds
+  pub two-fixed-meet : {t t′ : Given (kindOf a)} {l₀ l l₀′ l′ : Lent} {number number′ : ℕ} → CalledFixed center size minPeriods a t l₀ l number
+      → CalledFixed center size minPeriods a t′ l₀′ l′ number′ → MeetTwoFixed center size minPeriods a t t′ (l₀, l) (l₀′, l′) number number′
+  two-fixed-meet {t} {t′} {l = l} {l′ = l′} c c′ alike e e′ =
+      demand-three .two (fixedQuery center size minPeriods a t) t t′ l l′ alike (fixedCall (fixed-zero c e))
+      (subst (λ (n : ℕ). AcceptedCall (query (bounds center size n) minPeriods a) t′ l′) (sym (alike .long)) (fixedCall (fixed-zero c′ e′)))
+
+-- ---- weights
+pub weights-meet : {center : Bool} {size minPeriods : ℕ} {weights : List Float} {t : Trace} {c₀ c : Column} {number : ℕ}
+    → CalledWeights center size minPeriods weights t c₀ c number → size < 2 ^ 64 → MeetsWeights center size minPeriods weights t (c₀, c) number
+weights-meet {center} {size} {minPeriods} {weights} {t} {c₀} {c} {number} call small =
+    record {
+      one = demand-one .weights center size minPeriods weights t c₀ c number call;
+      two = λ e rust. demand-two .weights rust center size minPeriods weights t c₀ c small (subst (λ (n : ℕ). CalledWeights center size minPeriods weights t c₀ c n) e call);
+    }
+
+-- ---- whole arrays, pairs and ranges
+pub var-meets : {t : Trace} {before after : List Float} {r : ℕ} → CallsVar t before after r → MeetsArray (ofVar t) before after r
+var-meets {t} {before} {after} {r} c =
+    record {
+      one = demand-one .var t before after r c;
+      two = λ e rust. demand-two .arrays .var rust t before after (subst (CallsVar t before after) e c);
+    }
+
+pub skew-meets : {t : Trace} {before after : List Float} {r : ℕ} → CallsSkew t before after r → MeetsArray (ofSkew t) before after r
+skew-meets {t} {before} {after} {r} c =
+    record {
+      one = demand-one .skew t before after r c;
+      two = λ e rust. demand-two .arrays .skew rust t before after (subst (CallsSkew t before after) e c);
+    }
+
+pub kurtosis-meets : {t : Trace} {before after : List Float} {r : ℕ} → CallsKurtosis t before after r → MeetsArray (ofKurtosis t) before after r
+kurtosis-meets {t} {before} {after} {r} c =
+    record {
+      one = demand-one .kurtosis t before after r c;
+      two = λ e rust. demand-two .arrays .kurtosis rust t before after (subst (CallsKurtosis t before after) e c);
+    }
+
+pub cov-meets : {x y : Trace} {before after : List Float} {r : ℕ} → CallsCov x y before after r → MeetsArray (ofCov x y) before after r
+cov-meets {x} {y} {before} {after} {r} c =
+    record {
+      one = demand-one .cov x y before after r c;
+      two = λ e rust. demand-two .arrays .cov rust x y before after (subst (CallsCov x y before after) e c);
+    }
+
+pub pearson-meets : {x y : Trace} {before after : List Float} {r : ℕ} → CallsPearson x y before after r → MeetsArray (ofPearson x y) before after r
+pearson-meets {x} {y} {before} {after} {r} c =
+    record {
+      one = demand-one .pearson x y before after r c;
+      two = λ e rust. demand-two .arrays .pearson rust x y before after (subst (CallsPearson x y before after) e c);
+    }
+
+pub skew-range-meets : {t : Trace} {start len : ℕ} {before after : List Float} {r : ℕ} → CallsSkewRange t start len before after r → MeetsArray (ofSkewRange t start len) before after r
+skew-range-meets {t} {start} {len} {before} {after} {r} c =
+    record {
+      one = demand-one .skew-range t start len before after r c;
+      two = λ e rust. demand-two .ranges .skew rust t start len before after (subst (CallsSkewRange t start len before after) e c);
+    }
+
+pub kurtosis-range-meets : {t : Trace} {start len : ℕ} {before after : List Float} {r : ℕ} → CallsKurtosisRange t start len before after r → MeetsArray (ofKurtosisRange t start len) before after r
+kurtosis-range-meets {t} {start} {len} {before} {after} {r} c =
+    record {
+      one = demand-one .kurtosis-range t start len before after r c;
+      two = λ e rust. demand-two .ranges .kurtosis rust t start len before after (subst (CallsKurtosisRange t start len before after) e c);
+    }
+
+-- ---- states: r is what our definition gives, which is what the source gives
+pub state-meets : {A : Type 0} {definition source r : A} → r ≡ definition → definition ≡ source → MeetsState definition source r
+state-meets {A} {definition} {source} {r} e f = record { one = demand-one .states definition r e; two = e ∙ f }
+
+pub figure-meets : {definition source : Figure} {byte : ℕ} {before after : Float} → FigureResult definition byte after → definition ≡ source
+    → MeetsFigure definition source byte before after
+figure-meets {definition} {source} {byte} {before} {after} c f =
+    record { one = demand-one .figures definition byte before after c; two = subst (λ (figure : Figure). FigureResult figure byte after) f c }
+
+-- the source's of each state, by demand 2; what an equation does not speak of is anything
+pub var-insert : (s : VarState) (x : Float) → varInsert s x ≡ VarState·insertOne s x
+var-insert s x = demand-two .states .var s s x 0 .0
+
+pub var-combine : (s o : VarState) → varCombine s o ≡ VarState·combine s o
+var-combine s o = demand-two .states .var s o nan 0 .1
+
+pub var-finalize : (s : VarState) (ddof : ℕ) → varFinalize s ddof ≡ VarState·finalize s ddof
+var-finalize s ddof = demand-two .states .var s s nan ddof .2
+
+pub cov-insert : (s : CovState) (x y : Float) → covInsert s x y ≡ CovState·insertOne s x y
+cov-insert s x y = demand-two .states .cov s s x y 0 .0
+
+pub cov-combine : (s o : CovState) → covCombine s o ≡ CovState·combine s o
+cov-combine s o = demand-two .states .cov s o nan nan 0 .1
+
+pub cov-finalize : (s : CovState) (ddof : ℕ) → covFinalize s ddof ≡ CovState·finalize s ddof
+cov-finalize s ddof = demand-two .states .cov s s nan nan ddof .2
+
+pub pearson-insert : (s : PearsonState) (x y : Float) → pearsonInsert s x y ≡ PearsonState·insertOne s x y
+pearson-insert s x y = demand-two .states .pearson s s x y .0
+
+pub pearson-combine : (s o : PearsonState) → pearsonCombine s o ≡ PearsonState·combine s o
+pearson-combine s o = demand-two .states .pearson s o nan nan .1
+
+pub pearson-finalize : (s : PearsonState) → pearsonFinalize s ≡ PearsonState·finalize s
+pearson-finalize s = demand-two .states .pearson s s nan nan .2
+
+pub skew-insert : (s : SkewState) (x : Float) → skewInsert s x ≡ SkewState·insertOne s x
+skew-insert s x = demand-two .states .skew s s x true .0
+
+pub skew-combine : (s o : SkewState) → skewCombine s o ≡ SkewState·combine s o
+skew-combine s o = demand-two .states .skew s o nan true .1
+
+pub skew-finalize : (s : SkewState) (bias : Bool) → skewFinalize s bias ≡ SkewState·finalize s bias
+skew-finalize s bias = demand-two .states .skew s s nan bias .2
+
+pub kurtosis-insert : (s : KurtosisState) (x : Float) → kurtosisInsert s x ≡ KurtosisState·insertOne s x
+kurtosis-insert s x = demand-two .states .kurtosis s s x true true .0
+
+pub kurtosis-combine : (s o : KurtosisState) → kurtosisCombine s o ≡ KurtosisState·combine s o
+kurtosis-combine s o = demand-two .states .kurtosis s o nan true true .1
+
+pub kurtosis-finalize : (s : KurtosisState) (fisher : Bool) (bias : Bool) → kurtosisFinalize s fisher bias ≡ KurtosisState·finalize s fisher bias
+kurtosis-finalize s fisher bias = demand-two .states .kurtosis s s nan fisher bias .2
+
+-- ---- root
+pub root-meets : {x r : Float} → r ≡ root x → MeetsRoot x r
+root-meets {x} {r} e = record { one = demand-one .states (root x) r e; two = λ h. subst (CorrectRoot x) (sym e) (demand-two .root-is x h) }

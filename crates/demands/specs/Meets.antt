@@ -1,41 +1,127 @@
--- The three demands of calls, each as the contract of a function of this crate that makes the calls: demands 1, 2 and 3 of a window's call,
--- 3 also of two such calls, 1 and 2 of the others. What the demands say is in `promises` DemandOne, DemandTwo and DemandThree. Assumes
--- nothing.
+-- What the three demands say of calls, each as the contract of a function of this crate that makes them: demands 1, 2 and 3 of a call without
+-- weights, 3 also of two such calls, 1 and 2 of the others. What the demands mean is in `promises` DemandOne, DemandTwo and DemandThree.
+-- Lists and states that are lent come as (before, after). Assumes nothing.
 use Prim.Native.Nat.{ℕ, _<_}
 use mathlib.Core.Path.{_≡_}
 use mathlib.Core.Bool.{Bool}
-use mathlib.Core.List.{List}
+use mathlib.Core.List.{List, []}
+use lib.Dec.{T}
 use lib.ListN.{length}
-use lib.Ieee.{Float}
+use lib.Ieee.{Float, binary64, fits}
+use Rattle.root.specs.Root.{root}
 use Rattle.trace.specs.Trace.{Trace}
+use Rattle.moment.specs.declared.Figure.{Figure}
+use Rattle.moment.specs.Skew.{skewNew}
+use Rattle.moment.specs.Kurtosis.{kurtosisNew}
+use Rattle.moment.specs.Arrays.{varWhole, covWhole, pearsonWhole, skewWhole, kurtosisWhole}
 use Rattle.plan.specs.Plan.{rows}
-use Rattle.window.specs.Given.{Given, placesOf}
+use Rattle.window.specs.Given.{Given}
 use Rattle.window.specs.Outputs.{Column, Lent, columnAfter}
 use Rattle.rolling.specs.Moments.{Statistic, kindOf}
 use Rattle.rolling.specs.Calls.{Query, GivenTo, Left}
 use Rattle.rolling.specs.Fixed.{fixedQuery}
 use Rattle.weighted.specs.Weights.{weightedAt}
 use Rattle.moments.specs.HostCall.{Host, decodedOf, ReadingLists}
+use Rattle.moments.specs.Results.{FigureResult}
 use Rattle.promises.specs.Rust.{Rust}
-use Rattle.promises.specs.DemandOne.{Check, hostChecks, fixedChecks, weightsChecks, Answered, HostLeft}
-use Rattle.promises.specs.DemandTwo.{RowsEqual, FixedRowsEqual, WeightedRowsEqual}
+use Rattle.promises.specs.Calls.{readingsOf, readingsIn, pairsOf, varList, skewList, kurtosisList, covList, pearsonList}
+use Rattle.promises.specs.DemandOne.{Check, traceChecks, pairChecks, rangeChecks, hostChecks, fixedChecks, weightsChecks, Answered, HostLeft}
+use Rattle.promises.specs.DemandTwo.{sourceVar, sourceSkew, sourceKurtosis, sourceCov, sourcePearson, sourceSkewRange, sourceKurtosisRange}
+use Rattle.promises.specs.DemandTwo.{RowsEqual, FixedRowsEqual, WeightedRowsEqual, CorrectRoot}
 use Rattle.promises.specs.DemandThree.{Alike, SameAnswers, Yielded}
 
--- what an accepted call without weights leaves, by demand 3
-abbrev pub AllYielded : (q : Query) → GivenTo q → Lent → Type 0
-AllYielded q t l = (k : ℕ) → k < rows (q .plan) → Yielded q t l k
-
 -- ---- host calls
--- one: lists as (before, after)
-pub record MeetsHost (q : Query) (h : Host (kindOf (q .statistic))) (r : ReadingLists (kindOf (q .statistic)) × ReadingLists (kindOf (q .statistic)))
-    (l : Lent × Lent) (number : ℕ) : Type 0 where
+-- one
+pub record MeetsHost (q : Query) (h : Host (kindOf (q .statistic)))
+    (r : ReadingLists (kindOf (q .statistic)) × ReadingLists (kindOf (q .statistic))) (l : Lent × Lent) (number : ℕ) : Type 0 where
   pub one : Answered (hostChecks q h (r .0) (l .0)) number {A = ReadingLists (kindOf (q .statistic)) × Lent} (r .0, l .0) (r .1, l .1)
       (HostLeft q h (r .0) (r .1) (l .0) (l .1))
   pub two : number ≡ 0 → (rust : Rust) → RowsEqual rust q (decodedOf (kindOf (q .statistic)) h) (l .1)
-  pub three : number ≡ 0 → AllYielded q (decodedOf (kindOf (q .statistic)) h) (l .1)
+  pub three : number ≡ 0 → (k : ℕ) → k < rows (q .plan) → Yielded q (decodedOf (kindOf (q .statistic)) h) (l .1) k
 
 -- two, with the same plan, the same setting and the same figure
-abbrev pub SameHosts : (q : Query) → Host (kindOf (q .statistic)) → Host (kindOf (q .statistic)) → Lent × Lent → Lent × Lent → ℕ → ℕ → Type 0
-SameHosts q h h′ l l′ number number′ =
+abbrev pub MeetTwoHosts : (q : Query) → Host (kindOf (q .statistic)) → Host (kindOf (q .statistic)) → Lent × Lent → Lent × Lent → ℕ → ℕ → Type 0
+MeetTwoHosts q h h′ l l′ number number′ =
     let kind = kindOf (q .statistic) in
-    number ≡ 0 → number′ ≡ 0 → Alike kind (decodedOf kind h) (decodedOf kind h′) → SameAnswers q (decodedOf kind h) (decodedOf kind h′) (l .1) (l′ .1)
+    Alike kind (decodedOf kind h) (decodedOf kind h′) → number ≡ 0 → number′ ≡ 0
+    → SameAnswers q (decodedOf kind h) (decodedOf kind h′) (l .1) (l′ .1)
+
+-- ---- fixed windows
+-- one
+pub record MeetsFixed (center : Bool) (windowSize minPeriods : ℕ) (a : Statistic) (t : Given (kindOf a)) (l : Lent × Lent) (number : ℕ) : Type 0 where
+  pub one : Answered (fixedChecks windowSize a t (l .0)) number (l .0) (l .1)
+      (Left (fixedQuery center windowSize minPeriods a t) t (l .0) (l .1) 0)
+  pub two : number ≡ 0 → (rust : Rust) → FixedRowsEqual rust center windowSize minPeriods a t (l .1)
+  pub three : number ≡ 0 → (k : ℕ) → k < rows (fixedQuery center windowSize minPeriods a t .plan)
+      → Yielded (fixedQuery center windowSize minPeriods a t) t (l .1) k
+
+-- two, over traces of equal length, whose plan is then the same
+abbrev pub MeetTwoFixed : Bool → ℕ → ℕ → (a : Statistic) → Given (kindOf a) → Given (kindOf a) → Lent × Lent → Lent × Lent → ℕ → ℕ → Type 0
+MeetTwoFixed center windowSize minPeriods a t t′ l l′ number number′ =
+    Alike (kindOf a) t t′ → number ≡ 0 → number′ ≡ 0 → SameAnswers (fixedQuery center windowSize minPeriods a t) t t′ (l .1) (l′ .1)
+
+-- ---- weights
+pub record MeetsWeights (center : Bool) (windowSize minPeriods : ℕ) (weights : List Float) (t : Trace) (c : Column × Column) (number : ℕ) : Type 0 where
+  pub one : Answered (weightsChecks windowSize weights t (c .0)) number (c .0) (c .1)
+      (c .1 ≡ columnAfter 0 (weightedAt center windowSize minPeriods weights (t .readings)) (length (t .readings)) (c .0))
+  pub two : number ≡ 0 → (rust : Rust) → WeightedRowsEqual rust center windowSize minPeriods weights t (c .1)
+
+-- ---- whole arrays, pairs and ranges
+-- the calls that hand out a state, each named as the entry is
+pub data ArrayCall : Type 0 where
+  ofVar : Trace → ArrayCall
+  ofSkew : Trace → ArrayCall
+  ofKurtosis : Trace → ArrayCall
+  ofCov : Trace → Trace → ArrayCall
+  ofPearson : Trace → Trace → ArrayCall
+  ofSkewRange : Trace → ℕ → ℕ → ArrayCall
+  ofKurtosisRange : Trace → ℕ → ℕ → ArrayCall
+
+-- the checks of each
+abbrev pub checksOf : ArrayCall → List Check
+checksOf (ofVar t) = traceChecks t
+checksOf (ofSkew t) = traceChecks t
+checksOf (ofKurtosis t) = traceChecks t
+checksOf (ofCov x y) = pairChecks x y
+checksOf (ofPearson x y) = pairChecks x y
+checksOf (ofSkewRange t start len) = rangeChecks t start len
+checksOf (ofKurtosisRange t start len) = rangeChecks t start len
+
+-- the members of its state, by document 01
+abbrev pub membersOf : ArrayCall → List Float
+membersOf (ofVar t) = varList (varWhole (readingsOf t))
+membersOf (ofSkew t) = skewList (skewWhole (readingsOf t))
+membersOf (ofKurtosis t) = kurtosisList (kurtosisWhole (readingsOf t))
+membersOf (ofCov x y) = covList (covWhole (pairsOf x y))
+membersOf (ofPearson x y) = pearsonList (pearsonWhole (pairsOf x y))
+membersOf (ofSkewRange t start len) = skewList (skewNew (readingsIn t start len))
+membersOf (ofKurtosisRange t start len) = kurtosisList (kurtosisNew (readingsIn t start len))
+
+-- and by the Rust
+abbrev pub sourceOf : Rust → ArrayCall → List Float
+sourceOf rust (ofVar t) = sourceVar rust t
+sourceOf rust (ofSkew t) = sourceSkew rust t
+sourceOf rust (ofKurtosis t) = sourceKurtosis rust t
+sourceOf rust (ofCov x y) = sourceCov rust x y
+sourceOf rust (ofPearson x y) = sourcePearson rust x y
+sourceOf rust (ofSkewRange t start len) = sourceSkewRange rust t start len
+sourceOf rust (ofKurtosisRange t start len) = sourceKurtosisRange rust t start len
+
+pub record MeetsArray (a : ArrayCall) (before after : List Float) (number : ℕ) : Type 0 where
+  pub one : Answered (checksOf a) number before after (after ≡ membersOf a)
+  pub two : number ≡ 0 → (rust : Rust) → after ≡ sourceOf rust a
+
+-- ---- states: what is answered, by document 01 and by the Rust
+pub record MeetsState {A : Type 0} (definition source r : A) : Type 0 where
+  pub one : Answered [] 0 {A = Unit {0}} tt tt (r ≡ definition)
+  pub two : r ≡ source
+
+-- a figure, with the double that is lent for it
+pub record MeetsFigure (definition source : Figure) (byte : ℕ) (before after : Float) : Type 0 where
+  pub one : Answered [] 0 before after (FigureResult definition byte after)
+  pub two : FigureResult source byte after
+
+-- ---- root, of a double
+pub record MeetsRoot (x r : Float) : Type 0 where
+  pub one : Answered [] 0 {A = Unit {0}} tt tt (r ≡ root x)
+  pub two : T (fits binary64 x) → CorrectRoot x r

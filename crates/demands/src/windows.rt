@@ -1,0 +1,272 @@
+// Calls with fixed windows: one, of which all three demands speak, two of the same windows, setting and figure, of which the third does; and
+// with weights, of which the first two speak.
+ghost use Rattle.trace.specs.Slices.{entering};
+ghost use Rattle.trace.specs.Trace.{tracing};
+ghost use Rattle.rolling.specs.Moments.{Variance, Skewness, Kurtosis};
+ghost use Rattle.rolling.specs.Calls.{lending};
+ghost use Rattle.weighted.specs.Weights.{lendingColumn};
+ghost use Rattle.demands.specs.Meets.{MeetsFixed, MeetTwoFixed, MeetsWeights};
+use crate::Numbers;
+
+pub fn rolling_var(
+    trace: &[f64],
+    has_map: bool,
+    map: &[u8],
+    window_size: usize,
+    min_periods: usize,
+    center: bool,
+    ddof: u8,
+    work: &mut [f64],
+    figures: &mut [f64],
+    present: &mut [u8],
+) -> u32
+    ensures { λ r. ⌜ MeetsFixed center «window_size» «min_periods» (Variance ddof) (tracing trace «has_map» map)
+        (lending work figures present) r ⌝ }
+{
+    moments::moments_rolling_var(
+        trace,
+        has_map,
+        map,
+        window_size,
+        min_periods,
+        center,
+        ddof,
+        work,
+        figures,
+        present,
+    )
+}
+
+pub fn two_rolling_var(
+    x: &[f64],
+    x_has_map: bool,
+    x_map: &[u8],
+    y: &[f64],
+    y_has_map: bool,
+    y_map: &[u8],
+    window_size: usize,
+    min_periods: usize,
+    center: bool,
+    ddof: u8,
+    x_work: &mut [f64],
+    x_figures: &mut [f64],
+    x_present: &mut [u8],
+    y_work: &mut [f64],
+    y_figures: &mut [f64],
+    y_present: &mut [u8],
+) -> Numbers
+    ensures { λ r. ⌜ MeetTwoFixed center «window_size» «min_periods» (Variance ddof) (tracing x «x_has_map» «x_map») (tracing y «y_has_map» «y_map»)
+        (lending «x_work» «x_figures» «x_present») (lending «y_work» «y_figures» «y_present») (r .first) (r .second) ⌝ }
+{
+    let first = moments::moments_rolling_var(
+        x,
+        x_has_map,
+        x_map,
+        window_size,
+        min_periods,
+        center,
+        ddof,
+        x_work,
+        x_figures,
+        x_present,
+    );
+    let second = moments::moments_rolling_var(
+        y,
+        y_has_map,
+        y_map,
+        window_size,
+        min_periods,
+        center,
+        ddof,
+        y_work,
+        y_figures,
+        y_present,
+    );
+    Numbers { first, second }
+}
+
+pub fn rolling_skew(
+    trace: &[f64],
+    has_map: bool,
+    map: &[u8],
+    window_size: usize,
+    min_periods: usize,
+    center: bool,
+    bias: bool,
+    work: &mut [f64],
+    figures: &mut [f64],
+    present: &mut [u8],
+) -> u32
+    ensures { λ r. ⌜ MeetsFixed center «window_size» «min_periods» (Skewness bias) (tracing trace «has_map» map)
+        (lending work figures present) r ⌝ }
+{
+    moments::moments_rolling_skew(
+        trace,
+        has_map,
+        map,
+        window_size,
+        min_periods,
+        center,
+        bias,
+        work,
+        figures,
+        present,
+    )
+}
+
+pub fn two_rolling_skew(
+    x: &[f64],
+    x_has_map: bool,
+    x_map: &[u8],
+    y: &[f64],
+    y_has_map: bool,
+    y_map: &[u8],
+    window_size: usize,
+    min_periods: usize,
+    center: bool,
+    bias: bool,
+    x_work: &mut [f64],
+    x_figures: &mut [f64],
+    x_present: &mut [u8],
+    y_work: &mut [f64],
+    y_figures: &mut [f64],
+    y_present: &mut [u8],
+) -> Numbers
+    ensures { λ r. ⌜ MeetTwoFixed center «window_size» «min_periods» (Skewness bias) (tracing x «x_has_map» «x_map») (tracing y «y_has_map» «y_map»)
+        (lending «x_work» «x_figures» «x_present») (lending «y_work» «y_figures» «y_present») (r .first) (r .second) ⌝ }
+{
+    let first = moments::moments_rolling_skew(
+        x,
+        x_has_map,
+        x_map,
+        window_size,
+        min_periods,
+        center,
+        bias,
+        x_work,
+        x_figures,
+        x_present,
+    );
+    let second = moments::moments_rolling_skew(
+        y,
+        y_has_map,
+        y_map,
+        window_size,
+        min_periods,
+        center,
+        bias,
+        y_work,
+        y_figures,
+        y_present,
+    );
+    Numbers { first, second }
+}
+
+pub fn rolling_kurtosis(
+    trace: &[f64],
+    has_map: bool,
+    map: &[u8],
+    window_size: usize,
+    min_periods: usize,
+    center: bool,
+    fisher: bool,
+    bias: bool,
+    work: &mut [f64],
+    figures: &mut [f64],
+    present: &mut [u8],
+) -> u32
+    ensures { λ r. ⌜ MeetsFixed center «window_size» «min_periods» (Kurtosis fisher bias) (tracing trace «has_map» map)
+        (lending work figures present) r ⌝ }
+{
+    moments::moments_rolling_kurtosis(
+        trace,
+        has_map,
+        map,
+        window_size,
+        min_periods,
+        center,
+        fisher,
+        bias,
+        work,
+        figures,
+        present,
+    )
+}
+
+pub fn two_rolling_kurtosis(
+    x: &[f64],
+    x_has_map: bool,
+    x_map: &[u8],
+    y: &[f64],
+    y_has_map: bool,
+    y_map: &[u8],
+    window_size: usize,
+    min_periods: usize,
+    center: bool,
+    fisher: bool,
+    bias: bool,
+    x_work: &mut [f64],
+    x_figures: &mut [f64],
+    x_present: &mut [u8],
+    y_work: &mut [f64],
+    y_figures: &mut [f64],
+    y_present: &mut [u8],
+) -> Numbers
+    ensures { λ r. ⌜ MeetTwoFixed center «window_size» «min_periods» (Kurtosis fisher bias) (tracing x «x_has_map» «x_map») (tracing y «y_has_map» «y_map»)
+        (lending «x_work» «x_figures» «x_present») (lending «y_work» «y_figures» «y_present») (r .first) (r .second) ⌝ }
+{
+    let first = moments::moments_rolling_kurtosis(
+        x,
+        x_has_map,
+        x_map,
+        window_size,
+        min_periods,
+        center,
+        fisher,
+        bias,
+        x_work,
+        x_figures,
+        x_present,
+    );
+    let second = moments::moments_rolling_kurtosis(
+        y,
+        y_has_map,
+        y_map,
+        window_size,
+        min_periods,
+        center,
+        fisher,
+        bias,
+        y_work,
+        y_figures,
+        y_present,
+    );
+    Numbers { first, second }
+}
+
+pub fn rolling_var_weights(
+    trace: &[f64],
+    has_map: bool,
+    map: &[u8],
+    window_size: usize,
+    min_periods: usize,
+    center: bool,
+    weights: &[f64],
+    figures: &mut [f64],
+    present: &mut [u8],
+) -> u32
+    ensures { λ r. ⌜ MeetsWeights center «window_size» «min_periods» (entering weights) (tracing trace «has_map» map)
+        (lendingColumn figures present) r ⌝ }
+{
+    moments::moments_rolling_var_weights(
+        trace,
+        has_map,
+        map,
+        window_size,
+        min_periods,
+        center,
+        weights,
+        figures,
+        present,
+    )
+}
