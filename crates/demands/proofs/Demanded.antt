@@ -3,7 +3,8 @@ use Prim.Native.Nat.{ℕ, _^_, _<_}
 use mathlib.Core.Path.{_≡_, sym, _∙_, subst}
 use mathlib.Core.Bool.{Bool, true}
 use mathlib.Core.List.{List}
-use lib.Ieee.{Float, nan}
+use lib.Dec.{T}
+use lib.Ieee.{Float, nan, binary64, fits}
 use Rattle.trace.specs.Trace.{Trace}
 use Rattle.root.specs.Root.{root}
 use Rattle.moment.specs.declared.Figure.{Figure}
@@ -196,6 +197,6 @@ kurtosis-combine s o = demand-two .states .kurtosis s o nan true true .1
 pub kurtosis-finalize : (s : KurtosisState) (fisher : Bool) (bias : Bool) → kurtosisFinalize s fisher bias ≡ KurtosisState·finalize s fisher bias
 kurtosis-finalize s fisher bias = demand-two .states .kurtosis s s nan fisher bias .2
 
--- ---- root
-pub root-meets : {x r : Float} → r ≡ root x → MeetsRoot x r
-root-meets {x} {r} e = record { one = demand-one .states (root x) r e; two = λ h. subst (CorrectRoot x) (sym e) (demand-two .root-is x h) }
+-- ---- root, of a double
+pub root-meets : {x r : Float} → r ≡ root x → T (fits binary64 x) → MeetsRoot x r
+root-meets {x} {r} e h = record { one = demand-one .states (root x) r e; two = subst (CorrectRoot x) (sym e) (demand-two .root-is x h) }

@@ -5,9 +5,8 @@ use Prim.Native.Nat.{ℕ, _<_}
 use mathlib.Core.Path.{_≡_}
 use mathlib.Core.Bool.{Bool}
 use mathlib.Core.List.{List, []}
-use lib.Dec.{T}
 use lib.ListN.{length}
-use lib.Ieee.{Float, binary64, fits}
+use lib.Ieee.{Float}
 use Rattle.root.specs.Root.{root}
 use Rattle.trace.specs.Trace.{Trace}
 use Rattle.moment.specs.declared.Figure.{Figure}
@@ -121,7 +120,7 @@ pub record MeetsFigure (definition source : Figure) (byte : ℕ) (before after :
   pub one : Answered [] 0 before after (FigureResult definition byte after)
   pub two : FigureResult source byte after
 
--- ---- root, of a double
+-- ---- root
 pub record MeetsRoot (x r : Float) : Type 0 where
   pub one : Answered [] 0 {A = Unit {0}} tt tt (r ≡ root x)
-  pub two : T (fits binary64 x) → CorrectRoot x r
+  pub two : CorrectRoot x r
