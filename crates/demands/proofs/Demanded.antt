@@ -28,18 +28,18 @@ use Rattle.plan.specs.Bounds.{bounds}
 use Rattle.window.specs.Given.{Given}
 use Rattle.window.specs.Outputs.{Column, Lent}
 use Rattle.rolling.specs.Moments.{Statistic, kindOf}
-use Rattle.rolling.specs.Calls.{Query, query}
+use Rattle.rolling.specs.Calls.{Query, query, GivenTo, Called}
 use Rattle.rolling.specs.Fixed.{fixedQuery, CalledFixed}
 use Rattle.weighted.specs.Weights.{CalledWeights}
 use Rattle.moments.specs.HostCall.{Host, decodedOf, ReadingLists, CalledBytes}
 use Rattle.moments.specs.Results.{FigureResult}
 use Rattle.promises.specs.DemandThree.{IsSetting}
 use Rattle.promises.specs.Calls.{CallsVar, CallsSkew, CallsKurtosis, CallsCov, CallsPearson, CallsSkewRange, CallsKurtosisRange}
-use Rattle.promises.specs.Calls.{AcceptedCall, hostCall, fixedCall}
+use Rattle.promises.specs.Calls.{AcceptedCall, planCall, hostCall, fixedCall}
 use Rattle.promises.proofs.DemandOne.{demand-one}
 use Rattle.promises.proofs.DemandTwo.{demand-two}
 use Rattle.promises.proofs.DemandThree.{demand-three}
-use Rattle.demands.specs.Meets.{MeetsHost, MeetTwoHosts, MeetsFixed, MeetTwoFixed, MeetsWeights, MeetsState, MeetsFigure, MeetsRoot}
+use Rattle.demands.specs.Meets.{MeetsHost, MeetTwoHosts, MeetsPlan, MeetTwoPlans, MeetsFixed, MeetTwoFixed, MeetsWeights, MeetsState, MeetsFigure, MeetsRoot}
 use Rattle.demands.specs.Meets.{MeetsArray, ofVar, ofSkew, ofKurtosis, ofCov, ofPearson, ofSkewRange, ofKurtosisRange}
 
 -- ---- host calls
@@ -60,6 +60,22 @@ pub two-hosts-meet : {q : Query} {h h′ : Host (kindOf (q .statistic))} {r₀ r
     {number number′ : ℕ} → CalledBytes q h r₀ r l₀ l number → CalledBytes q h′ r₀′ r′ l₀′ l′ number′ → MeetTwoHosts q h h′ (l₀, l) (l₀′, l′) number number′
 two-hosts-meet {q} {h} {h′} {l = l} {l′ = l′} c c′ alike e e′ =
     demand-three .two q (decodedOf (kindOf (q .statistic)) h) (decodedOf (kindOf (q .statistic)) h′) l l′ alike (host-accepted c e) (host-accepted c′ e′)
+
+-- ---- plan calls
+plan-accepted : {q : Query} {t : GivenTo q} {l₀ l : Lent} {number : ℕ} → Called q t l₀ l number → number ≡ 0 → AcceptedCall q t l
+plan-accepted {q} {t} {l₀} {l} c e = planCall {l₀ = l₀} (subst (λ (n : ℕ). Called q t l₀ l n) e c)
+
+pub plan-meets : {q : Query} {t : GivenTo q} {l₀ l : Lent} {number : ℕ} → Called q t l₀ l number → IsSetting (q .statistic) → MeetsPlan q t (l₀, l) number
+plan-meets {q} {t} {l₀} {l} {number} c set =
+    record {
+      one = demand-one .plans q t l₀ l number c;
+      two = λ e rust. demand-two .plans rust q t l (plan-accepted c e);
+      three = λ e. demand-three .one q t l set (plan-accepted c e);
+    }
+
+pub two-plans-meet : {q : Query} {t t′ : GivenTo q} {l₀ l l₀′ l′ : Lent} {number number′ : ℕ} → Called q t l₀ l number → Called q t′ l₀′ l′ number′
+    → MeetTwoPlans q t t′ (l₀, l) (l₀′, l′) number number′
+two-plans-meet {q} {t} {t′} {l = l} {l′ = l′} c c′ alike e e′ = demand-three .two q t t′ l l′ alike (plan-accepted c e) (plan-accepted c′ e′)
 
 -- ---- fixed windows
 module _ {center : Bool} {size minPeriods : ℕ} {a : Statistic} where

@@ -24,7 +24,7 @@ use Rattle.moments.specs.HostCall.{Host, decodedOf, ReadingLists}
 use Rattle.moments.specs.Results.{FigureResult}
 use Rattle.promises.specs.Rust.{Rust}
 use Rattle.promises.specs.Calls.{readingsOf, readingsIn, pairsOf, varList, skewList, kurtosisList, covList, pearsonList}
-use Rattle.promises.specs.DemandOne.{Check, traceChecks, pairChecks, rangeChecks, hostChecks, fixedChecks, weightsChecks, Answered, HostLeft}
+use Rattle.promises.specs.DemandOne.{Check, traceChecks, pairChecks, rangeChecks, planChecks, hostChecks, fixedChecks, weightsChecks, Answered, HostLeft}
 use Rattle.promises.specs.DemandTwo.{sourceVar, sourceSkew, sourceKurtosis, sourceCov, sourcePearson, sourceSkewRange, sourceKurtosisRange}
 use Rattle.promises.specs.DemandTwo.{RowsEqual, FixedRowsEqual, WeightedRowsEqual, CorrectRoot}
 use Rattle.promises.specs.DemandThree.{Alike, SameAnswers, Yielded}
@@ -44,6 +44,18 @@ MeetTwoHosts q h h′ l l′ number number′ =
     let kind = kindOf (q .statistic) in
     Alike kind (decodedOf kind h) (decodedOf kind h′) → number ≡ 0 → number′ ≡ 0
     → SameAnswers q (decodedOf kind h) (decodedOf kind h′) (l .1) (l′ .1)
+
+-- ---- plan calls, the trace as doubles
+-- one
+pub record MeetsPlan (q : Query) (t : GivenTo q) (l : Lent × Lent) (number : ℕ) : Type 0 where
+  pub one : Answered (planChecks q t (l .0)) number (l .0) (l .1) (Left q t (l .0) (l .1) 0)
+  pub two : number ≡ 0 → (rust : Rust) → RowsEqual rust q t (l .1)
+  pub three : number ≡ 0 → (k : ℕ) → k < rows (q .plan) → Yielded q t (l .1) k
+
+-- two
+abbrev pub MeetTwoPlans : (q : Query) → GivenTo q → GivenTo q → Lent × Lent → Lent × Lent → ℕ → ℕ → Type 0
+MeetTwoPlans q t t′ l l′ number number′ =
+    Alike (kindOf (q .statistic)) t t′ → number ≡ 0 → number′ ≡ 0 → SameAnswers q t t′ (l .1) (l′ .1)
 
 -- ---- fixed windows
 -- one

@@ -1,13 +1,12 @@
-// Plan calls of a host: one, of which all three demands speak, and two of the same plan, setting and figure, of which the third does.
+// Plan calls with the trace as doubles, which a program in Rattle makes: as a host's, with nothing to decode.
+ghost use Rattle.trace.specs.Trace.{tracing};
 ghost use Rattle.rolling.specs.Moments.{Variance, Skewness, Kurtosis};
 ghost use Rattle.rolling.specs.Calls.{querying, lending};
-ghost use Rattle.moments.specs.HostCall.{hosting, decoding};
-ghost use Rattle.demands.specs.Meets.{MeetsHost, MeetTwoHosts};
+ghost use Rattle.demands.specs.Meets.{MeetsPlan, MeetTwoPlans};
 use crate::Numbers;
 
 pub fn plan_var(
-    trace: &[u8],
-    readings: &mut [f64],
+    trace: &[f64],
     has_map: bool,
     map: &[u8],
     starts: &[u32],
@@ -18,12 +17,11 @@ pub fn plan_var(
     figures: &mut [f64],
     present: &mut [u8],
 ) -> u32
-    ensures { λ r. ⌜ MeetsHost (querying starts ends «min_periods» (Variance ddof)) (hosting trace «has_map» map) (decoding readings)
+    ensures { λ r. ⌜ MeetsPlan (querying starts ends «min_periods» (Variance ddof)) (tracing trace «has_map» map)
         (lending work figures present) r ⌝ }
 {
-    moments::moments_plan_var(
+    rolling::plan_var(
         trace,
-        readings,
         has_map,
         map,
         starts,
@@ -37,12 +35,10 @@ pub fn plan_var(
 }
 
 pub fn two_plans_var(
-    x: &[u8],
-    x_readings: &mut [f64],
+    x: &[f64],
     x_has_map: bool,
     x_map: &[u8],
-    y: &[u8],
-    y_readings: &mut [f64],
+    y: &[f64],
     y_has_map: bool,
     y_map: &[u8],
     starts: &[u32],
@@ -56,12 +52,11 @@ pub fn two_plans_var(
     y_figures: &mut [f64],
     y_present: &mut [u8],
 ) -> Numbers
-    ensures { λ r. ⌜ MeetTwoHosts (querying starts ends «min_periods» (Variance ddof)) (hosting x «x_has_map» «x_map») (hosting y «y_has_map» «y_map»)
+    ensures { λ r. ⌜ MeetTwoPlans (querying starts ends «min_periods» (Variance ddof)) (tracing x «x_has_map» «x_map») (tracing y «y_has_map» «y_map»)
         (lending «x_work» «x_figures» «x_present») (lending «y_work» «y_figures» «y_present») (r .first) (r .second) ⌝ }
 {
-    let first = moments::moments_plan_var(
+    let first = rolling::plan_var(
         x,
-        x_readings,
         x_has_map,
         x_map,
         starts,
@@ -72,9 +67,8 @@ pub fn two_plans_var(
         x_figures,
         x_present,
     );
-    let second = moments::moments_plan_var(
+    let second = rolling::plan_var(
         y,
-        y_readings,
         y_has_map,
         y_map,
         starts,
@@ -89,8 +83,7 @@ pub fn two_plans_var(
 }
 
 pub fn plan_skew(
-    trace: &[u8],
-    readings: &mut [f64],
+    trace: &[f64],
     has_map: bool,
     map: &[u8],
     starts: &[u32],
@@ -101,12 +94,11 @@ pub fn plan_skew(
     figures: &mut [f64],
     present: &mut [u8],
 ) -> u32
-    ensures { λ r. ⌜ MeetsHost (querying starts ends «min_periods» (Skewness bias)) (hosting trace «has_map» map) (decoding readings)
+    ensures { λ r. ⌜ MeetsPlan (querying starts ends «min_periods» (Skewness bias)) (tracing trace «has_map» map)
         (lending work figures present) r ⌝ }
 {
-    moments::moments_plan_skew(
+    rolling::plan_skew(
         trace,
-        readings,
         has_map,
         map,
         starts,
@@ -120,12 +112,10 @@ pub fn plan_skew(
 }
 
 pub fn two_plans_skew(
-    x: &[u8],
-    x_readings: &mut [f64],
+    x: &[f64],
     x_has_map: bool,
     x_map: &[u8],
-    y: &[u8],
-    y_readings: &mut [f64],
+    y: &[f64],
     y_has_map: bool,
     y_map: &[u8],
     starts: &[u32],
@@ -139,12 +129,11 @@ pub fn two_plans_skew(
     y_figures: &mut [f64],
     y_present: &mut [u8],
 ) -> Numbers
-    ensures { λ r. ⌜ MeetTwoHosts (querying starts ends «min_periods» (Skewness bias)) (hosting x «x_has_map» «x_map») (hosting y «y_has_map» «y_map»)
+    ensures { λ r. ⌜ MeetTwoPlans (querying starts ends «min_periods» (Skewness bias)) (tracing x «x_has_map» «x_map») (tracing y «y_has_map» «y_map»)
         (lending «x_work» «x_figures» «x_present») (lending «y_work» «y_figures» «y_present») (r .first) (r .second) ⌝ }
 {
-    let first = moments::moments_plan_skew(
+    let first = rolling::plan_skew(
         x,
-        x_readings,
         x_has_map,
         x_map,
         starts,
@@ -155,9 +144,8 @@ pub fn two_plans_skew(
         x_figures,
         x_present,
     );
-    let second = moments::moments_plan_skew(
+    let second = rolling::plan_skew(
         y,
-        y_readings,
         y_has_map,
         y_map,
         starts,
@@ -172,8 +160,7 @@ pub fn two_plans_skew(
 }
 
 pub fn plan_kurtosis(
-    trace: &[u8],
-    readings: &mut [f64],
+    trace: &[f64],
     has_map: bool,
     map: &[u8],
     starts: &[u32],
@@ -185,12 +172,11 @@ pub fn plan_kurtosis(
     figures: &mut [f64],
     present: &mut [u8],
 ) -> u32
-    ensures { λ r. ⌜ MeetsHost (querying starts ends «min_periods» (Kurtosis fisher bias)) (hosting trace «has_map» map) (decoding readings)
+    ensures { λ r. ⌜ MeetsPlan (querying starts ends «min_periods» (Kurtosis fisher bias)) (tracing trace «has_map» map)
         (lending work figures present) r ⌝ }
 {
-    moments::moments_plan_kurtosis(
+    rolling::plan_kurtosis(
         trace,
-        readings,
         has_map,
         map,
         starts,
@@ -205,12 +191,10 @@ pub fn plan_kurtosis(
 }
 
 pub fn two_plans_kurtosis(
-    x: &[u8],
-    x_readings: &mut [f64],
+    x: &[f64],
     x_has_map: bool,
     x_map: &[u8],
-    y: &[u8],
-    y_readings: &mut [f64],
+    y: &[f64],
     y_has_map: bool,
     y_map: &[u8],
     starts: &[u32],
@@ -225,12 +209,11 @@ pub fn two_plans_kurtosis(
     y_figures: &mut [f64],
     y_present: &mut [u8],
 ) -> Numbers
-    ensures { λ r. ⌜ MeetTwoHosts (querying starts ends «min_periods» (Kurtosis fisher bias)) (hosting x «x_has_map» «x_map») (hosting y «y_has_map» «y_map»)
+    ensures { λ r. ⌜ MeetTwoPlans (querying starts ends «min_periods» (Kurtosis fisher bias)) (tracing x «x_has_map» «x_map») (tracing y «y_has_map» «y_map»)
         (lending «x_work» «x_figures» «x_present») (lending «y_work» «y_figures» «y_present») (r .first) (r .second) ⌝ }
 {
-    let first = moments::moments_plan_kurtosis(
+    let first = rolling::plan_kurtosis(
         x,
-        x_readings,
         x_has_map,
         x_map,
         starts,
@@ -242,9 +225,8 @@ pub fn two_plans_kurtosis(
         x_figures,
         x_present,
     );
-    let second = moments::moments_plan_kurtosis(
+    let second = rolling::plan_kurtosis(
         y,
-        y_readings,
         y_has_map,
         y_map,
         starts,

@@ -1,13 +1,12 @@
 -- What the demands say of the call. Assumes nothing.
 use borrow.Author.Needs.{needs}
-use Rattle.demands.proofs.Demanded.{host-meets}
+use Rattle.demands.proofs.Demanded.{plan-meets}
 use Rattle.demands.proofs.plans.plan_skew.Statement.{statement}
 use Rattle.demands.proofs.plans.plan_skew.Tie as tie
 
 returns : tie.Need-returns
-returns c = host-meets (c .before .before .before .before .before .before .before .before .moments-plan-skew .ensures) tt
+returns c = plan-meets (c .before .before .before .before .before .before .plan-skew .ensures) tt
 
 pub plan-skew-spec : {M : Type 1} → statement M
 plan-skew-spec =
-    let met = tie.spec (λ c κs. search needs) (λ c. search needs) (λ c. search needs) (λ c. search needs) (λ c. search needs) returns in
-    tie.close met
+    let met = tie.spec (λ c κs. search needs) (λ c. search needs) (λ c. search needs) (λ c. search needs) returns in tie.close met

@@ -1,14 +1,13 @@
 -- What the demands say of the call. Assumes nothing.
 use native.Mathlib.Omega.{arith}
 use borrow.Author.Needs.{needs}
-use Rattle.demands.proofs.Demanded.{host-meets}
+use Rattle.demands.proofs.Demanded.{plan-meets}
 use Rattle.demands.proofs.plans.plan_var.Statement.{statement}
 use Rattle.demands.proofs.plans.plan_var.Tie as tie
 
 returns : tie.Need-returns
-returns c = host-meets (c .before .before .before .before .before .before .before .before .moments-plan-var .ensures) (omega arith)
+returns c = plan-meets (c .before .before .before .before .before .before .plan-var .ensures) (omega arith)
 
 pub plan-var-spec : {M : Type 1} → statement M
 plan-var-spec =
-    let met = tie.spec (λ c κs. search needs) (λ c. search needs) (λ c. search needs) (λ c. search needs) (λ c. search needs) returns in
-    tie.close met
+    let met = tie.spec (λ c κs. search needs) (λ c. search needs) (λ c. search needs) (λ c. search needs) returns in tie.close met

@@ -1,16 +1,16 @@
 -- What demand 3 says of the two calls. Assumes nothing.
 use borrow.Author.Needs.{needs}
-use Rattle.demands.proofs.Demanded.{two-hosts-meet}
+use Rattle.demands.proofs.Demanded.{two-plans-meet}
 use Rattle.demands.proofs.plans.two_plans_var.Statement.{statement}
 use Rattle.demands.proofs.plans.two_plans_var.Tie as tie
 
 returns : tie.Need-returns
 returns c =
-    let d = c .before .before .before .before .before .before .before .before in
-    two-hosts-meet (d .before .before .before .before .before .before .before .before .before .before .before .before .before .moments-plan-var .ensures) (d .moments-plan-var2 .ensures)
+    let d = c .before .before .before .before .before .before in
+    two-plans-meet (d .before .before .before .before .before .before .before .before .before .before .plan-var .ensures) (d .plan-var2 .ensures)
 
 pub two-plans-var-spec : {M : Type 1} → statement M
 two-plans-var-spec =
     let met = tie.spec (λ c κs. search needs) (λ c κs. search needs) (λ c. search needs) (λ c. search needs) (λ c. search needs)
-    (λ c. search needs) (λ c. search needs) (λ c. search needs) (λ c. search needs) (λ c. search needs) returns in
+    (λ c. search needs) (λ c. search needs) (λ c. search needs) returns in
     tie.close met

@@ -1,0 +1,260 @@
+// Plan calls of a host: one, of which all three demands speak, and two of the same plan, setting and figure, of which the third does.
+ghost use Rattle.rolling.specs.Moments.{Variance, Skewness, Kurtosis};
+ghost use Rattle.rolling.specs.Calls.{querying, lending};
+ghost use Rattle.moments.specs.HostCall.{hosting, decoding};
+ghost use Rattle.demands.specs.Meets.{MeetsHost, MeetTwoHosts};
+use crate::Numbers;
+
+pub fn plan_var(
+    trace: &[u8],
+    readings: &mut [f64],
+    has_map: bool,
+    map: &[u8],
+    starts: &[u32],
+    ends: &[u32],
+    min_periods: usize,
+    ddof: u8,
+    work: &mut [f64],
+    figures: &mut [f64],
+    present: &mut [u8],
+) -> u32
+    ensures { λ r. ⌜ MeetsHost (querying starts ends «min_periods» (Variance ddof)) (hosting trace «has_map» map) (decoding readings)
+        (lending work figures present) r ⌝ }
+{
+    moments::moments_plan_var(
+        trace,
+        readings,
+        has_map,
+        map,
+        starts,
+        ends,
+        min_periods,
+        ddof,
+        work,
+        figures,
+        present,
+    )
+}
+
+pub fn two_plans_var(
+    x: &[u8],
+    x_readings: &mut [f64],
+    x_has_map: bool,
+    x_map: &[u8],
+    y: &[u8],
+    y_readings: &mut [f64],
+    y_has_map: bool,
+    y_map: &[u8],
+    starts: &[u32],
+    ends: &[u32],
+    min_periods: usize,
+    ddof: u8,
+    x_work: &mut [f64],
+    x_figures: &mut [f64],
+    x_present: &mut [u8],
+    y_work: &mut [f64],
+    y_figures: &mut [f64],
+    y_present: &mut [u8],
+) -> Numbers
+    ensures { λ r. ⌜ MeetTwoHosts (querying starts ends «min_periods» (Variance ddof)) (hosting x «x_has_map» «x_map») (hosting y «y_has_map» «y_map»)
+        (lending «x_work» «x_figures» «x_present») (lending «y_work» «y_figures» «y_present») (r .first) (r .second) ⌝ }
+{
+    let first = moments::moments_plan_var(
+        x,
+        x_readings,
+        x_has_map,
+        x_map,
+        starts,
+        ends,
+        min_periods,
+        ddof,
+        x_work,
+        x_figures,
+        x_present,
+    );
+    let second = moments::moments_plan_var(
+        y,
+        y_readings,
+        y_has_map,
+        y_map,
+        starts,
+        ends,
+        min_periods,
+        ddof,
+        y_work,
+        y_figures,
+        y_present,
+    );
+    Numbers { first, second }
+}
+
+pub fn plan_skew(
+    trace: &[u8],
+    readings: &mut [f64],
+    has_map: bool,
+    map: &[u8],
+    starts: &[u32],
+    ends: &[u32],
+    min_periods: usize,
+    bias: bool,
+    work: &mut [f64],
+    figures: &mut [f64],
+    present: &mut [u8],
+) -> u32
+    ensures { λ r. ⌜ MeetsHost (querying starts ends «min_periods» (Skewness bias)) (hosting trace «has_map» map) (decoding readings)
+        (lending work figures present) r ⌝ }
+{
+    moments::moments_plan_skew(
+        trace,
+        readings,
+        has_map,
+        map,
+        starts,
+        ends,
+        min_periods,
+        bias,
+        work,
+        figures,
+        present,
+    )
+}
+
+pub fn two_plans_skew(
+    x: &[u8],
+    x_readings: &mut [f64],
+    x_has_map: bool,
+    x_map: &[u8],
+    y: &[u8],
+    y_readings: &mut [f64],
+    y_has_map: bool,
+    y_map: &[u8],
+    starts: &[u32],
+    ends: &[u32],
+    min_periods: usize,
+    bias: bool,
+    x_work: &mut [f64],
+    x_figures: &mut [f64],
+    x_present: &mut [u8],
+    y_work: &mut [f64],
+    y_figures: &mut [f64],
+    y_present: &mut [u8],
+) -> Numbers
+    ensures { λ r. ⌜ MeetTwoHosts (querying starts ends «min_periods» (Skewness bias)) (hosting x «x_has_map» «x_map») (hosting y «y_has_map» «y_map»)
+        (lending «x_work» «x_figures» «x_present») (lending «y_work» «y_figures» «y_present») (r .first) (r .second) ⌝ }
+{
+    let first = moments::moments_plan_skew(
+        x,
+        x_readings,
+        x_has_map,
+        x_map,
+        starts,
+        ends,
+        min_periods,
+        bias,
+        x_work,
+        x_figures,
+        x_present,
+    );
+    let second = moments::moments_plan_skew(
+        y,
+        y_readings,
+        y_has_map,
+        y_map,
+        starts,
+        ends,
+        min_periods,
+        bias,
+        y_work,
+        y_figures,
+        y_present,
+    );
+    Numbers { first, second }
+}
+
+pub fn plan_kurtosis(
+    trace: &[u8],
+    readings: &mut [f64],
+    has_map: bool,
+    map: &[u8],
+    starts: &[u32],
+    ends: &[u32],
+    min_periods: usize,
+    fisher: bool,
+    bias: bool,
+    work: &mut [f64],
+    figures: &mut [f64],
+    present: &mut [u8],
+) -> u32
+    ensures { λ r. ⌜ MeetsHost (querying starts ends «min_periods» (Kurtosis fisher bias)) (hosting trace «has_map» map) (decoding readings)
+        (lending work figures present) r ⌝ }
+{
+    moments::moments_plan_kurtosis(
+        trace,
+        readings,
+        has_map,
+        map,
+        starts,
+        ends,
+        min_periods,
+        fisher,
+        bias,
+        work,
+        figures,
+        present,
+    )
+}
+
+pub fn two_plans_kurtosis(
+    x: &[u8],
+    x_readings: &mut [f64],
+    x_has_map: bool,
+    x_map: &[u8],
+    y: &[u8],
+    y_readings: &mut [f64],
+    y_has_map: bool,
+    y_map: &[u8],
+    starts: &[u32],
+    ends: &[u32],
+    min_periods: usize,
+    fisher: bool,
+    bias: bool,
+    x_work: &mut [f64],
+    x_figures: &mut [f64],
+    x_present: &mut [u8],
+    y_work: &mut [f64],
+    y_figures: &mut [f64],
+    y_present: &mut [u8],
+) -> Numbers
+    ensures { λ r. ⌜ MeetTwoHosts (querying starts ends «min_periods» (Kurtosis fisher bias)) (hosting x «x_has_map» «x_map») (hosting y «y_has_map» «y_map»)
+        (lending «x_work» «x_figures» «x_present») (lending «y_work» «y_figures» «y_present») (r .first) (r .second) ⌝ }
+{
+    let first = moments::moments_plan_kurtosis(
+        x,
+        x_readings,
+        x_has_map,
+        x_map,
+        starts,
+        ends,
+        min_periods,
+        fisher,
+        bias,
+        x_work,
+        x_figures,
+        x_present,
+    );
+    let second = moments::moments_plan_kurtosis(
+        y,
+        y_readings,
+        y_has_map,
+        y_map,
+        starts,
+        ends,
+        min_periods,
+        fisher,
+        bias,
+        y_work,
+        y_figures,
+        y_present,
+    );
+    Numbers { first, second }
+}
