@@ -39,7 +39,8 @@ use Rattle.promises.specs.Calls.{AcceptedCall, planCall, hostCall, fixedCall}
 use Rattle.promises.proofs.DemandOne.{demand-one}
 use Rattle.promises.proofs.DemandTwo.{demand-two}
 use Rattle.promises.proofs.DemandThree.{demand-three}
-use Rattle.demands.specs.Meets.{MeetsHost, MeetTwoHosts, MeetsPlan, MeetTwoPlans, MeetsFixed, MeetTwoFixed, MeetsWeights, MeetsState, MeetsFigure, MeetsRoot}
+use Rattle.demands.specs.Meets.{MeetsHost, MeetTwoHosts, MeetsPlan, MeetTwoPlans, MeetsFixed, MeetTwoFixed, MeetsWeights}
+use Rattle.demands.specs.Meets.{MeetsState, MeetsFigure, MeetsRoot}
 use Rattle.demands.specs.Meets.{MeetsArray, ofVar, ofSkew, ofKurtosis, ofCov, ofPearson, ofSkewRange, ofKurtosisRange}
 
 -- ---- host calls
@@ -56,16 +57,20 @@ host-meets {q} {h} {r₀} {r} {l₀} {l} {number} c set =
       three = λ e. demand-three .one q (decodedOf (kindOf (q .statistic)) h) l set (host-accepted c e);
     }
 
-pub two-hosts-meet : {q : Query} {h h′ : Host (kindOf (q .statistic))} {r₀ r r₀′ r′ : ReadingLists (kindOf (q .statistic))} {l₀ l l₀′ l′ : Lent}
-    {number number′ : ℕ} → CalledBytes q h r₀ r l₀ l number → CalledBytes q h′ r₀′ r′ l₀′ l′ number′ → MeetTwoHosts q h h′ (l₀, l) (l₀′, l′) number number′
+pub two-hosts-meet : {q : Query} {h h′ : Host (kindOf (q .statistic))} {r₀ r r₀′ r′ : ReadingLists (kindOf (q .statistic))}
+    {l₀ l l₀′ l′ : Lent}
+    {number number′ : ℕ} → CalledBytes q h r₀ r l₀ l number → CalledBytes q h′ r₀′ r′ l₀′ l′ number′
+    → MeetTwoHosts q h h′ (l₀, l) (l₀′, l′) number number′
 two-hosts-meet {q} {h} {h′} {l = l} {l′ = l′} c c′ alike e e′ =
-    demand-three .two q (decodedOf (kindOf (q .statistic)) h) (decodedOf (kindOf (q .statistic)) h′) l l′ alike (host-accepted c e) (host-accepted c′ e′)
+    demand-three .two q (decodedOf (kindOf (q .statistic)) h) (decodedOf (kindOf (q .statistic)) h′) l l′ alike (host-accepted c e)
+    (host-accepted c′ e′)
 
 -- ---- plan calls
 plan-accepted : {q : Query} {t : GivenTo q} {l₀ l : Lent} {number : ℕ} → Called q t l₀ l number → number ≡ 0 → AcceptedCall q t l
 plan-accepted {q} {t} {l₀} {l} c e = planCall {l₀ = l₀} (subst (λ (n : ℕ). Called q t l₀ l n) e c)
 
-pub plan-meets : {q : Query} {t : GivenTo q} {l₀ l : Lent} {number : ℕ} → Called q t l₀ l number → IsSetting (q .statistic) → MeetsPlan q t (l₀, l) number
+pub plan-meets : {q : Query} {t : GivenTo q} {l₀ l : Lent} {number : ℕ} → Called q t l₀ l number → IsSetting (q .statistic)
+    → MeetsPlan q t (l₀, l) number
 plan-meets {q} {t} {l₀} {l} {number} c set =
     record {
       one = demand-one .plans q t l₀ l number c;
@@ -73,9 +78,11 @@ plan-meets {q} {t} {l₀} {l} {number} c set =
       three = λ e. demand-three .one q t l set (plan-accepted c e);
     }
 
-pub two-plans-meet : {q : Query} {t t′ : GivenTo q} {l₀ l l₀′ l′ : Lent} {number number′ : ℕ} → Called q t l₀ l number → Called q t′ l₀′ l′ number′
+pub two-plans-meet : {q : Query} {t t′ : GivenTo q} {l₀ l l₀′ l′ : Lent} {number number′ : ℕ} → Called q t l₀ l number
+    → Called q t′ l₀′ l′ number′
     → MeetTwoPlans q t t′ (l₀, l) (l₀′, l′) number number′
-two-plans-meet {q} {t} {t′} {l = l} {l′ = l′} c c′ alike e e′ = demand-three .two q t t′ l l′ alike (plan-accepted c e) (plan-accepted c′ e′)
+two-plans-meet {q} {t} {t′} {l = l} {l′ = l′} c c′ alike e e′ = demand-three .two q t t′ l l′ alike (plan-accepted c e)
+    (plan-accepted c′ e′)
 
 -- ---- fixed windows
 module _ {center : Bool} {size minPeriods : ℕ} {a : Statistic} where
@@ -83,7 +90,8 @@ module _ {center : Bool} {size minPeriods : ℕ} {a : Statistic} where
       → CalledFixed center size minPeriods a t l₀ l 0
   fixed-zero {t} {l₀} {l} c e = subst (λ (n : ℕ). CalledFixed center size minPeriods a t l₀ l n) e c
 
-  pub fixed-meets : {t : Given (kindOf a)} {l₀ l : Lent} {number : ℕ} → CalledFixed center size minPeriods a t l₀ l number → size < 2 ^ 64 → IsSetting a
+  pub fixed-meets : {t : Given (kindOf a)} {l₀ l : Lent} {number : ℕ} → CalledFixed center size minPeriods a t l₀ l number
+      → size < 2 ^ 64 → IsSetting a
       → MeetsFixed center size minPeriods a t (l₀, l) number
   fixed-meets {t} {l₀} {l} {number} c small set =
       record {
@@ -93,7 +101,8 @@ module _ {center : Bool} {size minPeriods : ℕ} {a : Statistic} where
       }
 
   -- equal lengths have the same bounds
-  pub two-fixed-meet : {t t′ : Given (kindOf a)} {l₀ l l₀′ l′ : Lent} {number number′ : ℕ} → CalledFixed center size minPeriods a t l₀ l number
+  pub two-fixed-meet : {t t′ : Given (kindOf a)} {l₀ l l₀′ l′ : Lent} {number number′ : ℕ}
+      → CalledFixed center size minPeriods a t l₀ l number
       → CalledFixed center size minPeriods a t′ l₀′ l′ number′ → MeetTwoFixed center size minPeriods a t t′ (l₀, l) (l₀′, l′) number number′
   two-fixed-meet {t} {t′} {l = l} {l′ = l′} c c′ alike e e′ =
       demand-three .two (fixedQuery center size minPeriods a t) t t′ l l′ alike (fixedCall (fixed-zero c e))
@@ -101,11 +110,13 @@ module _ {center : Bool} {size minPeriods : ℕ} {a : Statistic} where
 
 -- ---- weights
 pub weights-meet : {center : Bool} {size minPeriods : ℕ} {weights : List Float} {t : Trace} {c₀ c : Column} {number : ℕ}
-    → CalledWeights center size minPeriods weights t c₀ c number → size < 2 ^ 64 → MeetsWeights center size minPeriods weights t (c₀, c) number
+    → CalledWeights center size minPeriods weights t c₀ c number → size < 2 ^ 64
+    → MeetsWeights center size minPeriods weights t (c₀, c) number
 weights-meet {center} {size} {minPeriods} {weights} {t} {c₀} {c} {number} call small =
     record {
       one = demand-one .weights center size minPeriods weights t c₀ c number call;
-      two = λ e rust. demand-two .weights rust center size minPeriods weights t c₀ c small (subst (λ (n : ℕ). CalledWeights center size minPeriods weights t c₀ c n) e call);
+      two = λ e rust. demand-two .weights rust center size minPeriods weights t c₀ c small
+          (subst (λ (n : ℕ). CalledWeights center size minPeriods weights t c₀ c n) e call);
     }
 
 -- ---- whole arrays, pairs and ranges
@@ -123,7 +134,8 @@ skew-meets {t} {before} {after} {r} c =
       two = λ e rust. demand-two .arrays .skew rust t before after (subst (CallsSkew t before after) e c);
     }
 
-pub kurtosis-meets : {t : Trace} {before after : List Float} {r : ℕ} → CallsKurtosis t before after r → MeetsArray (ofKurtosis t) before after r
+pub kurtosis-meets : {t : Trace} {before after : List Float} {r : ℕ} → CallsKurtosis t before after r
+    → MeetsArray (ofKurtosis t) before after r
 kurtosis-meets {t} {before} {after} {r} c =
     record {
       one = demand-one .kurtosis t before after r c;
@@ -137,21 +149,24 @@ cov-meets {x} {y} {before} {after} {r} c =
       two = λ e rust. demand-two .arrays .cov rust x y before after (subst (CallsCov x y before after) e c);
     }
 
-pub pearson-meets : {x y : Trace} {before after : List Float} {r : ℕ} → CallsPearson x y before after r → MeetsArray (ofPearson x y) before after r
+pub pearson-meets : {x y : Trace} {before after : List Float} {r : ℕ} → CallsPearson x y before after r
+    → MeetsArray (ofPearson x y) before after r
 pearson-meets {x} {y} {before} {after} {r} c =
     record {
       one = demand-one .pearson x y before after r c;
       two = λ e rust. demand-two .arrays .pearson rust x y before after (subst (CallsPearson x y before after) e c);
     }
 
-pub skew-range-meets : {t : Trace} {start len : ℕ} {before after : List Float} {r : ℕ} → CallsSkewRange t start len before after r → MeetsArray (ofSkewRange t start len) before after r
+pub skew-range-meets : {t : Trace} {start len : ℕ} {before after : List Float} {r : ℕ} → CallsSkewRange t start len before after r
+    → MeetsArray (ofSkewRange t start len) before after r
 skew-range-meets {t} {start} {len} {before} {after} {r} c =
     record {
       one = demand-one .skew-range t start len before after r c;
       two = λ e rust. demand-two .ranges .skew rust t start len before after (subst (CallsSkewRange t start len before after) e c);
     }
 
-pub kurtosis-range-meets : {t : Trace} {start len : ℕ} {before after : List Float} {r : ℕ} → CallsKurtosisRange t start len before after r → MeetsArray (ofKurtosisRange t start len) before after r
+pub kurtosis-range-meets : {t : Trace} {start len : ℕ} {before after : List Float} {r : ℕ}
+    → CallsKurtosisRange t start len before after r → MeetsArray (ofKurtosisRange t start len) before after r
 kurtosis-range-meets {t} {start} {len} {before} {after} {r} c =
     record {
       one = demand-one .kurtosis-range t start len before after r c;
@@ -165,7 +180,11 @@ state-meets {A} {definition} {source} {r} e f = record { one = demand-one .state
 pub figure-meets : {definition source : Figure} {byte : ℕ} {before after : Float} → FigureResult definition byte after → definition ≡ source
     → MeetsFigure definition source byte before after
 figure-meets {definition} {source} {byte} {before} {after} c f =
-    record { one = demand-one .figures definition byte before after c; two = subst (λ (figure : Figure). FigureResult figure byte after) f c }
+    record {
+      one = demand-one .figures definition byte before after c;
+      two = subst
+          (λ (figure : Figure). FigureResult figure byte after) f c;
+    }
 
 -- the source's of each state, by demand 2; what an equation does not speak of is anything
 pub var-insert : (s : VarState) (x : Float) → varInsert s x ≡ VarState·insertOne s x
@@ -210,7 +229,8 @@ kurtosis-insert s x = demand-two .states .kurtosis s s x true true .0
 pub kurtosis-combine : (s o : KurtosisState) → kurtosisCombine s o ≡ KurtosisState·combine s o
 kurtosis-combine s o = demand-two .states .kurtosis s o nan true true .1
 
-pub kurtosis-finalize : (s : KurtosisState) (fisher : Bool) (bias : Bool) → kurtosisFinalize s fisher bias ≡ KurtosisState·finalize s fisher bias
+pub kurtosis-finalize : (s : KurtosisState) (fisher : Bool) (bias : Bool) → kurtosisFinalize s fisher bias
+    ≡ KurtosisState·finalize s fisher bias
 kurtosis-finalize s fisher bias = demand-two .states .kurtosis s s nan fisher bias .2
 
 -- ---- root, of a double

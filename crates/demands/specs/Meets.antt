@@ -1,6 +1,6 @@
--- What the three demands say of calls, each as the contract of a function of this crate that makes them: demands 1, 2 and 3 of a call without
--- weights, 3 also of two such calls, 1 and 2 of the others. What the demands mean is in `promises` DemandOne, DemandTwo and DemandThree.
--- Lists and states that are lent come as (before, after). Assumes nothing.
+-- What the three demands say of calls, each as the contract of a function of this crate that makes them: demands 1, 2 and 3 of a call
+-- without weights, 3 also of two such calls, 1 and 2 of the others. What the demands mean is in `promises` DemandOne, DemandTwo and
+-- DemandThree. Lists that are lent come as (before, after). Assumes nothing.
 use Prim.Native.Nat.{ℕ, _<_}
 use mathlib.Core.Path.{_≡_}
 use mathlib.Core.Bool.{Bool}
@@ -24,7 +24,8 @@ use Rattle.moments.specs.HostCall.{Host, decodedOf, ReadingLists}
 use Rattle.moments.specs.Results.{FigureResult}
 use Rattle.promises.specs.Rust.{Rust}
 use Rattle.promises.specs.Calls.{readingsOf, readingsIn, pairsOf, varList, skewList, kurtosisList, covList, pearsonList}
-use Rattle.promises.specs.DemandOne.{Check, traceChecks, pairChecks, rangeChecks, planChecks, hostChecks, fixedChecks, weightsChecks, Answered, HostLeft}
+use Rattle.promises.specs.DemandOne.{Check, traceChecks, pairChecks, rangeChecks, planChecks, hostChecks, fixedChecks, weightsChecks}
+use Rattle.promises.specs.DemandOne.{Answered, HostLeft}
 use Rattle.promises.specs.DemandTwo.{sourceVar, sourceSkew, sourceKurtosis, sourceCov, sourcePearson, sourceSkewRange, sourceKurtosisRange}
 use Rattle.promises.specs.DemandTwo.{RowsEqual, FixedRowsEqual, WeightedRowsEqual, CorrectRoot}
 use Rattle.promises.specs.DemandThree.{Alike, SameAnswers, Yielded}
@@ -39,7 +40,8 @@ pub record MeetsHost (q : Query) (h : Host (kindOf (q .statistic)))
   pub three : number ≡ 0 → (k : ℕ) → k < rows (q .plan) → Yielded q (decodedOf (kindOf (q .statistic)) h) (l .1) k
 
 -- two, with the same plan, the same setting and the same figure
-abbrev pub MeetTwoHosts : (q : Query) → Host (kindOf (q .statistic)) → Host (kindOf (q .statistic)) → Lent × Lent → Lent × Lent → ℕ → ℕ → Type 0
+abbrev pub MeetTwoHosts : (q : Query) → Host (kindOf (q .statistic)) → Host (kindOf (q .statistic)) → Lent × Lent → Lent × Lent → ℕ → ℕ
+    → Type 0
 MeetTwoHosts q h h′ l l′ number number′ =
     let kind = kindOf (q .statistic) in
     Alike kind (decodedOf kind h) (decodedOf kind h′) → number ≡ 0 → number′ ≡ 0
@@ -59,7 +61,8 @@ MeetTwoPlans q t t′ l l′ number number′ =
 
 -- ---- fixed windows
 -- one
-pub record MeetsFixed (center : Bool) (windowSize minPeriods : ℕ) (a : Statistic) (t : Given (kindOf a)) (l : Lent × Lent) (number : ℕ) : Type 0 where
+pub record MeetsFixed (center : Bool) (windowSize minPeriods : ℕ) (a : Statistic) (t : Given (kindOf a)) (l : Lent × Lent)
+    (number : ℕ) : Type 0 where
   pub one : Answered (fixedChecks windowSize a t (l .0)) number (l .0) (l .1)
       (Left (fixedQuery center windowSize minPeriods a t) t (l .0) (l .1) 0)
   pub two : number ≡ 0 → (rust : Rust) → FixedRowsEqual rust center windowSize minPeriods a t (l .1)
@@ -72,7 +75,8 @@ MeetTwoFixed center windowSize minPeriods a t t′ l l′ number number′ =
     Alike (kindOf a) t t′ → number ≡ 0 → number′ ≡ 0 → SameAnswers (fixedQuery center windowSize minPeriods a t) t t′ (l .1) (l′ .1)
 
 -- ---- weights
-pub record MeetsWeights (center : Bool) (windowSize minPeriods : ℕ) (weights : List Float) (t : Trace) (c : Column × Column) (number : ℕ) : Type 0 where
+pub record MeetsWeights (center : Bool) (windowSize minPeriods : ℕ) (weights : List Float) (t : Trace) (c : Column × Column)
+    (number : ℕ) : Type 0 where
   pub one : Answered (weightsChecks windowSize weights t (c .0)) number (c .0) (c .1)
       (c .1 ≡ columnAfter 0 (weightedAt center windowSize minPeriods weights (t .readings)) (length (t .readings)) (c .0))
   pub two : number ≡ 0 → (rust : Rust) → WeightedRowsEqual rust center windowSize minPeriods weights t (c .1)

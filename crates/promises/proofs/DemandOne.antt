@@ -21,12 +21,14 @@ use Rattle.moment.specs.declared.SkewAnswer.the-variants as skew
 use Rattle.moment.specs.declared.KurtosisAnswer.the-variants as kurtosis
 use Rattle.moment.specs.Skew.{skewNew}
 use Rattle.moment.specs.Kurtosis.{kurtosisNew}
-use Rattle.moment.specs.Arrays.{answer, varWhole, varNumber, varMembers, covWhole, covNumber, covMembers, pearsonWhole, pearsonNumber, pearsonMembers}
+use Rattle.moment.specs.Arrays.{answer, varWhole, varNumber, varMembers, covWhole, covNumber, covMembers, pearsonWhole, pearsonNumber}
+use Rattle.moment.specs.Arrays.{pearsonMembers}
 use Rattle.moment.specs.Arrays.{skewWhole, skewNumber, skewMembers, kurtosisWhole, kurtosisNumber, kurtosisMembers}
 use Rattle.plan.specs.Plan.{Plan, rows, rowStart, rowEnd}
 use Rattle.plan.specs.Refusals.{wrongLists, rowRefusal, before, rowsRefusal, needed, planRefusal, fixedRefusal}
 use Rattle.window.specs.Given.{Kind, Readings, Given, seriesOf, placesOf, givenRefusal}
-use Rattle.window.specs.Outputs.{Column, Outputs, Lent, answerLengths, countLengths, shortest, shortestOf, shortestOutput, columnAfter, filled, kept}
+use Rattle.window.specs.Outputs.{Column, Outputs, Lent, answerLengths, countLengths, shortest, shortestOf, shortestOutput, columnAfter}
+use Rattle.window.specs.Outputs.{filled, kept}
 use Rattle.window.proofs.Outputs.{unfilled, column-is, answered-refused, numbered-refused}
 use Rattle.rolling.specs.Moments.{Statistic, Variance, Skewness, Kurtosis, kindOf, momentOf, finalsOf, workWidth}
 use Rattle.rolling.specs.Calls.{Query, GivenTo, figuresBy, yields, tallies, refusalOf, Left, Called}
@@ -36,7 +38,8 @@ use Rattle.moments.specs.HostCall.{Host, readingCount, decodedOf, oddBytes, Rea
 use Rattle.moments.specs.Results.{StateResult}
 use Rattle.promises.specs.Calls.{readingsOf, readingsIn, pairsOf, varList, skewList, kurtosisList, covList, pearsonList}
 use Rattle.promises.specs.DemandOne.{MapOfWrongLength, WrongLists, BelowRowBefore, SomeShorter, OutputShorter, Check, _when_}
-use Rattle.promises.specs.DemandOne.{traceChecks, pairChecks, rangeChecks, givenChecks, rowChecks, rowsChecks, plannedChecks, rowNumbers, InOrder}
+use Rattle.promises.specs.DemandOne.{traceChecks, pairChecks, rangeChecks, givenChecks, rowChecks, rowsChecks, plannedChecks}
+use Rattle.promises.specs.DemandOne.{rowNumbers, InOrder}
 use Rattle.promises.specs.DemandOne.{NoWholeReadings, ReadingsShorter, planChecks, hostChecks, fixedChecks, weightsChecks, HostLeft}
 use Rattle.promises.specs.DemandOne.{WorkTooShort, FixedWorkTooShort, NoneApplies, FirstApplies, Answered, DemandOne}
 
@@ -64,7 +67,8 @@ none-first (c ∷ cs) n a (inl f) = a .0 (f .1)
 none-first (c ∷ cs) n a (inr f) = none-first cs n (a .1) (f .1)
 
 -- one check
-check : (number : ℕ) {P : Type 0} (b : Bool) → ¬ (number ≡ 0) → (b ≡ true → P) → (P → b ≡ true) → Says (number when P ∷ []) (refusal number b)
+check : (number : ℕ) {P : Type 0} (b : Bool) → ¬ (number ≡ 0) → (b ≡ true → P) → (P → b ≡ true)
+    → Says (number when P ∷ []) (refusal number b)
 unfolding refusal
 check number true some f g = first (inl (refl, f refl)) some
 check number false some f g = none (λ p. apart (g p), tt) refl
@@ -124,7 +128,8 @@ map-wrong : (t : Trace) → wrongMap (length (t .readings)) (t .mapped) (t .map)
 unfolding wrongMap
 map-wrong t h = go (t .mapped) refl h
   where
-    go : (m : Bool) → t .mapped ≡ m → cond m (not (eqb (length (t .map)) ((length (t .readings) + 7) / 8))) false ≡ true → MapOfWrongLength t
+    go : (m : Bool) → t .mapped ≡ m → cond m (not (eqb (length (t .map)) ((length (t .readings) + 7) / 8))) false ≡ true
+        → MapOfWrongLength t
     go true e h = (e, differ _ _ h)
     go false e h = apart h
 
@@ -174,14 +179,16 @@ rows-say n p zero = none tt refl
 rows-say n p (suc k) = rows-say n p k next row-says n p k
 
 -- what is given, a plan over n places, and the lists
-planned-say : {given : List Check} {number : ℕ} {Short : Type 0} (p : Plan) (n : ℕ) (short : Bool) (outputs width work : ℕ) → Says given number
+planned-say : {given : List Check} {number : ℕ} {Short : Type 0} (p : Plan) (n : ℕ) (short : Bool) (outputs width work : ℕ)
+    → Says given number
     → ((short || ltb outputs (rows p)) ≡ true → Short) → (Short → (short || ltb outputs (rows p)) ≡ true)
     → Says (given ++ (4 when WrongLists p ∷ []) ++ rowsChecks n p (rows p) ++ (12 when Short ∷ 13 when (work < needed width p) ∷ []))
     (planRefusal number p n short outputs width work)
 unfolding planRefusal
 planned-say p n short outputs width work g f h =
     behind
-    (g next check 4 _ (some 3) (either _ _ (differ _ _) (ltb-true _ _)) (either-true _ _ (differ-true _ _) (lt-ltb _ _)) next rows-say n p (rows p))
+    (g next check 4 _ (some 3) (either _ _ (differ _ _) (ltb-true _ _)) (either-true _ _ (differ-true _ _) (lt-ltb _ _))
+    next rows-say n p (rows p))
     (check 12 _ (some 11) f h)
     (more 13 _ _ (some 12))
 
@@ -222,7 +229,8 @@ module _ (n : ℕ) where
       go : (cs : List Column) → 0 < length cs → SomeShorter (answerLengths cs ++ countLengths (l .counts)) n
           → ltb (shortestOf (answerLengths cs ++ countLengths (l .counts))) n ≡ true
       go [] h e = absurd (omega arith)
-      go (c ∷ cs) h e = lt-ltb _ _ (shorter-back (length (c .doubles)) (length (c .bytes) ∷ answerLengths cs ++ countLengths (l .counts)) n e)
+      go (c ∷ cs) h e =
+          lt-ltb _ _ (shorter-back (length (c .doubles)) (length (c .bytes) ∷ answerLengths cs ++ countLengths (l .counts)) n e)
 
 some-figure : (a : Statistic) (t : Given (kindOf a)) (minPeriods : ℕ) (p : Plan)
     → 0 < length (figuresBy (momentOf a) (finalsOf a) (seriesOf (kindOf a) t) minPeriods p)
@@ -266,7 +274,8 @@ in-both (c ∷ cs) ds (n ∷ ns) ms (inr i) j = inr (in-both (c ∷ cs) ds ns ms
 rows-order : (n : ℕ) (p : Plan) (k : ℕ) → InOrder (rowsChecks n p k) (rowNumbers k)
 unfolding rowsChecks rowNumbers
 rows-order n p zero = tt
-rows-order n p (suc k) = in-both (rowsChecks n p k) (rowChecks n p k) (rowNumbers k) _ (rows-order n p k) (inl (refl, inl (refl, inl (refl, tt))))
+rows-order n p (suc k) = in-both (rowsChecks n p k) (rowChecks n p k) (rowNumbers k) _ (rows-order n p k)
+    (inl (refl, inl (refl, inl (refl, tt))))
 
 -- 12 and 13 behind all others
 lists-order : (P Q : Type 0) → InOrder (12 when P ∷ 13 when Q ∷ []) (8 ∷ 9 ∷ 10 ∷ 11 ∷ 12 ∷ 13 ∷ [])
@@ -276,49 +285,59 @@ given-order : (kind : Kind) (t : Given kind) → InOrder (givenChecks kind t) (1
 given-order Readings t = inl (refl, inr (inl (refl, tt)))
 
 planned-order : (kind : Kind) (t : Given kind) (n : ℕ) (Short : Type 0) (q : Query) (l : Lent)
-    → InOrder (plannedChecks (givenChecks kind t) n Short q l) ((1 ∷ 2 ∷ 3 ∷ 4 ∷ []) ++ rowNumbers (rows (q .plan)) ++ (8 ∷ 9 ∷ 10 ∷ 11 ∷ 12 ∷ 13 ∷ []))
+    → InOrder (plannedChecks (givenChecks kind t) n Short q l)
+    ((1 ∷ 2 ∷ 3 ∷ 4 ∷ []) ++ rowNumbers (rows (q .plan)) ++ (8 ∷ 9 ∷ 10 ∷ 11 ∷ 12 ∷ 13 ∷ []))
 planned-order kind t n Short q l =
     let p = q .plan in
     in-both (givenChecks kind t ++ (4 when WrongLists p ∷ []) ++ rowsChecks n p (rows p)) _ ((1 ∷ 2 ∷ 3 ∷ 4 ∷ []) ++ rowNumbers (rows p)) _
     (in-both (givenChecks kind t ++ (4 when WrongLists p ∷ [])) (rowsChecks n p (rows p)) (1 ∷ 2 ∷ 3 ∷ 4 ∷ []) (rowNumbers (rows p))
-    (in-both (givenChecks kind t) (4 when WrongLists p ∷ []) (1 ∷ 2 ∷ 3 ∷ []) (4 ∷ []) (given-order kind t) (inl (refl, tt))) (rows-order n p (rows p)))
+    (in-both (givenChecks kind t) (4 when WrongLists p ∷ []) (1 ∷ 2 ∷ 3 ∷ []) (4 ∷ []) (given-order kind t) (inl (refl, tt)))
+    (rows-order n p (rows p)))
     (lists-order Short (WorkTooShort q l))
 
 -- ---- states
 -- an answer that is a state or a refusal, by its definitions of number and members
-pub record Hands {S R : Type 0} (numberOf : R → ℕ) (membersOf : R → List Float → List Float) (state : S → R) (refusedBy : ℕ → R) (list : S → List Float) : Type 0 where
+pub record Hands {S R : Type 0} (numberOf : R → ℕ) (membersOf : R → List Float → List Float) (state : S → R) (refusedBy : ℕ → R)
+    (list : S → List Float) : Type 0 where
   pub state-number : (s : S) → numberOf (state s) ≡ 0
   pub refused-number : (n : ℕ) → numberOf (refusedBy n) ≡ n
   pub state-members : (s : S) (before : List Float) → membersOf (state s) before ≡ list s
   pub refused-members : (n : ℕ) (before : List Float) → membersOf (refusedBy n) before ≡ before
 
 -- an accepted call has the number 0, and leaves the state
-pub taken : {S R : Type 0} {numberOf : R → ℕ} {membersOf : R → List Float → List Float} {state : S → R} {refusedBy : ℕ → R} {list : S → List Float}
+pub taken : {S R : Type 0} {numberOf : R → ℕ} {membersOf : R → List Float → List Float} {state : S → R} {refusedBy : ℕ → R}
+    {list : S → List Float}
     → Hands numberOf membersOf state refusedBy list → (number : ℕ) (s : S) (before after : List Float)
     → StateResult numberOf membersOf (answer state refusedBy number s) before 0 after → (number ≡ 0) × (after ≡ list s)
 unfolding answer
-taken {numberOf = numberOf} {membersOf} {state} {refusedBy} {list} laws number s before after c = go (eqb number 0) refl (c .number) (c .state)
+taken {numberOf = numberOf} {membersOf} {state} {refusedBy} {list} laws number s before after c = go (eqb number 0) refl (c .number)
+    (c .state)
   where
-    go : (b : Bool) → eqb number 0 ≡ b → 0 ≡ numberOf (cond b (state s) (refusedBy number)) → after ≡ membersOf (cond b (state s) (refusedBy number)) before
+    go : (b : Bool) → eqb number 0 ≡ b → 0 ≡ numberOf (cond b (state s) (refusedBy number)) → after
+        ≡ membersOf (cond b (state s) (refusedBy number)) before
         → (number ≡ 0) × (after ≡ list s)
     go true e n m = (eqb-true number 0 e, m ∙ laws .state-members s before)
     go false e n m = absurd (eqb-false number 0 e (sym (n ∙ laws .refused-number number)))
 
-handed : {S R : Type 0} {numberOf : R → ℕ} {membersOf : R → List Float → List Float} {state : S → R} {refusedBy : ℕ → R} {list : S → List Float}
-    → Hands numberOf membersOf state refusedBy list → {checks : List Check} (number : ℕ) → Says checks number → (s : S) (before after : List Float) (r : ℕ)
+handed : {S R : Type 0} {numberOf : R → ℕ} {membersOf : R → List Float → List Float} {state : S → R} {refusedBy : ℕ → R}
+    {list : S → List Float}
+    → Hands numberOf membersOf state refusedBy list → {checks : List Check} (number : ℕ) → Says checks number
+    → (s : S) (before after : List Float) (r : ℕ)
     → StateResult numberOf membersOf (answer state refusedBy number s) before r after → Answered checks r before after (after ≡ list s)
 unfolding answer
 handed {numberOf = numberOf} {membersOf} {state} {refusedBy} {list} laws {checks} number says s before after r c =
     go (eqb number 0) refl (c .number) (c .state)
   where
-    go : (b : Bool) → eqb number 0 ≡ b → r ≡ numberOf (cond b (state s) (refusedBy number)) → after ≡ membersOf (cond b (state s) (refusedBy number)) before
+    go : (b : Bool) → eqb number 0 ≡ b → r ≡ numberOf (cond b (state s) (refusedBy number)) → after
+        ≡ membersOf (cond b (state s) (refusedBy number)) before
         → Answered checks r before after (after ≡ list s)
     go true e n m =
         let z : r ≡ number = n ∙ laws .state-number s ∙ sym (eqb-true number 0 e) in
         answered (subst (Says checks) (sym z) says) (λ x. m ∙ laws .state-members s before) (λ x. absurd (x (n ∙ laws .state-number s)))
     go false e n m =
         let z : r ≡ number = n ∙ laws .refused-number number in
-        answered (subst (Says checks) (sym z) says) (λ x. absurd (eqb-false number 0 e (sym z ∙ x))) (λ x. m ∙ laws .refused-members number before)
+        answered (subst (Says checks) (sym z) says) (λ x. absurd (eqb-false number 0 e (sym z ∙ x)))
+        (λ x. m ∙ laws .refused-members number before)
 
 pub var-hands : Hands varNumber varMembers var.State var.Refused varList
 var-hands = record { state-number = λ s. refl; refused-number = λ n. refl; state-members = λ s b. refl; refused-members = λ n b. refl }
@@ -339,8 +358,10 @@ pearson-hands = record { state-number = λ s. refl; refused-number = λ n. refl;
 plans : (q : Query) (t : GivenTo q) (l₀ l : Lent) (r : ℕ) → Called q t l₀ l r → Answered (planChecks q t l₀) r l₀ l (Left q t l₀ l 0)
 plans q t l₀ l r c =
     let h = some-list q t l₀ l r (c .left) in
-    let says = planned-say (q .plan) (placesOf (kindOf (q .statistic)) t) false (shortestOutput (l₀ .outputs)) (workWidth (q .statistic)) (length (l₀ .work))
-    (given-says (kindOf (q .statistic)) t) (outputs-short (rows (q .plan)) (l₀ .outputs) h) (outputs-short-true (rows (q .plan)) (l₀ .outputs) h) in
+    let says = planned-say (q .plan) (placesOf (kindOf (q .statistic)) t) false (shortestOutput (l₀ .outputs))
+    (workWidth (q .statistic)) (length (l₀ .work))
+    (given-says (kindOf (q .statistic)) t) (outputs-short (rows (q .plan)) (l₀ .outputs) h)
+    (outputs-short-true (rows (q .plan)) (l₀ .outputs) h) in
     answered (subst (Says (planChecks q t l₀)) (sym (c .number-is)) says) (left-zero q t l₀ l r (c .left)) (lent-kept q t l₀ l r (c .left))
 
 -- 14 and the reading list, by the kind
@@ -353,7 +374,8 @@ short-readings Readings h r = ltb-true _ _
 short-readings-true : (kind : Kind) (h : Host kind) (r : ReadingLists kind) → ReadingsShorter kind h r → shortLists kind h r ≡ true
 short-readings-true Readings h r = lt-ltb _ _
 
-readings-kept : (kind : Kind) (h : Host kind) (r₀ r : ReadingLists kind) (number : ℕ) → r ≡ decodedLists kind number h r₀ → ¬ (number ≡ 0) → r ≡ r₀
+readings-kept : (kind : Kind) (h : Host kind) (r₀ r : ReadingLists kind) (number : ℕ) → r ≡ decodedLists kind number h r₀
+    → ¬ (number ≡ 0) → r ≡ r₀
 readings-kept Readings h r₀ r number e some = e ∙ sym (unfilled (readingAt (h .bytes)) number (readingCount h) r₀ some)
 
 hosts : (q : Query) (h : Host (kindOf (q .statistic))) (r₀ r : ReadingLists (kindOf (q .statistic))) (l₀ l : Lent) (number : ℕ)
@@ -364,13 +386,19 @@ hosts q h r₀ r l₀ l number c =
     let t = decodedOf kind h in
     let o = some-list q t l₀ l number (c .left) in
     let says = odd-says kind h
-    next planned-say (q .plan) (placesOf kind t) (shortLists kind h r₀) (shortestOutput (l₀ .outputs)) (workWidth (q .statistic)) (length (l₀ .work))
+    next planned-say (q .plan) (placesOf kind t) (shortLists kind h r₀) (shortestOutput (l₀ .outputs)) (workWidth (q .statistic))
+    (length (l₀ .work))
     (given-says kind t)
     (either _ _ (short-readings kind h r₀) (outputs-short (rows (q .plan)) (l₀ .outputs) o))
     (either-true _ _ (short-readings-true kind h r₀) (outputs-short-true (rows (q .plan)) (l₀ .outputs) o)) in
     answered (subst (Says (hostChecks q h r₀ l₀)) (sym (c .number-is)) says)
-    (λ e. record { readings-are = subst (λ (n : ℕ). r ≡ decodedLists kind n h r₀) e (c .readings-are); left = left-zero q t l₀ l number (c .left) e })
-    (λ e. ap (λ (x : ReadingLists kind). (x, l)) (readings-kept kind h r₀ r number (c .readings-are) e) ∙ ap (λ (m : Lent). (r₀, m)) (lent-kept q t l₀ l number (c .left) e))
+    (λ e. record {
+      readings-are = subst (λ (n : ℕ). r ≡ decodedLists kind n h r₀) e (c .readings-are);
+      left = left-zero q t l₀ l number
+          (c .left) e;
+    })
+    (λ e. ap (λ (x : ReadingLists kind). (x, l)) (readings-kept kind h r₀ r number (c .readings-are) e)
+    ∙ ap (λ (m : Lent). (r₀, m)) (lent-kept q t l₀ l number (c .left) e))
 
 fixed : (center : Bool) (windowSize minPeriods : ℕ) (a : Statistic) (t : Given (kindOf a)) (l₀ l : Lent) (r : ℕ)
     → CalledFixed center windowSize minPeriods a t l₀ l r
@@ -381,7 +409,8 @@ fixed center windowSize minPeriods a t l₀ l r c =
     let n = placesOf (kindOf a) t in
     let w = c .plan-call .left in
     let h = some-list q t l₀ l r w in
-    let says = behind (given-says (kindOf a) t) (check 12 _ (some 11) (outputs-short n (l₀ .outputs) h) (outputs-short-true n (l₀ .outputs) h)) (more 13 _ _ (some 12)) in
+    let says = behind (given-says (kindOf a) t)
+    (check 12 _ (some 11) (outputs-short n (l₀ .outputs) h) (outputs-short-true n (l₀ .outputs) h)) (more 13 _ _ (some 12)) in
     answered (subst (Says (fixedChecks windowSize a t l₀)) (sym (c .number-is)) says) (left-zero q t l₀ l r w) (lent-kept q t l₀ l r w)
 
 weighted : (center : Bool) (windowSize minPeriods : ℕ) (weights : List Float) (t : Trace) (c₀ c : Column) (r : ℕ)
@@ -401,15 +430,18 @@ weighted center windowSize minPeriods weights t c₀ c r call =
     (λ e. subst (λ (m : ℕ). c ≡ columnAfter m row n c₀) e (call .column-is))
     (λ e. call .column-is ∙ sym (column-is (unfilled _ r n (c₀ .doubles) e) (unfilled _ r n (c₀ .bytes) e)))
   where
-    pair-shorter : min (length (c₀ .doubles)) (length (c₀ .bytes)) < length (t .readings) → (length (c₀ .doubles) < length (t .readings)) ⊎ (length (c₀ .bytes) < length (t .readings))
+    pair-shorter : min (length (c₀ .doubles)) (length (c₀ .bytes)) < length (t .readings)
+        → (length (c₀ .doubles) < length (t .readings)) ⊎ (length (c₀ .bytes) < length (t .readings))
     pair-shorter h = go (shorter (length (c₀ .doubles)) (length (c₀ .bytes) ∷ []) (length (t .readings)) h)
       where
-        go : SomeShorter (length (c₀ .doubles) ∷ length (c₀ .bytes) ∷ []) (length (t .readings)) → (length (c₀ .doubles) < length (t .readings)) ⊎ (length (c₀ .bytes) < length (t .readings))
+        go : SomeShorter (length (c₀ .doubles) ∷ length (c₀ .bytes) ∷ []) (length (t .readings))
+            → (length (c₀ .doubles) < length (t .readings)) ⊎ (length (c₀ .bytes) < length (t .readings))
         go (inl a) = inl a
         go (inr (inl a)) = inr a
         go (inr (inr a)) = absurd a
 
-    pair-shorter-back : (length (c₀ .doubles) < length (t .readings)) ⊎ (length (c₀ .bytes) < length (t .readings)) → min (length (c₀ .doubles)) (length (c₀ .bytes)) < length (t .readings)
+    pair-shorter-back : (length (c₀ .doubles) < length (t .readings)) ⊎ (length (c₀ .bytes) < length (t .readings))
+        → min (length (c₀ .doubles)) (length (c₀ .bytes)) < length (t .readings)
     pair-shorter-back (inl a) = omega arith
     pair-shorter-back (inr a) = omega arith
 
@@ -435,6 +467,8 @@ demand-one =
       range-order = λ t s n. inr (inl (refl, inr (inl (refl, inr (inr (inr (inr (inl (refl, tt)))))))));
       plan-order = λ q t l. in-later (planChecks q t l) (14 ∷ []) _ (planned-order (kindOf (q .statistic)) t _ _ q l);
       host-order = λ q h r l. inl (refl, planned-order (kindOf (q .statistic)) (decodedOf (kindOf (q .statistic)) h) _ _ q l);
-      fixed-order = λ s a t l. in-later (fixedChecks s a t l) (14 ∷ []) _ (in-both (givenChecks (kindOf a) t) _ (1 ∷ 2 ∷ 3 ∷ []) (4 ∷ 8 ∷ 9 ∷ 10 ∷ 11 ∷ 12 ∷ 13 ∷ []) (given-order (kindOf a) t) (inr (lists-order (OutputShorter (l .outputs) (placesOf (kindOf a) t)) (FixedWorkTooShort a s (placesOf (kindOf a) t) l))));
+      fixed-order = λ s a t l. in-later (fixedChecks s a t l) (14 ∷ []) _
+          (in-both (givenChecks (kindOf a) t) _ (1 ∷ 2 ∷ 3 ∷ []) (4 ∷ 8 ∷ 9 ∷ 10 ∷ 11 ∷ 12 ∷ 13 ∷ []) (given-order (kindOf a) t)
+          (inr (lists-order (OutputShorter (l .outputs) (placesOf (kindOf a) t)) (FixedWorkTooShort a s (placesOf (kindOf a) t) l))));
       weights-order = λ s w t c. inr (inl (refl, inr (inl (refl, inr (inl (refl, inl (refl, inl (refl, inr (inl (refl, tt))))))))));
     }

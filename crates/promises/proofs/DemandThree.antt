@@ -1,5 +1,5 @@
--- Demand 3: two calls' rows depend on the same; a variance's weight is the valid count, which tells where it is missing. The first is proved
--- in a stronger form: where the same rows move both windows, which is so where both traces have a map or neither. Assumes nothing.
+-- Demand 3: two calls' rows depend on the same; a variance's weight is the valid count, which tells where it is missing. The first is
+-- proved in a stronger form: where the same rows move both windows, which is so where both traces have a map or neither. Assumes nothing.
 use Prim.Native.Nat.{ℕ, zero, suc, _+_, _-_, _≤_, _<_}
 use mathlib.Core.Path.{_≡_, refl, sym, ap, _∙_}
 use mathlib.Core.Bool.{Bool, true, false, cond, _||_}
@@ -49,7 +49,8 @@ abbrev pub SameMoves : (q : Query) (t t′ : GivenTo q) → ℕ → Type 0
 SameMoves q t t′ k = (j : ℕ) → j < k → movesAt q t j ≡ movesAt q t′ j
 
 -- a map for both traces, or for neither
-pub both-or-neither : (q : Query) (t t′ : GivenTo q) (k : ℕ) → seriesOf (kindOf (q .statistic)) t .places .mapped ≡ seriesOf (kindOf (q .statistic)) t′ .places .mapped → SameMoves q t t′ k
+pub both-or-neither : (q : Query) (t t′ : GivenTo q) (k : ℕ) → seriesOf (kindOf (q .statistic)) t .places .mapped
+    ≡ seriesOf (kindOf (q .statistic)) t′ .places .mapped → SameMoves q t t′ k
 both-or-neither q t t′ k e j h = rw e
 
 -- a row that is long enough moves every window
@@ -62,19 +63,24 @@ long-moves m minPeriods k s e h = rw (le-leb minPeriods (e - s) h) (go m (eqb k 
     go false false = refl
 
 -- no row but row 0 is shorter than the minimum
-pub none-shorter : (q : Query) (t t′ : GivenTo q) (k : ℕ) → ((j : ℕ) → 0 < j → j < k → q .minPeriods ≤ rowEnd (q .plan) j - rowStart (q .plan) j)
+pub none-shorter : (q : Query) (t t′ : GivenTo q) (k : ℕ)
+    → ((j : ℕ) → 0 < j → j < k → q .minPeriods ≤ rowEnd (q .plan) j - rowStart (q .plan) j)
     → SameMoves q t t′ k
-none-shorter q t t′ k f zero h = go (seriesOf (kindOf (q .statistic)) t .places .mapped) (seriesOf (kindOf (q .statistic)) t′ .places .mapped)
+none-shorter q t t′ k f zero h = go (seriesOf (kindOf (q .statistic)) t .places .mapped)
+    (seriesOf (kindOf (q .statistic)) t′ .places .mapped)
   where
-    go : (m m′ : Bool) → moves m (q .minPeriods) 0 (rowStart (q .plan) 0) (rowEnd (q .plan) 0) ≡ moves m′ (q .minPeriods) 0 (rowStart (q .plan) 0) (rowEnd (q .plan) 0)
+    go : (m m′ : Bool) → moves m (q .minPeriods) 0 (rowStart (q .plan) 0) (rowEnd (q .plan) 0) ≡ moves m′ (q .minPeriods) 0
+        (rowStart (q .plan) 0) (rowEnd (q .plan) 0)
     go true true = refl
     go true false = refl
     go false true = refl
     go false false = refl
 none-shorter q t t′ k f (suc j) h =
     let l = f (suc j) (omega arith) h in
-    long-moves (seriesOf (kindOf (q .statistic)) t .places .mapped) (q .minPeriods) (suc j) (rowStart (q .plan) (suc j)) (rowEnd (q .plan) (suc j)) l
-    ∙ sym (long-moves (seriesOf (kindOf (q .statistic)) t′ .places .mapped) (q .minPeriods) (suc j) (rowStart (q .plan) (suc j)) (rowEnd (q .plan) (suc j)) l)
+    long-moves (seriesOf (kindOf (q .statistic)) t .places .mapped) (q .minPeriods) (suc j) (rowStart (q .plan) (suc j))
+    (rowEnd (q .plan) (suc j)) l
+    ∙ sym (long-moves (seriesOf (kindOf (q .statistic)) t′ .places .mapped) (q .minPeriods) (suc j) (rowStart (q .plan) (suc j))
+    (rowEnd (q .plan) (suc j)) l)
 
 one-of : (a b : Bool) → T (a || b) → (a ≡ true) ⊎ (b ≡ true)
 one-of true b h = inl refl
@@ -86,7 +92,8 @@ not-few h g (inl p) = absurd (omega arith)
 not-few h g (inr p) = absurd (omega arith)
 
 -- ---- one trace
-module _ (p : Plan) (minPeriods : ℕ) (t : Trace) (widest : ℕ) (plan : Planned (length (t .readings)) widest p) (few : length (t .readings) ≤ 16777216) where
+module _ (p : Plan) (minPeriods : ℕ) (t : Trace) (widest : ℕ) (plan : Planned (length (t .readings)) widest p)
+    (few : length (t .readings) ≤ 16777216) where
   module _ (ddof : ℕ) (byte : ddof < 256) (k : ℕ) (h : k < rows p) where
     abbrev w : Series Float
     w = seriesOf Readings t
@@ -111,18 +118,21 @@ module _ (p : Plan) (minPeriods : ℕ) (t : Trace) (widest : ℕ) (plan : Planne
     value = notNegative (state .dp ⊘ (state .weight ⊖ ofNat64 ddof))
 
     figure-is : B .start ≡ s → B .end ≡ e
-        → figureOf variance (λ z. varFinalize z ddof) w B ≡ orNan (nonfiniteCount (w .places) s e) (cond (leb N ddof) Missing (Present value))
+        → figureOf variance (λ z. varFinalize z ddof) w B ≡ orNan (nonfiniteCount (w .places) s e)
+        (cond (leb N ddof) Missing (Present value))
     unfolding figureOf
     figure-is x y =
         let n = few in
         let r = plan .row k h in
         let i = lies (w .places .valid) (t .mapped) minPeriods (length (t .readings)) widest p plan (suc k) h in
         let b = count-le (w .places .valid) (λ j. j) s e in
-        let m : length (front w B) + length (back w B) ≡ N = two-counts (w .places .valid) (w .entry) (B .start) (B .split) (B .end) (i .start-le) (i .split-le) ∙ many-chosen (w .places .valid) (w .entry) (B .start) (B .end) ∙ rw (x, y) in
+        let m : length (front w B) + length (back w B) ≡ N = two-counts (w .places .valid) (w .entry) (B .start) (B .split) (B .end)
+        (i .start-le) (i .split-le) ∙ many-chosen (w .places .valid) (w .entry) (B .start) (B .end) ∙ rw (x, y) in
         let o : length (back w B) + length (front w B) ≡ N = omega arith in
         let f = var-parts-count (back w B) (front w B) (omega arith) ∙ ap ofNat64 o in
         let d : nonfiniteCount (w .places) (B .start) (B .end) ≡ nonfiniteCount (w .places) s e = rw (x, y) in
-        ap (λ (z : ℕ). orNan z (varFinalize state ddof)) d ∙ ap (orNan (nonfiniteCount (w .places) s e)) (var-missing N (omega arith) state ddof byte f)
+        ap (λ (z : ℕ). orNan z (varFinalize state ddof)) d
+        ∙ ap (orNan (nonfiniteCount (w .places) s e)) (var-missing N (omega arith) state ddof byte f)
 
     -- row k's answer for a variance
     abbrev Answered : Figure
@@ -132,10 +142,12 @@ module _ (p : Plan) (minPeriods : ℕ) (t : Trace) (widest : ℕ) (plan : Planne
     unfolding answerAt answerOf
     shape =
         go (leb minPeriods (counted (w .places) s e)) refl
-        ∙ ap (λ (z : ℕ). cond (leb minPeriods z) (orNan (nonfiniteCount (w .places) s e) (cond (leb N ddof) Missing (Present value))) Missing) (counted-is Readings t s e)
+        ∙ ap (λ (z : ℕ). cond (leb minPeriods z)
+        (orNan (nonfiniteCount (w .places) s e) (cond (leb N ddof) Missing (Present value))) Missing) (counted-is Readings t s e)
       where
         go : (b : Bool) → leb minPeriods (counted (w .places) s e) ≡ b
-            → cond b (figureOf variance (λ z. varFinalize z ddof) w B) Missing ≡ cond b (orNan (nonfiniteCount (w .places) s e) (cond (leb N ddof) Missing (Present value))) Missing
+            → cond b (figureOf variance (λ z. varFinalize z ddof) w B) Missing ≡ cond b
+            (orNan (nonfiniteCount (w .places) s e) (cond (leb N ddof) Missing (Present value))) Missing
         go true x = let f = row-account (w .places) minPeriods p k x in figure-is (f .0) (f .1)
         go false x = refl
 
@@ -144,7 +156,8 @@ module _ (p : Plan) (minPeriods : ℕ) (t : Trace) (widest : ℕ) (plan : Planne
     some-nonfinite (i, p, o, v, f) z =
         let b : w .places .nonfinite i ≡ true = rw (v, f) in
         let d = simp length-append at (ap length (entries-split (w .places .nonfinite) (λ j. j) s i e p (omega arith))) in
-        let g : entries (w .places .nonfinite) (λ j. j) i e ≡ i ∷ entries (w .places .nonfinite) (λ j. j) (suc i) e = entries-cons (w .places .nonfinite) (λ j. j) i e o ∙ rw b in
+        let g : entries (w .places .nonfinite) (λ j. j) i e ≡ i ∷ entries (w .places .nonfinite) (λ j. j) (suc i) e = entries-cons
+        (w .places .nonfinite) (λ j. j) i e o ∙ rw b in
         let j = ap length g in
         omega arith
 
@@ -189,20 +202,24 @@ pub record SameRow (k : ℕ) (l l′ : Lent) : Type 0 where
 
 -- the demand's first part, of any two traces of which the same rows move the window, and of counts too
 pub same-moves-same-row : (q : Query) (t t′ : GivenTo q) (l l′ : Lent) → AcceptedCall q t l → AcceptedCall q t′ l′
-    → ((i : ℕ) → i < placesOf (kindOf (q .statistic)) t → seriesOf (kindOf (q .statistic)) t .places .valid i ≡ seriesOf (kindOf (q .statistic)) t′ .places .valid i)
-    → (k : ℕ) → k < rows (q .plan) → SameMoves q t t′ k → Agree (kindOf (q .statistic)) t t′ (rowStart (q .plan) k) (rowEnd (q .plan) k) → SameRow k l l′
+    → ((i : ℕ) → i < placesOf (kindOf (q .statistic)) t → seriesOf (kindOf (q .statistic)) t .places .valid i
+    ≡ seriesOf (kindOf (q .statistic)) t′ .places .valid i)
+    → (k : ℕ) → k < rows (q .plan) → SameMoves q t t′ k → Agree (kindOf (q .statistic)) t t′ (rowStart (q .plan) k) (rowEnd (q .plan) k)
+    → SameRow k l l′
 same-moves-same-row q t t′ l l′ c c′ places k h m g =
     let a = known q t l c in
     let a′ = known q t′ l′ c′ in
     let kind = kindOf (q .statistic) in
     record {
       answers = a .answers k h
-          ∙ figures-same kind (momentOf (q .statistic)) (finalsOf (q .statistic)) t t′ (q .minPeriods) (placesOf kind t) (a .widest) (q .plan) (a .plan) places k h m g
+          ∙ figures-same kind (momentOf (q .statistic)) (finalsOf (q .statistic)) t t′ (q .minPeriods) (placesOf kind t) (a .widest)
+          (q .plan) (a .plan) places k h m g
           ∙ sym (a′ .answers k h);
       counts = a .counts k h ∙ sym (a′ .counts k h);
     }
 
-where-variance : (a : Statistic) → IsSetting a → (t : Given (kindOf a)) (p : Plan) (minPeriods : ℕ) (l : Lent) → AcceptedCall (query p minPeriods a) t l
+where-variance : (a : Statistic) → IsSetting a → (t : Given (kindOf a)) (p : Plan) (minPeriods : ℕ) (l : Lent)
+    → AcceptedCall (query p minPeriods a) t l
     → (k : ℕ) → k < rows p → WhereVariance a t p minPeriods k l
 where-variance (Variance ddof) byte t p minPeriods l c k h =
     let a = known (query p minPeriods (Variance ddof)) t l c in
@@ -218,7 +235,8 @@ where-variance (Kurtosis fisher bias) set t p minPeriods l c k h = tt
 pub demand-three : DemandThree
 demand-three =
     record {
-      two = λ q t t′ l l′ alike c c′ k h g. same-moves-same-row q t t′ l l′ c c′ (alike .places) k h (both-or-neither q t t′ k (alike .mapped)) g .answers;
+      two = λ q t t′ l l′ alike c c′ k h g. same-moves-same-row q t t′ l l′ c c′ (alike .places) k h
+          (both-or-neither q t t′ k (alike .mapped)) g .answers;
       one = λ q t l set c k h.
           record {
             account = known q t l c .answers k h;

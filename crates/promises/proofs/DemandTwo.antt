@@ -45,13 +45,16 @@ use Rattle.weighted.specs.Weights.{totalOf, weightedAt, CalledWeights}
 use Rattle.weighted.proofs.WeightedRows.{weights-accepted}
 use Rattle.promises.specs.SourceStates.{VarState·clearZeroWeightNan, VarState·insertOne, VarState·combine, VarState·finalize}
 use Rattle.promises.specs.SourceStates.{SkewState·clearZeroWeightNan, SkewState·insertOne, SkewState·combine, SkewState·finalize}
-use Rattle.promises.specs.SourceStates.{KurtosisState·clearZeroWeightNan, KurtosisState·insertOne, KurtosisState·combine, KurtosisState·finalize}
+use Rattle.promises.specs.SourceStates.{KurtosisState·clearZeroWeightNan, KurtosisState·insertOne, KurtosisState·combine}
+use Rattle.promises.specs.SourceStates.{KurtosisState·finalize}
 use Rattle.promises.specs.Rust.{Rust}
 use Rattle.promises.specs.SourceRows.{planRow, rowOf}
 use Rattle.promises.specs.SourceFixed.{fixedRow}
 use Rattle.promises.specs.SourceWeights.{rollingVarWeights}
-use Rattle.promises.specs.Calls.{readingsOf, readingsIn, pairsOf, varList, skewList, kurtosisList, covList, pearsonList, AcceptedCall, fixedCall}
-use Rattle.promises.specs.DemandTwo.{StatesEqual, ArraysEqual, RangesEqual, varianceMoment, skewMoment, kurtosisMoment, sourceRows, sourceFixedRows, CorrectRoot, DemandTwo}
+use Rattle.promises.specs.Calls.{readingsOf, readingsIn, pairsOf, varList, skewList, kurtosisList, covList, pearsonList}
+use Rattle.promises.specs.Calls.{AcceptedCall, fixedCall}
+use Rattle.promises.specs.DemandTwo.{StatesEqual, ArraysEqual, RangesEqual, varianceMoment, skewMoment, kurtosisMoment, sourceRows}
+use Rattle.promises.specs.DemandTwo.{sourceFixedRows, CorrectRoot, DemandTwo}
 use Rattle.promises.proofs.SourceStates.{var-insert, var-combine, var-finalize, cov-insert, cov-combine, cov-finalize}
 use Rattle.promises.proofs.SourceStates.{pearson-insert, pearson-combine, pearson-finalize, skew-insert, skew-combine, skew-finalize}
 use Rattle.promises.proofs.SourceStates.{kurtosis-insert, kurtosis-combine, kurtosis-finalize}
@@ -84,20 +87,26 @@ states =
     record {
       var = λ s o x d. (ap (λ f. f s x) (sym var-insert), ap (λ f. f s o) (sym var-combine), ap (λ f. f s d) (sym var-finalize));
       cov = λ s o x y d. (ap (λ f. f s x y) (sym cov-insert), ap (λ f. f s o) (sym cov-combine), ap (λ f. f s d) (sym cov-finalize));
-      pearson = λ s o x y. (ap (λ f. f s x y) (sym pearson-insert), ap (λ f. f s o) (sym pearson-combine), ap (λ f. f s) (sym pearson-finalize));
+      pearson = λ s o x y.
+          (ap (λ f. f s x y) (sym pearson-insert), ap (λ f. f s o) (sym pearson-combine), ap (λ f. f s) (sym pearson-finalize));
       skew = λ s o x b. (ap (λ f. f s x) (sym skew-insert), ap (λ f. f s o) (sym skew-combine), ap (λ f. f s b) (sym skew-finalize));
-      kurtosis = λ s o x f b. (ap (λ g. g s x) (sym kurtosis-insert), ap (λ g. g s o) (sym kurtosis-combine), sym (kurtosis-finalize s f b));
+      kurtosis = λ s o x f b.
+          (ap (λ g. g s x) (sym kurtosis-insert), ap (λ g. g s o) (sym kurtosis-combine), sym (kurtosis-finalize s f b));
     }
 
 -- ---- whole arrays and ranges: an accepted call is refused by nothing and leaves the state of our definition, which is the source's
 arrays : ArraysEqual
 arrays =
     record {
-      var = λ rust t b a c. let k = taken var-hands (traceRefusal t) (varWhole (readingsOf t)) b a c in k .1 ∙ ap varList (sym (var-array rust t (k .0)));
-      skew = λ rust t b a c. let k = taken skew-hands (traceRefusal t) (skewWhole (readingsOf t)) b a c in k .1 ∙ ap skewList (sym (skew-array rust t (k .0)));
+      var = λ rust t b a c. let k = taken var-hands (traceRefusal t) (varWhole (readingsOf t)) b a c in k .1
+          ∙ ap varList (sym (var-array rust t (k .0)));
+      skew = λ rust t b a c. let k = taken skew-hands (traceRefusal t) (skewWhole (readingsOf t)) b a c in k .1
+          ∙ ap skewList (sym (skew-array rust t (k .0)));
       kurtosis = λ rust t b a c.
-          let k = taken kurtosis-hands (traceRefusal t) (kurtosisWhole (readingsOf t)) b a c in k .1 ∙ ap kurtosisList (sym (kurtosis-array rust t (k .0)));
-      cov = λ rust x y b a c. let k = taken cov-hands _ (covWhole (pairsOf x y)) b a c in k .1 ∙ ap covList (sym (cov-array rust x y (k .0)));
+          let k = taken kurtosis-hands (traceRefusal t) (kurtosisWhole (readingsOf t)) b a c in k .1
+          ∙ ap kurtosisList (sym (kurtosis-array rust t (k .0)));
+      cov = λ rust x y b a c. let k = taken cov-hands _ (covWhole (pairsOf x y)) b a c in k .1
+          ∙ ap covList (sym (cov-array rust x y (k .0)));
       pearson = λ rust x y b a c.
           let k = taken pearson-hands _ (pearsonWhole (pairsOf x y)) b a c in k .1 ∙ ap pearsonList (sym (pearson-array rust x y (k .0)));
     }
@@ -105,9 +114,11 @@ arrays =
 ranges : RangesEqual
 ranges =
     record {
-      skew = λ rust t s n b a c. let k = taken skew-hands _ (skewNew (readingsIn t s n)) b a c in k .1 ∙ ap skewList (sym (skew-range rust t s n (k .0)));
+      skew = λ rust t s n b a c. let k = taken skew-hands _ (skewNew (readingsIn t s n)) b a c in k .1
+          ∙ ap skewList (sym (skew-range rust t s n (k .0)));
       kurtosis = λ rust t s n b a c.
-          let k = taken kurtosis-hands _ (kurtosisNew (readingsIn t s n)) b a c in k .1 ∙ ap kurtosisList (sym (kurtosis-range rust t s n (k .0)));
+          let k = taken kurtosis-hands _ (kurtosisNew (readingsIn t s n)) b a c in k .1
+          ∙ ap kurtosisList (sym (kurtosis-range rust t s n (k .0)));
     }
 
 -- ---- the rows of a driver over our moments
@@ -123,9 +134,11 @@ module _ (rust : Rust) (M : Moment Float) (neutral : Neutral M) (t : Trace) (acc
   -- of a plan that is in order
   module _ (widest : ℕ) (p : Plan) (plan : Planned (length (t .readings)) widest p) (k : ℕ) (h : k < rows p) where
     rows-same : (finals : List (M .State → Figure)) →
-        answersAt (figuresBy M finals (seriesOf Readings t) minPeriods p) k ≡ answersAt (rowsBy M (λ f. planRow M rust f t minPeriods p) finals) k
+        answersAt (figuresBy M finals (seriesOf Readings t) minPeriods p) k ≡ answersAt
+        (rowsBy M (λ f. planRow M rust f t minPeriods p) finals) k
     rows-same [] = refl
-    rows-same (final ∷ finals) = ap ofFigure (sym (plan-row M rust neutral final t minPeriods widest p plan few (map-long t accepted) k h)) then rows-same finals
+    rows-same (final ∷ finals) =
+        ap ofFigure (sym (plan-row M rust neutral final t minPeriods widest p plan few (map-long t accepted) k h)) then rows-same finals
 
   -- of fixed windows
   fixed-same : (center : Bool) (size : ℕ) → size < 2 ^ 64 → (k : ℕ) → k < length (t .readings) → (finals : List (M .State → Figure)) →
@@ -137,22 +150,27 @@ module _ (rust : Rust) (M : Moment Float) (neutral : Neutral M) (t : Trace) (acc
 
 -- ---- the source's moments are ours, so a driver gives the same rows over both
 module _ (row : (M : Moment Float) → (M .State → Figure) → ℕ → Figure) where
-  variance-rows : (ddof : ℕ) → (row varianceMoment (λ s. VarState·finalize s ddof) ∷ []) ≡ rowsBy variance (row variance) (finalsOf (Variance ddof))
+  variance-rows : (ddof : ℕ) → (row varianceMoment (λ s. VarState·finalize s ddof) ∷ [])
+      ≡ rowsBy variance (row variance) (finalsOf (Variance ddof))
   unfolding VarState·insertOne VarState·combine VarState·clearZeroWeightNan VarState·finalize varClear varCombine varFinalize
   variance-rows ddof = refl
 
-  skewness-rows : (bias : Bool) → (row skewMoment (λ s. SkewState·finalize s bias) ∷ []) ≡ rowsBy skewness (row skewness) (finalsOf (Skewness bias))
+  skewness-rows : (bias : Bool) → (row skewMoment (λ s. SkewState·finalize s bias) ∷ [])
+      ≡ rowsBy skewness (row skewness) (finalsOf (Skewness bias))
   unfolding SkewState·insertOne SkewState·combine SkewState·clearZeroWeightNan SkewState·finalize skewClear skewCombine skewBiased skewFinalize
   skewness-rows bias = refl
 
   kurtosis-rows : (fisher bias : Bool)
-      → (row kurtosisMoment (λ s. KurtosisState·finalize s fisher bias) ∷ []) ≡ rowsBy kurtosis (row kurtosis) (finalsOf (Kurtosis fisher bias))
+      → (row kurtosisMoment (λ s. KurtosisState·finalize s fisher bias) ∷ []) ≡ rowsBy kurtosis (row kurtosis)
+      (finalsOf (Kurtosis fisher bias))
   unfolding KurtosisState·insertOne KurtosisState·combine KurtosisState·clearZeroWeightNan kurtosisClear kurtosisCombine
   kurtosis-rows fisher bias = λ i. row kurtosis (λ s. kurtosis-finalize s fisher bias i) ∷ []
 
 -- ---- by what is asked
-sourced : (rust : Rust) (a : Statistic) (t : Given (kindOf a)) → givenRefusal (kindOf a) t ≡ 0 → (minPeriods widest : ℕ) (p : Plan) → Planned (placesOf (kindOf a) t) widest p
-    → (k : ℕ) → k < rows p → answersAt (figuresBy (momentOf a) (finalsOf a) (seriesOf (kindOf a) t) minPeriods p) k ≡ answersAt (sourceRows rust a t minPeriods p) k
+sourced : (rust : Rust) (a : Statistic) (t : Given (kindOf a)) → givenRefusal (kindOf a) t ≡ 0 → (minPeriods widest : ℕ) (p : Plan)
+    → Planned (placesOf (kindOf a) t) widest p
+    → (k : ℕ) → k < rows p → answersAt (figuresBy (momentOf a) (finalsOf a) (seriesOf (kindOf a) t) minPeriods p) k
+    ≡ answersAt (sourceRows rust a t minPeriods p) k
 sourced rust (Variance ddof) t g m w p o k h =
     rows-same rust variance var-neutral t g m w p o k h (finalsOf (Variance ddof))
     ∙ ap (λ (l : List (ℕ → Figure)). answersAt l k) (sym (variance-rows (λ M f. planRow M rust f t m p) ddof))
@@ -175,7 +193,8 @@ module _ (rust : Rust) (minPeriods : ℕ) (center : Bool) (size : ℕ) (fits : s
   at k l = answersAt l k
 
   fixed-sourced : (a : Statistic) (t : Given (kindOf a)) → givenRefusal (kindOf a) t ≡ 0 → (k : ℕ) → k < placesOf (kindOf a) t
-      → answersAt (sourceRows rust a t minPeriods (bounds center size (placesOf (kindOf a) t))) k ≡ answersAt (sourceFixedRows rust a t minPeriods center size) k
+      → answersAt (sourceRows rust a t minPeriods (bounds center size (placesOf (kindOf a) t))) k ≡ answersAt
+      (sourceFixedRows rust a t minPeriods center size) k
   fixed-sourced (Variance ddof) t g k h =
       ap (at k) (variance-rows (byPlan t) ddof)
       ∙ fixed-same rust variance var-neutral t g minPeriods center size fits k h (finalsOf (Variance ddof))
@@ -213,7 +232,8 @@ unfolding filled
 weighted rust center size minPeriods weights t c₀ c fits d k h =
     let n = length (t .readings) in
     let a = weights-accepted size weights t c₀ (d .number-is) {total = totalOf weights} refl in
-    let s = weights-many (traceRefusal t) (t .mapped) n size (length weights) (totalOf weights) (min (length (c₀ .doubles)) (length (c₀ .bytes))) (d .number-is) in
+    let s = weights-many (traceRefusal t) (t .mapped) n size (length weights) (totalOf weights)
+    (min (length (c₀ .doubles)) (length (c₀ .bytes))) (d .number-is) in
     rw (
       d .column-is,
       table-at (λ (j : ℕ). doubleOf (weightedAt center size minPeriods weights (t .readings) j)) n k (drop n (c₀ .doubles)) nan h,

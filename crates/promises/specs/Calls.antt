@@ -10,8 +10,10 @@ use Rattle.moment.specs.declared.cov_state.CovState.{CovState}
 use Rattle.moment.specs.declared.pearson_state.PearsonState.{PearsonState}
 use Rattle.moment.specs.declared.skew_state.SkewState.{SkewState}
 use Rattle.moment.specs.declared.kurtosis_state.KurtosisState.{KurtosisState}
-use Rattle.moment.specs.Arrays.{varAnswer, varNumber, varMembers, covAnswer, covNumber, covMembers, pearsonAnswer, pearsonNumber, pearsonMembers}
-use Rattle.moment.specs.Arrays.{skewAnswer, skewRange, skewNumber, skewMembers, kurtosisAnswer, kurtosisRange, kurtosisNumber, kurtosisMembers, rangeReadings}
+use Rattle.moment.specs.Arrays.{varAnswer, varNumber, varMembers, covAnswer, covNumber, covMembers, pearsonAnswer, pearsonNumber}
+use Rattle.moment.specs.Arrays.{pearsonMembers}
+use Rattle.moment.specs.Arrays.{skewAnswer, skewRange, skewNumber, skewMembers, kurtosisAnswer, kurtosisRange, kurtosisNumber}
+use Rattle.moment.specs.Arrays.{kurtosisMembers, rangeReadings}
 use Rattle.window.specs.Given.{Given}
 use Rattle.window.specs.Outputs.{Lent}
 use Rattle.rolling.specs.Moments.{Statistic, kindOf}
@@ -31,7 +33,8 @@ CallsSkew t before after r = StateResult skewNumber skewMembers (skewAnswer (t .
 
 -- `moments_kurtosis`
 abbrev pub CallsKurtosis : Trace → List Float → List Float → ℕ → Type 0
-CallsKurtosis t before after r = StateResult kurtosisNumber kurtosisMembers (kurtosisAnswer (t .readings) (t .mapped) (t .map)) before r after
+CallsKurtosis t before after r = StateResult kurtosisNumber kurtosisMembers
+    (kurtosisAnswer (t .readings) (t .mapped) (t .map)) before r after
 
 -- `moments_cov`
 abbrev pub CallsCov : Trace → Trace → List Float → List Float → ℕ → Type 0
@@ -41,7 +44,8 @@ CallsCov x y before after r =
 -- `moments_pearson_corr`
 abbrev pub CallsPearson : Trace → Trace → List Float → List Float → ℕ → Type 0
 CallsPearson x y before after r =
-    StateResult pearsonNumber pearsonMembers (pearsonAnswer (x .readings) (x .mapped) (x .map) (y .readings) (y .mapped) (y .map)) before r after
+    StateResult pearsonNumber pearsonMembers
+    (pearsonAnswer (x .readings) (x .mapped) (x .map) (y .readings) (y .mapped) (y .map)) before r after
 
 -- `moments_skew_range`
 abbrev pub CallsSkewRange : Trace → ℕ → ℕ → List Float → List Float → ℕ → Type 0

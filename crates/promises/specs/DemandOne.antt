@@ -73,11 +73,12 @@ OtherCount weights windowSize = ¬ (length weights ≡ windowSize)
 abbrev pub RangePastTrace : ℕ → ℕ → ℕ → Type 0
 RangePastTrace n start len = n < start + len
 
--- "The host's programmer: 12 an output list shorter than the rows": one of the lists that are so long
+-- some of these lengths are below the rows
 abbrev pub SomeShorter : List ℕ → ℕ → Type 0
 SomeShorter [] rows = ⊥
 SomeShorter (a ∷ lengths) rows = (a < rows) ⊎ SomeShorter lengths rows
 
+-- "The host's programmer: 12 an output list shorter than the rows"
 abbrev pub OutputShorter : Outputs → ℕ → Type 0
 OutputShorter l rows = SomeShorter (answerLengths (l .answers) ++ countLengths (l .counts)) rows
 
@@ -104,6 +105,7 @@ pub record Check : Type 1 where
   pub Applies : Type 0
 
 infix 80 _when_
+-- a check as document 01 lists it: the number, then its condition
 abbrev pub _when_ : ℕ → Type 0 → Check
 number when condition = record { number = number; Applies = condition }
 
@@ -158,7 +160,8 @@ plannedChecks given n Short q l =
 -- a plan call
 abbrev pub planChecks : (q : Query) → GivenTo q → Lent → List Check
 planChecks q t l =
-    plannedChecks (givenChecks (kindOf (q .statistic)) t) (placesOf (kindOf (q .statistic)) t) (OutputShorter (l .outputs) (rows (q .plan))) q l
+    plannedChecks (givenChecks (kindOf (q .statistic)) t) (placesOf (kindOf (q .statistic)) t)
+    (OutputShorter (l .outputs) (rows (q .plan))) q l
 
 -- a host call: "14 before all"
 abbrev pub hostChecks : (q : Query) → (h : Host (kindOf (q .statistic))) → ReadingLists (kindOf (q .statistic)) → Lent → List Check
@@ -186,11 +189,12 @@ weightsChecks windowSize weights t c =
     ∷ []
 
 -- ---- their order
--- "Checks run in number order, 14 before all; in a plan from row 0, each row tested for 5, 6, 7": of a plan of so many rows
+-- "in a plan from row 0, each row tested for 5, 6, 7": the numbers of so many rows
 unfoldable pub rowNumbers : ℕ → List ℕ
 rowNumbers zero = []
 rowNumbers (suc k) = rowNumbers k ++ (5 ∷ 6 ∷ 7 ∷ [])
 
+-- "Checks run in number order, 14 before all": those that there are of a plan of so many rows
 abbrev pub order : ℕ → List ℕ
 order rows = (14 ∷ 1 ∷ 2 ∷ 3 ∷ 4 ∷ []) ++ rowNumbers rows ++ (8 ∷ 9 ∷ 10 ∷ 11 ∷ 12 ∷ 13 ∷ [])
 
@@ -220,7 +224,8 @@ pub record Answered (checks : List Check) (number : ℕ) {A : Type 0} (before af
   pub unchanged : ¬ (number ≡ 0) → after ≡ before
 
 -- what an accepted host call leaves: the readings decoded, and what the plan call on them leaves
-pub record HostLeft (q : Query) (h : Host (kindOf (q .statistic))) (r₀ r : ReadingLists (kindOf (q .statistic))) (l₀ l : Lent) : Type 0 where
+pub record HostLeft (q : Query) (h : Host (kindOf (q .statistic))) (r₀ r : ReadingLists (kindOf (q .statistic)))
+    (l₀ l : Lent) : Type 0 where
   pub readings-are : r ≡ decodedLists (kindOf (q .statistic)) 0 h r₀
   pub left : Left q (decodedOf (kindOf (q .statistic)) h) l₀ l 0
 
@@ -247,7 +252,8 @@ pub record DemandOne : Type 1 where
   pub plans : (q : Query) (t : GivenTo q) (l₀ l : Lent) (r : ℕ) → Called q t l₀ l r → Answered (planChecks q t l₀) r l₀ l (Left q t l₀ l 0)
   -- host calls, the trace as bytes
   pub hosts : (q : Query) (h : Host (kindOf (q .statistic))) (r₀ r : ReadingLists (kindOf (q .statistic))) (l₀ l : Lent) (number : ℕ)
-      → CalledBytes q h r₀ r l₀ l number → Answered (hostChecks q h r₀ l₀) number {A = ReadingLists (kindOf (q .statistic)) × Lent} (r₀, l₀) (r, l)
+      → CalledBytes q h r₀ r l₀ l number
+      → Answered (hostChecks q h r₀ l₀) number {A = ReadingLists (kindOf (q .statistic)) × Lent} (r₀, l₀) (r, l)
       (HostLeft q h r₀ r l₀ l)
   -- fixed windows
   pub fixed : (center : Bool) (windowSize minPeriods : ℕ) (a : Statistic) (t : Given (kindOf a)) (l₀ l : Lent) (r : ℕ)
@@ -271,4 +277,5 @@ pub record DemandOne : Type 1 where
   pub host-order : (q : Query) (h : Host (kindOf (q .statistic))) (r : ReadingLists (kindOf (q .statistic))) (l : Lent)
       → InOrder (hostChecks q h r l) (order (rows (q .plan)))
   pub fixed-order : (windowSize : ℕ) (a : Statistic) (t : Given (kindOf a)) (l : Lent) → InOrder (fixedChecks windowSize a t l) (order 0)
-  pub weights-order : (windowSize : ℕ) (weights : List Float) (t : Trace) (c : Column) → InOrder (weightsChecks windowSize weights t c) (order 0)
+  pub weights-order : (windowSize : ℕ) (weights : List Float) (t : Trace) (c : Column)
+      → InOrder (weightsChecks windowSize weights t c) (order 0)

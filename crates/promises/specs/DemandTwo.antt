@@ -1,7 +1,7 @@
--- Demand 2: "For traces of up to 16,777,216 readings, any missing places and any accepted plan, every state and figure equals the Rust's with
--- the stand-ins that document 01 lists, save the empty trace on which the Rust panics and we give no rows, and the square root is IEEE 754's
--- correctly rounded one." The Rust is transcribed in the files Source*; what it defines for some arguments only is any `Rust`. Assumes
--- nothing.
+-- Demand 2: "For traces of up to 16,777,216 readings, any missing places and any accepted plan, every state and figure equals the Rust's
+-- with the stand-ins that document 01 lists, save the empty trace on which the Rust panics and we give no rows, and the square root is
+-- IEEE 754's correctly rounded one." The Rust is transcribed in the files Source*; what it defines for some arguments only is any `Rust`.
+-- Assumes nothing.
 use Prim.Native.Nat.{ℕ, zero, suc, _^_, _<_}
 use mathlib.Core.Path.{_≡_}
 use mathlib.Core.Bool.{Bool, true, false}
@@ -33,8 +33,10 @@ use Rattle.weighted.specs.Weights.{CalledWeights}
 use Rattle.promises.specs.Rust.{Rust}
 use Rattle.promises.specs.SourceStates.{VarState·default, VarState·new, VarState·insertOne, VarState·combine, VarState·finalize}
 use Rattle.promises.specs.SourceStates.{CovState·default, CovState·new, CovState·insertOne, CovState·combine, CovState·finalize}
-use Rattle.promises.specs.SourceStates.{PearsonState·default, PearsonState·new, PearsonState·insertOne, PearsonState·combine, PearsonState·finalize}
-use Rattle.promises.specs.SourceStates.{SkewState·default, SkewState·fromIter, SkewState·new, SkewState·insertOne, SkewState·combine, SkewState·finalize}
+use Rattle.promises.specs.SourceStates.{PearsonState·default, PearsonState·new, PearsonState·insertOne, PearsonState·combine}
+use Rattle.promises.specs.SourceStates.{PearsonState·finalize}
+use Rattle.promises.specs.SourceStates.{SkewState·default, SkewState·fromIter, SkewState·new, SkewState·insertOne}
+use Rattle.promises.specs.SourceStates.{SkewState·combine, SkewState·finalize}
 use Rattle.promises.specs.SourceStates.{KurtosisState·default, KurtosisState·fromIter, KurtosisState·new}
 use Rattle.promises.specs.SourceStates.{KurtosisState·insertOne, KurtosisState·combine, KurtosisState·finalize}
 use Rattle.promises.specs.SourceArrays.{arrayOf, wholeArray, pairArrays, fromArray}
@@ -48,15 +50,21 @@ use Rattle.promises.specs.Calls.{varList, skewList, kurtosisList, covLis
 -- "every state .. equals the Rust's": each method that a host can call, of any set of floats
 pub record StatesEqual : Type 0 where
   pub var : (s o : VarState) (x : Float) (ddof : ℕ)
-      → (varInsert s x ≡ VarState·insertOne s x) × (varCombine s o ≡ VarState·combine s o) × (varFinalize s ddof ≡ VarState·finalize s ddof)
+      → (varInsert s x ≡ VarState·insertOne s x)
+      × (varCombine s o ≡ VarState·combine s o)
+      × (varFinalize s ddof ≡ VarState·finalize s ddof)
   pub cov : (s o : CovState) (x y : Float) (ddof : ℕ)
-      → (covInsert s x y ≡ CovState·insertOne s x y) × (covCombine s o ≡ CovState·combine s o) × (covFinalize s ddof ≡ CovState·finalize s ddof)
+      → (covInsert s x y ≡ CovState·insertOne s x y)
+      × (covCombine s o ≡ CovState·combine s o)
+      × (covFinalize s ddof ≡ CovState·finalize s ddof)
   pub pearson : (s o : PearsonState) (x y : Float)
       → (pearsonInsert s x y ≡ PearsonState·insertOne s x y)
       × (pearsonCombine s o ≡ PearsonState·combine s o)
       × (pearsonFinalize s ≡ PearsonState·finalize s)
   pub skew : (s o : SkewState) (x : Float) (bias : Bool)
-      → (skewInsert s x ≡ SkewState·insertOne s x) × (skewCombine s o ≡ SkewState·combine s o) × (skewFinalize s bias ≡ SkewState·finalize s bias)
+      → (skewInsert s x ≡ SkewState·insertOne s x)
+      × (skewCombine s o ≡ SkewState·combine s o)
+      × (skewFinalize s bias ≡ SkewState·finalize s bias)
   pub kurtosis : (s o : KurtosisState) (x : Float) (fisher bias : Bool)
       → (kurtosisInsert s x ≡ KurtosisState·insertOne s x)
       × (kurtosisCombine s o ≡ KurtosisState·combine s o)
@@ -78,7 +86,8 @@ abbrev pub sourceCov : Rust → Trace → Trace → List Float
 sourceCov rust x y = covList (pairArrays CovState·new CovState·combine CovState·default (arrayOf rust x) (arrayOf rust y))
 
 abbrev pub sourcePearson : Rust → Trace → Trace → List Float
-sourcePearson rust x y = pearsonList (pairArrays PearsonState·new PearsonState·combine PearsonState·default (arrayOf rust x) (arrayOf rust y))
+sourcePearson rust x y =
+    pearsonList (pairArrays PearsonState·new PearsonState·combine PearsonState·default (arrayOf rust x) (arrayOf rust y))
 
 -- `SkewState::from_array` and `KurtosisState::from_array`
 abbrev pub sourceSkewRange : Rust → Trace → ℕ → ℕ → List Float
@@ -95,6 +104,7 @@ pub record ArraysEqual : Type 0 where
   pub cov : (rust : Rust) (x y : Trace) (before after : List Float) → CallsCov x y before after 0 → after ≡ sourceCov rust x y
   pub pearson : (rust : Rust) (x y : Trace) (before after : List Float) → CallsPearson x y before after 0 → after ≡ sourcePearson rust x y
 
+-- the same of ranges
 pub record RangesEqual : Type 0 where
   pub skew : (rust : Rust) (t : Trace) (start len : ℕ) (before after : List Float) → CallsSkewRange t start len before after 0
       → after ≡ sourceSkewRange rust t start len
@@ -110,13 +120,15 @@ abbrev pub skewMoment : Moment Float
 skewMoment = record { State = SkewState; empty = SkewState·default; insert = SkewState·insertOne; combine = SkewState·combine }
 
 abbrev pub kurtosisMoment : Moment Float
-kurtosisMoment = record { State = KurtosisState; empty = KurtosisState·default; insert = KurtosisState·insertOne; combine = KurtosisState·combine }
+kurtosisMoment =
+    record { State = KurtosisState; empty = KurtosisState·default; insert = KurtosisState·insertOne; combine = KurtosisState·combine }
 
 -- the rows of the Rust's `rolling_apply_agg_window`, driven with the plan's rows: 003 with a map, 002 without one
 abbrev pub sourceRows : Rust → (a : Statistic) → Given (kindOf a) → ℕ → Plan → List (ℕ → Figure)
 sourceRows rust (Variance ddof) t minPeriods p = planRow varianceMoment rust (λ s. VarState·finalize s ddof) t minPeriods p ∷ []
 sourceRows rust (Skewness bias) t minPeriods p = planRow skewMoment rust (λ s. SkewState·finalize s bias) t minPeriods p ∷ []
-sourceRows rust (Kurtosis fisher bias) t minPeriods p = planRow kurtosisMoment rust (λ s. KurtosisState·finalize s fisher bias) t minPeriods p ∷ []
+sourceRows rust (Kurtosis fisher bias) t minPeriods p =
+    planRow kurtosisMoment rust (λ s. KurtosisState·finalize s fisher bias) t minPeriods p ∷ []
 
 -- the rows of the Rust's `rolling_var`, `rolling_skew` or `rolling_kurtosis`: "005 with a map, 004 without"
 abbrev pub sourceFixedRows : Rust → (a : Statistic) → Given (kindOf a) → ℕ → Bool → ℕ → List (ℕ → Figure)
@@ -146,9 +158,9 @@ WeightedRowsEqual rust center windowSize minPeriods weights t c =
     → answersIn (c ∷ []) k ≡ ofFigure (rowOf (rollingVarWeights rust (t .readings) windowSize minPeriods center weights) k) ∷ []
 
 -- ---- root
--- r is "IEEE 754's correctly rounded" root of x: "For a positive finite double, the double nearest the exact root, ties to even .. +0, -0 and
--- plus infinity give themselves; numbers below zero, minus infinity too, and NaN give NaN." Of a root there is no tie: `Nearest` says
--- that every other double is further from it.
+-- r is "IEEE 754's correctly rounded" root of x: "For a positive finite double, the double nearest the exact root, ties to even .. +0, -0
+-- and plus infinity give themselves; numbers below zero, minus infinity too, and NaN give NaN." Of a root there is no tie: `Nearest`
+-- says that every other double is further from it.
 abbrev pub CorrectRoot : Float → Float → Type 0
 CorrectRoot (fin false (suc m) e) r = Nearest (fin false (suc m) e) r
 CorrectRoot (fin false zero e) r = r ≡ fin false zero e

@@ -7,7 +7,8 @@ use Rattle.demands.proofs.hosts.two_plans_kurtosis.Tie as tie
 returns : tie.Need-returns
 returns c =
     let d = c .before .before .before .before .before .before .before .before in
-    two-hosts-meet (d .before .before .before .before .before .before .before .before .before .before .before .before .before .moments-plan-kurtosis .ensures) (d .moments-plan-kurtosis2 .ensures)
+    let e = d .before .before .before .before .before .before .before .before .before .before .before .before .before in
+    two-hosts-meet (e .moments-plan-kurtosis .ensures) (d .moments-plan-kurtosis2 .ensures)
 
 pub two-plans-kurtosis-spec : {M : Type 1} → statement M
 two-plans-kurtosis-spec =

@@ -7,7 +7,8 @@ use Rattle.demands.proofs.hosts.two_plans_var.Tie as tie
 returns : tie.Need-returns
 returns c =
     let d = c .before .before .before .before .before .before .before .before in
-    two-hosts-meet (d .before .before .before .before .before .before .before .before .before .before .before .before .before .moments-plan-var .ensures) (d .moments-plan-var2 .ensures)
+    let e = d .before .before .before .before .before .before .before .before .before .before .before .before .before .moments-plan-var in
+    two-hosts-meet (e .ensures) (d .moments-plan-var2 .ensures)
 
 pub two-plans-var-spec : {M : Type 1} → statement M
 two-plans-var-spec =

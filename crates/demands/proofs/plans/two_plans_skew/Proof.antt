@@ -7,7 +7,8 @@ use Rattle.demands.proofs.plans.two_plans_skew.Tie as tie
 returns : tie.Need-returns
 returns c =
     let d = c .before .before .before .before .before .before in
-    two-plans-meet (d .before .before .before .before .before .before .before .before .before .before .plan-skew .ensures) (d .plan-skew2 .ensures)
+    let e = d .before .before .before .before .before .before .before .before .before .before .plan-skew in
+    two-plans-meet (e .ensures) (d .plan-skew2 .ensures)
 
 pub two-plans-skew-spec : {M : Type 1} → statement M
 two-plans-skew-spec =

@@ -7,7 +7,8 @@ use Rattle.demands.proofs.plans.two_plans_var.Tie as tie
 returns : tie.Need-returns
 returns c =
     let d = c .before .before .before .before .before .before in
-    two-plans-meet (d .before .before .before .before .before .before .before .before .before .before .plan-var .ensures) (d .plan-var2 .ensures)
+    let e = d .before .before .before .before .before .before .before .before .before .before .plan-var in
+    two-plans-meet (e .ensures) (d .plan-var2 .ensures)
 
 pub two-plans-var-spec : {M : Type 1} → statement M
 two-plans-var-spec =

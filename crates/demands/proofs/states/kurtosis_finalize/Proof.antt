@@ -5,7 +5,8 @@ use Rattle.demands.proofs.states.kurtosis_finalize.Statement.{statement
 use Rattle.demands.proofs.states.kurtosis_finalize.Tie as tie
 
 returns : tie.Need-returns
-returns c = let a = c .before .before .args in figure-meets (c .moments-kurtosis-finalize .ensures) (kurtosis-finalize (a .state) (a .fisher) (a .bias))
+returns c = let a = c .before .before .args in
+    figure-meets (c .moments-kurtosis-finalize .ensures) (kurtosis-finalize (a .state) (a .fisher) (a .bias))
 
 pub kurtosis-finalize-spec : {M : Type 1} → statement M
 kurtosis-finalize-spec =

@@ -7,7 +7,8 @@ use Rattle.demands.proofs.windows.two_rolling_skew.Tie as tie
 returns : tie.Need-returns
 returns c =
     let d = c .before .before .before .before .before .before in
-    two-fixed-meet (d .before .before .before .before .before .before .before .before .before .before .moments-rolling-skew .ensures) (d .moments-rolling-skew2 .ensures)
+    let e = d .before .before .before .before .before .before .before .before .before .before .moments-rolling-skew in
+    two-fixed-meet (e .ensures) (d .moments-rolling-skew2 .ensures)
 
 pub two-rolling-skew-spec : {M : Type 1} → statement M
 two-rolling-skew-spec =
