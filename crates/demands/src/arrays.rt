@@ -30,7 +30,8 @@ pub fn cov(
     y_map: &[u8],
     state: &mut [f64; 4],
 ) -> u32
-    ensures { λ r. ⌜ MeetsArray (ofCov (tracing x «x_has_map» «x_map») (tracing y «y_has_map» «y_map»)) (entering state) (leaving state) r ⌝ }
+    ensures { λ r. ⌜ MeetsArray (ofCov (tracing x «x_has_map» «x_map») (tracing y «y_has_map» «y_map»))
+        (entering state) (leaving state) r ⌝ }
 {
     moments::moments_cov(x, x_has_map, x_map, y, y_has_map, y_map, state)
 }
@@ -44,7 +45,8 @@ pub fn pearson_corr(
     y_map: &[u8],
     state: &mut [f64; 6],
 ) -> u32
-    ensures { λ r. ⌜ MeetsArray (ofPearson (tracing x «x_has_map» «x_map») (tracing y «y_has_map» «y_map»)) (entering state) (leaving state) r ⌝ }
+    ensures { λ r. ⌜ MeetsArray (ofPearson (tracing x «x_has_map» «x_map») (tracing y «y_has_map» «y_map»))
+        (entering state) (leaving state) r ⌝ }
 {
     moments::moments_pearson_corr(x, x_has_map, x_map, y, y_has_map, y_map, state)
 }

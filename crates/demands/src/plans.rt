@@ -52,7 +52,8 @@ pub fn two_plans_var(
     y_figures: &mut [f64],
     y_present: &mut [u8],
 ) -> Numbers
-    ensures { λ r. ⌜ MeetTwoPlans (querying starts ends «min_periods» (Variance ddof)) (tracing x «x_has_map» «x_map») (tracing y «y_has_map» «y_map»)
+    ensures { λ r. ⌜ MeetTwoPlans (querying starts ends «min_periods» (Variance ddof))
+        (tracing x «x_has_map» «x_map») (tracing y «y_has_map» «y_map»)
         (lending «x_work» «x_figures» «x_present») (lending «y_work» «y_figures» «y_present») (r .first) (r .second) ⌝ }
 {
     let first = rolling::plan_var(
@@ -129,7 +130,8 @@ pub fn two_plans_skew(
     y_figures: &mut [f64],
     y_present: &mut [u8],
 ) -> Numbers
-    ensures { λ r. ⌜ MeetTwoPlans (querying starts ends «min_periods» (Skewness bias)) (tracing x «x_has_map» «x_map») (tracing y «y_has_map» «y_map»)
+    ensures { λ r. ⌜ MeetTwoPlans (querying starts ends «min_periods» (Skewness bias))
+        (tracing x «x_has_map» «x_map») (tracing y «y_has_map» «y_map»)
         (lending «x_work» «x_figures» «x_present») (lending «y_work» «y_figures» «y_present») (r .first) (r .second) ⌝ }
 {
     let first = rolling::plan_skew(
@@ -209,7 +211,8 @@ pub fn two_plans_kurtosis(
     y_figures: &mut [f64],
     y_present: &mut [u8],
 ) -> Numbers
-    ensures { λ r. ⌜ MeetTwoPlans (querying starts ends «min_periods» (Kurtosis fisher bias)) (tracing x «x_has_map» «x_map») (tracing y «y_has_map» «y_map»)
+    ensures { λ r. ⌜ MeetTwoPlans (querying starts ends «min_periods» (Kurtosis fisher bias))
+        (tracing x «x_has_map» «x_map») (tracing y «y_has_map» «y_map»)
         (lending «x_work» «x_figures» «x_present») (lending «y_work» «y_figures» «y_present») (r .first) (r .second) ⌝ }
 {
     let first = rolling::plan_kurtosis(

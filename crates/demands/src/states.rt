@@ -65,7 +65,8 @@ pub fn kurtosis_combine(state: KurtosisState, other: KurtosisState) -> KurtosisS
 }
 
 pub fn kurtosis_finalize(state: KurtosisState, fisher: bool, bias: bool, figure: &mut f64) -> u8
-    ensures { λ r. ⌜ MeetsFigure (kurtosisFinalize state fisher bias) (KurtosisState·finalize state fisher bias) r (now (figure .entry)) (now (figure .exit)) ⌝ }
+    ensures { λ r. ⌜ MeetsFigure (kurtosisFinalize state fisher bias) (KurtosisState·finalize state fisher bias) r
+        (now (figure .entry)) (now (figure .exit)) ⌝ }
 {
     moments::moments_kurtosis_finalize(state, fisher, bias, figure)
 }

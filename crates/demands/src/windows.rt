@@ -1,5 +1,5 @@
-// Calls with fixed windows: one, of which all three demands speak, two of the same windows, setting and figure, of which the third does; and
-// with weights, of which the first two speak.
+// Calls with fixed windows: one, of which all three demands speak, two of the same windows, setting and figure, of which the third does;
+// and with weights, of which the first two speak.
 ghost use Rattle.trace.specs.Slices.{entering};
 ghost use Rattle.trace.specs.Trace.{tracing};
 ghost use Rattle.rolling.specs.Moments.{Variance, Skewness, Kurtosis};
@@ -55,7 +55,8 @@ pub fn two_rolling_var(
     y_figures: &mut [f64],
     y_present: &mut [u8],
 ) -> Numbers
-    ensures { λ r. ⌜ MeetTwoFixed center «window_size» «min_periods» (Variance ddof) (tracing x «x_has_map» «x_map») (tracing y «y_has_map» «y_map»)
+    ensures { λ r. ⌜ MeetTwoFixed center «window_size» «min_periods» (Variance ddof)
+        (tracing x «x_has_map» «x_map») (tracing y «y_has_map» «y_map»)
         (lending «x_work» «x_figures» «x_present») (lending «y_work» «y_figures» «y_present») (r .first) (r .second) ⌝ }
 {
     let first = moments::moments_rolling_var(
@@ -132,7 +133,8 @@ pub fn two_rolling_skew(
     y_figures: &mut [f64],
     y_present: &mut [u8],
 ) -> Numbers
-    ensures { λ r. ⌜ MeetTwoFixed center «window_size» «min_periods» (Skewness bias) (tracing x «x_has_map» «x_map») (tracing y «y_has_map» «y_map»)
+    ensures { λ r. ⌜ MeetTwoFixed center «window_size» «min_periods» (Skewness bias)
+        (tracing x «x_has_map» «x_map») (tracing y «y_has_map» «y_map»)
         (lending «x_work» «x_figures» «x_present») (lending «y_work» «y_figures» «y_present») (r .first) (r .second) ⌝ }
 {
     let first = moments::moments_rolling_skew(
@@ -212,7 +214,8 @@ pub fn two_rolling_kurtosis(
     y_figures: &mut [f64],
     y_present: &mut [u8],
 ) -> Numbers
-    ensures { λ r. ⌜ MeetTwoFixed center «window_size» «min_periods» (Kurtosis fisher bias) (tracing x «x_has_map» «x_map») (tracing y «y_has_map» «y_map»)
+    ensures { λ r. ⌜ MeetTwoFixed center «window_size» «min_periods» (Kurtosis fisher bias)
+        (tracing x «x_has_map» «x_map») (tracing y «y_has_map» «y_map»)
         (lending «x_work» «x_figures» «x_present») (lending «y_work» «y_figures» «y_present») (r .first) (r .second) ⌝ }
 {
     let first = moments::moments_rolling_kurtosis(

@@ -36,7 +36,7 @@ use Rattle.promises.specs.SourceStates.{CovState·default, CovState·new
 use Rattle.promises.specs.SourceStates.{PearsonState·default, PearsonState·new, PearsonState·combine}
 use Rattle.promises.specs.SourceStates.{SkewState·default, SkewState·fromIter, SkewState·new, SkewState·combine}
 use Rattle.promises.specs.SourceStates.{KurtosisState·default, KurtosisState·fromIter, KurtosisState·new, KurtosisState·combine}
-use Rattle.promises.specs.SourceArrays.{bitsOf, arrayOf, unsetBits, hasNulls, NoneMissing, thenSome, valuesWhere}
+use Rattle.promises.specs.SourceArrays.{bitsOf, arrayOf, unsetBits, hasNulls, thenSome, valuesWhere}
 use Rattle.promises.specs.SourceArrays.{optionsWhere, bothSome, stored, flushed, chunkAsFloat, combineNew, wholeArray}
 use Rattle.promises.specs.SourceArrays.{storedBinary, flushedBinary, chunkAsFloatBinary, combineNewBinary, pairArrays, optionsOf}
 use Rattle.promises.specs.SourceArrays.{nonNullValues, withUnset, sliced, setBits, rangeOf, fromRange, fromArray}
@@ -144,6 +144,10 @@ unfolding validFrom
 none-from valid p [] h = refl
 none-from valid p (x ∷ xs) h =
     rw (h p (omega arith) (omega arith), none-from valid (suc p) xs (λ i k l. h i (omega arith) (omega arith)))
+
+-- no place of the trace is missing: the source's `has_nulls` is false, though a map may be lent
+abbrev pub NoneMissing : ℕ → (ℕ → Bool) → Type 0
+NoneMissing n valid = (i : ℕ) → i < n → valid i ≡ true
 
 pub no-nulls : {A : Type 0} (valid : ℕ → Bool) (xs : List A) → NoneMissing (length xs) valid → validFrom valid 0 xs ≡ xs
 no-nulls valid xs h = none-from valid 0 xs (λ i k l. h i (omega arith))

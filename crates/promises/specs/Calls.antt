@@ -67,7 +67,7 @@ readingsIn t start len = rangeReadings (t .mapped) (t .map) (t .readings) start 
 abbrev pub pairsOf : Trace → Trace → List (Float × Float)
 pairsOf x y = validPairs (x .mapped) (x .map) (x .readings) (y .mapped) (y .map) (y .readings)
 
--- a state's members, "in the source's order"
+-- a state's members, in the order of the source's struct
 abbrev pub varList : VarState → List Float
 varList s = s .weight ∷ s .mean ∷ s .dp ∷ []
 

@@ -264,7 +264,7 @@ pub record DemandOne : Type 1 where
       → CalledWeights center windowSize minPeriods weights t c₀ c r
       → Answered (weightsChecks windowSize weights t c₀) r c₀ c
       (c ≡ columnAfter 0 (weightedAt center windowSize minPeriods weights (t .readings)) (length (t .readings)) c₀)
-  -- states and root: no number applies to such a call, and it answers what its definition gives
+  -- states and root: they have no check, so the demand asks of them what their contract says, here in its form
   pub states : {A : Type 0} (definition r : A) → r ≡ definition → Answered [] 0 {A = Unit {0}} tt tt (r ≡ definition)
   -- a state's figure, with the double that is lent for it
   pub figures : (figure : Figure) (byte : ℕ) (before after : Float) → FigureResult figure byte after

@@ -1,5 +1,5 @@
--- Demand 2: what is taken from Rust itself, the source's states, whole arrays and ranges, then its windows, rows and weights, as
--- functions on values; then demands 2 and 3; last the table of the P cases.
+-- The Rust as functions on values: what is taken from Rust itself, the source's states, whole arrays and ranges, then its windows, rows and
+-- weights; the kinds of call, and the three demands of them; last the table of the P cases.
 pub mod Rust
 pub mod SourceStates
 pub mod SourceArrays

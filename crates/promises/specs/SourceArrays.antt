@@ -1,7 +1,6 @@
 -- Demand 2, for whole arrays and ranges: 000's drivers as functions on values, as literally as lists allow; each definition is the
 -- function that its comment names. What an iterator gives is a list, and `as_`, of one double to another, nothing. Assumes nothing.
-use Prim.Native.Nat.{ℕ, suc, _<_}
-use mathlib.Core.Path.{_≡_}
+use Prim.Native.Nat.{ℕ, suc}
 use mathlib.Core.Bool.{Bool, true, false, cond, _||_}
 use mathlib.Core.List.{List, [], _∷_, _++_, foldl, map, zip, filterMap}
 use mathlib.Core.Option.{Option, none, some, Option·getD, Option·map}
@@ -43,10 +42,6 @@ nullCount arr = Option·getD (Option·map unsetBits (arr .validity)) 0
 -- `Array::has_nulls`: `null_count() > 0`
 abbrev pub hasNulls : PrimitiveArray → Bool
 hasNulls arr = ltb 0 (nullCount arr)
-
--- no place of the trace is missing: the source's `has_nulls` is false, though a map may be lent
-abbrev pub NoneMissing : ℕ → (ℕ → Bool) → Type 0
-NoneMissing n valid = (i : ℕ) → i < n → valid i ≡ true
 
 -- `v.then_some(x)` of a pair (x, v)
 abbrev pub thenSome : {A : Type 0} → A × Bool → Option A
