@@ -24,5 +24,10 @@ use Rattle.promises.specs.SourceRows.{rollingNoNulls, rollingNulls}
 use Rattle.promises.specs.Table.{every, cases}
 
 pub table : T (every cases)
-unfolding cases every ofBits toBits ofInt add sub mul div eq lt le zip zipWith root validAt bothAt validFrom refusal _orElse_ wrongMap varClear varCombine varFinalize pearsonNew pearsonCombine pearsonFinalize skewNew skewBiased skewFinalize kurtosisNew kurtosisBiased kurtosisFinalize chunks chunksOf inChunks answer entriesFrom splitAfter figureOf insertedAt nonfiniteAt answerAt planRefusal VarState·clearZeroWeightNan VarState·insertOne VarState·combine VarState·finalize PearsonState·new PearsonState·combine PearsonState·finalize SkewState·fromIter SkewState·finalize KurtosisState·fromIter KurtosisState·finalize unsetBits pairArrays fromArray rollingNoNulls rollingNulls
+unfolding cases every ofBits toBits ofInt add sub mul div eq lt le zip zipWith root validAt bothAt validFrom refusal _orElse_ wrongMap
+    varClear varCombine varFinalize pearsonNew pearsonCombine pearsonFinalize skewNew skewBiased skewFinalize kurtosisNew kurtosisBiased
+    kurtosisFinalize chunks chunksOf inChunks answer entriesFrom splitAfter figureOf insertedAt nonfiniteAt answerAt planRefusal
+    VarState·clearZeroWeightNan VarState·insertOne VarState·combine VarState·finalize PearsonState·new PearsonState·combine
+    PearsonState·finalize SkewState·fromIter SkewState·finalize KurtosisState·fromIter KurtosisState·finalize unsetBits pairArrays
+    fromArray rollingNoNulls rollingNulls
 table = tt
