@@ -595,7 +595,8 @@ unfolding every weightsStart
 trailing-weights-examples = tt
 
 -- centred weights: a window cut off at the start of the trace lacks the first of them, and one at the end the last
-pub centred-weights-examples : Hold (eqb (starts true 0 0 2) 1 ∷ eqb (starts true 1 0 3) 0 ∷ eqb (starts true 3 2 2) 0 ∷ [])
+pub centred-weights-examples :
+    Hold (eqb (starts true 0 0 1) 1 ∷ eqb (starts true 0 0 2) 1 ∷ eqb (starts true 1 0 3) 0 ∷ eqb (starts true 3 2 2) 0 ∷ [])
 unfolding every weightsStart
 centred-weights-examples = tt
 
