@@ -15,5 +15,6 @@ pub mod RowsSame
 pub mod DemandTwo
 pub mod DemandThree
 pub mod Witnesses
+pub mod Refused
 pub mod Examples
 pub mod Table

@@ -101,7 +101,7 @@ p8-accepted =
     }
 
 -- P9 with minimum 2
-abbrev p9Left : Lent
+abbrev pub p9Left : Lent
 p9Left = fourLeft 12 (two64 ∷ one64 ∷ one64 ∷ one64 ∷ []) (1 ∷ 7 ∷ 7 ∷ 7 ∷ [])
 
 pub p9-accepted : Called (varianceBy p9 2) trace9 (fourLent 12) p9Left 0
@@ -420,7 +420,8 @@ same-mapped =
 abbrev Claim : (Plan → Trace → Trace → ℕ → Type 0) → Type 0
 Claim Enough =
     (p : Plan) (minPeriods : ℕ) (t t′ : Trace) (l l′ : Lent) → AcceptedCall (varianceBy p minPeriods) t l
-    → AcceptedCall (varianceBy p minPeriods) t′ l′ → (k : ℕ) → k < rows p → Enough p t t′ k → answersIn (l .outputs .answers) k ≡ answersIn (l′ .outputs .answers) k
+    → AcceptedCall (varianceBy p minPeriods) t′ l′ → (k : ℕ) → k < rows p → Enough p t t′ k
+    → answersIn (l .outputs .answers) k ≡ answersIn (l′ .outputs .answers) k
 
 -- demand 3 itself makes it with this
 pub enough : Claim (λ p t t′ k. Alike Readings t t′ × Agree Readings t t′ (rowStart p k) (rowEnd p k))
