@@ -1,5 +1,5 @@
 -- Laws by subject: the source's states, whole arrays and ranges; the account over a plan; the source's windows, marks and rows, its
--- fixed windows and its weights; then the demands, accepted calls that bear witness, and the table.
+-- fixed windows and its weights; then the demands, accepted calls that bear witness, computed examples of the source, and the table.
 pub mod SourceStates
 pub mod Spans
 pub mod SourceArrays
@@ -15,4 +15,6 @@ pub mod RowsSame
 pub mod DemandTwo
 pub mod DemandThree
 pub mod Witnesses
+pub mod Refused
+pub mod Examples
 pub mod Table
