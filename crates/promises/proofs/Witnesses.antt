@@ -727,11 +727,11 @@ ones-row =
 pub ones-yielded : Yielded shortRow ones onesLeft 2
 unfolding ofBits ofInt add sub mul div eq lt le varClear varCombine varFinalize entriesFrom splitAfter figureOf insertedAt nonfiniteAt
     answerAt validAt
-ones-yielded = record { account = refl; variance = λ byte. record { answer = _; others = []; stands = refl; row = ones-row } }
+ones-yielded = record { account = refl; variance = record { answer = _; others = []; stands = refl; row = ones-row } }
 
--- and demand 3 said of P7's row 0, whose ddof is a byte
+-- and demand 3 said of P7's row 0, whose ddof is a byte (`IsSetting`)
 pub p7-row : VarianceIn trace7 p7 1 1 0 p7Left
-p7-row = demand-three .one (varianceBy p7 1) trace7 p7Left plan-call 0 (omega arith) .variance (omega arith)
+p7-row = demand-three .one (varianceBy p7 1) trace7 p7Left (omega arith) plan-call 0 (omega arith) .variance
 
 -- a call with trailing windows is not the call of the centred bounds: row 0 has one place, and not two
 pub trailing-not-centred :
