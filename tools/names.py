@@ -1,7 +1,7 @@
 #!/usr/bin/env python3
 """Every name in backticks and every edit that the documents cite exists: a renamed definition takes its citations along.
 
-Usage: names.py [DOCUMENT ...], in the repository; without arguments the documents below. Exit 1 with the names that are not found.
+Usage: names.py [DOCUMENT ...], in the repository; without arguments the documents below. Exit 1 with what is not found.
 The forms that the documents use, and where each is looked up:
 
     `crate File`, `crate File.name`, `.. .field`   specs/File.antt of that crate, the definition there, its field or constructor
@@ -14,6 +14,8 @@ The forms that the documents use, and where each is looked up:
     `crate/name`, and `name` after it in a list    an edit under must-fail/; any other path is a file or a folder
     `name`                                         what is defined so, in a crate or in Rust; a list of vectors; a crate
     any other text                                 stands so in a source, spaces apart, where .. is anything
+
+And no cell of a table of docs/PROMISES.md is over 300 characters: a promise is one sentence beside what carries it.
 """
 import fnmatch, glob, os, re, sys
 
@@ -148,7 +150,13 @@ for document in sys.argv[1:] or DOCUMENTS:
         if not glob.glob(found[0]):
             bad.append(f"{document}: {found[0]}")
 
+LONGEST = 300
+for at, line in enumerate(read("docs/PROMISES.md").split("\n"), 1):
+    for cell in line.strip().strip("|").split(" | ") if line.startswith("|") else []:
+        if len(cell) > LONGEST:
+            bad.append(f"docs/PROMISES.md:{at}: a cell of {len(cell)} characters")
+
 for name in bad:
-    print(f"names.py: not found: {name}")
-print(f"{looked} names looked up, {len(bad)} not found")
+    print(f"names.py: {name}")
+print(f"{looked} names looked up, {len(bad)} not found or too long")
 sys.exit(bool(bad) or looked == 0)
