@@ -219,6 +219,24 @@ seven-first =
       ),
     )
 
+-- Rows (1,3), (2,1): row 1 starts past its end, and ends below row 0. 5 is first.
+abbrev backwards : Plan
+backwards = planOf (1 ∷ 2 ∷ []) (3 ∷ 1 ∷ [])
+
+pub five-first : FirstApplies (planChecks (varianceBy backwards 1) trace7 (fourLent 8)) 5
+unfolding rowsChecks
+five-first =
+    inr (
+      λ h. omega arith,
+      inr (
+        λ h. apart (h .0),
+        inr (
+          λ h. ⊎-elim (λ g. g refl) (λ g. omega arith) h,
+          inr (λ h. omega arith, inr (λ h. omega arith, inr (λ h. h, inl (refl, omega arith)))),
+        ),
+      ),
+    )
+
 -- 14 of nine bytes, 13 of the work slice, 9 of the weights
 pub fourteen-first : FirstApplies (hostChecks (varianceBy p7 1) nineBytes (table (λ i. one64) 4) (fourLent 8)) 14
 unfolding table
