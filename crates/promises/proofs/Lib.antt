@@ -1,5 +1,6 @@
 -- Laws by subject: the source's states, whole arrays and ranges; the account over a plan; the source's windows, marks and rows, its
--- fixed windows and its weights; then the demands, accepted calls that bear witness, computed examples of the source, and the table.
+-- fixed windows and its weights; then the demands, accepted and refused calls that bear witness, computed examples of the source, and
+-- the table.
 pub mod SourceStates
 pub mod Spans
 pub mod SourceArrays

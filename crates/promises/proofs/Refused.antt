@@ -1,6 +1,6 @@
--- Each hypothesis of demand 1 is met, by computation: calls that hand out a state, accepted and refused, and refused calls of every kind
--- of window. Of each refusal it is worked from the checks alone which number applies first. And what the demand shuts out: a later
--- number, and a refusal that changes what is lent. Assumes nothing.
+-- Each hypothesis of demand 1, and of demand 2 for arrays and ranges, is met, by computation: calls that hand out a state, accepted and
+-- refused, and refused calls of every kind of window. Of each refusal it is worked from the checks alone which number applies first. And
+-- what demand 1 shuts out: a later number, and a refusal that changes what is lent. Assumes nothing.
 use Prim.Native.Nat.{ℕ, suc}
 use mathlib.Core.Path.{_≡_, refl, ap}
 use mathlib.Core.Bool.{true, false}
@@ -35,8 +35,11 @@ use Rattle.moments.specs.Results.{FigureResult}
 use Rattle.promises.specs.Calls.{CallsVar, CallsSkew, CallsKurtosis, CallsCov, CallsPearson, CallsSkewRange, CallsKurtosisRange}
 use Rattle.promises.specs.DemandOne.{Check, traceChecks, pairChecks, rangeChecks, planChecks, hostChecks, fixedChecks, weightsChecks}
 use Rattle.promises.specs.DemandOne.{rowsChecks, NoneApplies, FirstApplies, Answered}
+use Rattle.promises.specs.Rust.{someRust}
+use Rattle.promises.specs.DemandTwo.{sourceVar, sourceCov, sourceSkewRange}
 use Rattle.promises.specs.Table.{varianceBy, p7, trace7, p9, trace9}
 use Rattle.promises.proofs.DemandOne.{demand-one}
+use Rattle.promises.proofs.DemandTwo.{demand-two}
 use Rattle.promises.proofs.Witnesses.{fourColumn, fourLent, trace13, p9Left, p9-accepted}
 
 -- ---- traces
@@ -89,6 +92,16 @@ skew-range-accepted = record { number = refl; state = refl }
 pub kurtosis-range-accepted : CallsKurtosisRange (whole (9 ∷ 2 ∷ 4 ∷ 9 ∷ [])) 1 2 before (reals (2 ∷ 3 ∷ 2 ∷ 0 ∷ 2 ∷ [])) 0
 unfolding answer refusal _orElse_ wrongMap validFrom chunks chunksOf inChunks validAt ofBits ofInt add sub mul div eq kurtosisNew
 kurtosis-range-accepted = record { number = refl; state = refl }
+
+-- demand 2 said of an array, a pair and a range
+pub var-sourced : reals (2 ∷ 2 ∷ 2 ∷ []) ≡ sourceVar someRust trace13
+var-sourced = demand-two .arrays .var someRust trace13 before _ var-accepted
+
+pub cov-sourced : reals (2 ∷ 2 ∷ 4 ∷ 4 ∷ []) ≡ sourceCov someRust (whole (1 ∷ 3 ∷ [])) (whole (2 ∷ 6 ∷ []))
+cov-sourced = demand-two .arrays .cov someRust (whole (1 ∷ 3 ∷ [])) (whole (2 ∷ 6 ∷ [])) before _ cov-accepted
+
+pub skew-range-sourced : reals (2 ∷ 3 ∷ 2 ∷ 0 ∷ []) ≡ sourceSkewRange someRust (whole (9 ∷ 2 ∷ 4 ∷ 9 ∷ [])) 1 2
+skew-range-sourced = demand-two .ranges .skew someRust (whole (9 ∷ 2 ∷ 4 ∷ 9 ∷ [])) 1 2 before _ skew-range-accepted
 
 -- ---- and refused: by 3, by 2, by 11
 pub var-refused : CallsVar noBytes before before 3
@@ -215,6 +228,24 @@ seven-first =
               ),
             ),
           ),
+        ),
+      ),
+    )
+
+-- Rows (1,3), (2,1): row 1 starts past its end, and ends below row 0. 5 is first.
+abbrev backwards : Plan
+backwards = planOf (1 ∷ 2 ∷ []) (3 ∷ 1 ∷ [])
+
+pub five-first : FirstApplies (planChecks (varianceBy backwards 1) trace7 (fourLent 8)) 5
+unfolding rowsChecks
+five-first =
+    inr (
+      λ h. omega arith,
+      inr (
+        λ h. apart (h .0),
+        inr (
+          λ h. ⊎-elim (λ g. g refl) (λ g. omega arith) h,
+          inr (λ h. omega arith, inr (λ h. omega arith, inr (λ h. h, inl (refl, omega arith)))),
         ),
       ),
     )

@@ -410,10 +410,24 @@ agree-mapped (suc (suc zero)) s e v = refl
 agree-mapped (suc (suc (suc zero))) s e v = refl
 agree-mapped (suc (suc (suc (suc i)))) s e v = absurd (omega arith)
 
+-- so row 1's answers are the same ..
 pub same-mapped : answersIn (mappedLeft .outputs .answers) 1 ≡ answersIn (otherMappedLeft .outputs .answers) 1
 same-mapped =
     demand-three .two (varianceBy mapPlan 1) mapped otherMapped mappedLeft otherMappedLeft alike-mapped (planCall mapped-accepted)
     (planCall other-mapped-accepted) 1 (omega arith) agree-mapped
+
+-- .. and in row 0's window they do not agree, and its answers differ
+pub disagree-mapped : Agree Readings mapped otherMapped 0 3 → ⊥
+unfolding validAt ofBits toBits ofInt
+disagree-mapped all =
+    let bits : _≡_ {A = ℕ} 0x4000000000000000 0x4022000000000000 = ap (toBits binary64) (all 0 (omega arith) (omega arith) refl) in
+    omega arith
+
+pub differ-mapped : answersIn (mappedLeft .outputs .answers) 0 ≡ answersIn (otherMappedLeft .outputs .answers) 0 → ⊥
+unfolding ofBits toBits
+differ-mapped same =
+    let bits : _≡_ {A = ℕ} 0x4000000000000000 0x4029000000000000 = ap firstBits same in
+    omega arith
 
 -- ---- what is not enough for the same answers
 -- demand 3's first part, of such a variance, with Enough for what it asks of two traces and a row
