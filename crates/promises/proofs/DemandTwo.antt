@@ -157,7 +157,8 @@ module _ (row : (M : Moment Float) → (M .State → Figure) → ℕ → Figure)
 
   skewness-rows : (bias : Bool) → (row skewMoment (λ s. SkewState·finalize s bias) ∷ [])
       ≡ rowsBy skewness (row skewness) (finalsOf (Skewness bias))
-  unfolding SkewState·insertOne SkewState·combine SkewState·clearZeroWeightNan SkewState·finalize skewClear skewCombine skewBiased skewFinalize
+  unfolding SkewState·insertOne SkewState·combine SkewState·clearZeroWeightNan SkewState·finalize skewClear skewCombine skewBiased
+      skewFinalize
   skewness-rows bias = refl
 
   kurtosis-rows : (fisher bias : Bool)
