@@ -40,7 +40,7 @@ use Rattle.promises.specs.DemandTwo.{sourceVar, sourceCov, sourceSkewRan
 use Rattle.promises.specs.Table.{varianceBy, p7, trace7, p9, trace9}
 use Rattle.promises.proofs.DemandOne.{demand-one}
 use Rattle.promises.proofs.DemandTwo.{demand-two}
-use Rattle.promises.proofs.Witnesses.{fourColumn, fourLent, trace13, p9Left, p9-accepted}
+use Rattle.promises.proofs.Witnesses.{fourColumn, fourLent, leaves, trace13, p9Left, p9-accepted}
 
 -- ---- traces
 -- whole numbers as doubles
@@ -146,15 +146,7 @@ crooked = planOf (1 ∷ 0 ∷ 4 ∷ []) (3 ∷ 3 ∷ 2 ∷ [])
 
 pub plan-refused : Called (varianceBy crooked 1) trace7 (fourLent 8) (fourLent 8) 7
 unfolding table refusal _orElse_ wrongMap planRefusal filled kept
-plan-refused =
-    record {
-      number-is = refl;
-      left = record {
-        fits = record { answers = refl; counts = refl };
-        written = record { answers-are = refl; counts-are = refl };
-        work-kept = refl;
-      };
-    }
+plan-refused = record { number-is = refl; left = leaves refl refl refl refl refl }
 
 -- nine bytes: 14
 abbrev nineBytes : Host Readings
@@ -162,32 +154,13 @@ nineBytes = record { bytes = table (λ i. 0) 9; mapped = false; map = [] }
 
 pub host-refused : CalledBytes (varianceBy p7 1) nineBytes (table (λ i. one64) 4) (table (λ i. one64) 4) (fourLent 8) (fourLent 8) 14
 unfolding table refusal _orElse_ wrongMap planRefusal filled kept
-host-refused =
-    record {
-      number-is = refl;
-      readings-are = refl;
-      left = record {
-        fits = record { answers = refl; counts = refl };
-        written = record { answers-are = refl; counts-are = refl };
-        work-kept = refl;
-      };
-    }
+host-refused = record { number-is = refl; readings-are = refl; left = leaves refl refl refl refl refl }
 
 -- window 2 over 1, 3 with a work slice of 7 doubles: 13
 pub fixed-refused : CalledFixed false 2 1 (Variance 1) trace13 (fourLent 7) (fourLent 7) 13
 unfolding table refusal _orElse_ wrongMap planRefusal bounds fixedRefusal filled kept
 fixed-refused =
-    record {
-      number-is = refl;
-      plan-call = record {
-        number-is = refl;
-        left = record {
-          fits = record { answers = refl; counts = refl };
-          written = record { answers-are = refl; counts-are = refl };
-          work-kept = refl;
-        };
-      };
-    }
+    record { number-is = refl; plan-call = record { number-is = refl; left = leaves refl refl refl refl refl } }
 
 -- weights 1, -1: 9
 abbrev opposed : List Float

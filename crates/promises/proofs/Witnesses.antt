@@ -22,15 +22,15 @@ use Rattle.moment.specs.Skew.{skewClear, skewCombine, skewBiased, skewFinalize}
 use Rattle.moment.specs.Kurtosis.{kurtosisClear, kurtosisCombine, kurtosisBiased, kurtosisFinalize}
 use Rattle.plan.specs.Plan.{Plan, planOf, rows, rowStart, rowEnd}
 use Rattle.plan.specs.Bounds.{bounds}
-use Rattle.plan.specs.Refusals.{planRefusal, fixedRefusal}
+use Rattle.plan.specs.Refusals.{needed, planRefusal, fixedRefusal}
 use Rattle.window.specs.Places.{entriesFrom}
 use Rattle.window.specs.Window.{splitAfter, figureOf}
 use Rattle.window.specs.Readings.{insertedAt, nonfiniteAt, readingOf}
 use Rattle.window.specs.Given.{Readings, SameAt}
 use Rattle.window.specs.Rows.{answerAt}
-use Rattle.window.specs.Outputs.{Column, Lent, column, outputsOf, filled, kept, Answer, answersIn, answersAt}
-use Rattle.rolling.specs.Moments.{Variance, Skewness, Kurtosis}
-use Rattle.rolling.specs.Calls.{Query, query, yields, Called}
+use Rattle.window.specs.Outputs.{Column, Lent, column, outputsOf, filled, kept, answered, numbered, Answer, answersIn, answersAt}
+use Rattle.rolling.specs.Moments.{Variance, Skewness, Kurtosis, workWidth}
+use Rattle.rolling.specs.Calls.{Query, query, GivenTo, yields, tallies, Left, Called}
 use Rattle.rolling.specs.Fixed.{fixedQuery, CalledFixed}
 use Rattle.weighted.specs.Weights.{weightedAt, weightsRefusal, CalledWeights}
 use Rattle.moments.specs.HostCall.{CalledBytes}
@@ -58,6 +58,19 @@ fourLent work = lent work fourColumn
 abbrev pub fourLeft : ℕ → List Float → List ℕ → Lent
 fourLeft work figures present = lent work (column figures present)
 
+-- what a call leaves, by equations that compute
+pub leaves : {q : Query} {t : GivenTo q} {l₀ l : Lent} {number : ℕ} → length (l₀ .outputs .answers) ≡ length (yields q t)
+    → length (l₀ .outputs .counts) ≡ length (tallies q t) → l .outputs .answers
+    ≡ answered number (rows (q .plan)) (yields q t) (l₀ .outputs .answers)
+    → l .outputs .counts ≡ numbered number (rows (q .plan)) (tallies q t) (l₀ .outputs .counts)
+    → kept number (needed (workWidth (q .statistic)) (q .plan)) (l₀ .work) (l .work) → Left q t l₀ l number
+leaves a b c d k =
+    record {
+      fits = record { answers = a; counts = b };
+      written = record { answers-are = c; counts-are = d };
+      work-kept = k;
+    }
+
 -- ---- `Called` and `AcceptedCall`: calls that are accepted
 -- P7, which keeps what stands in the place past the last row
 abbrev p7Left : Lent
@@ -66,15 +79,7 @@ p7Left = fourLeft 8 (two64 ∷ two64 ∷ zero64 ∷ one64 ∷ []) (1 ∷ 1 ∷ 0
 pub p7-accepted : Called (varianceBy p7 1) trace7 (fourLent 8) p7Left 0
 unfolding table refusal _orElse_ wrongMap planRefusal filled kept ofBits ofInt add sub mul div eq lt le varClear varCombine varFinalize
     entriesFrom splitAfter figureOf insertedAt nonfiniteAt answerAt validAt
-p7-accepted =
-    record {
-      number-is = refl;
-      left = record {
-        fits = record { answers = refl; counts = refl };
-        written = record { answers-are = refl; counts-are = refl };
-        work-kept = refl;
-      };
-    }
+p7-accepted = record { number-is = refl; left = leaves refl refl refl refl refl }
 
 -- P8's readings as bytes: NaN, 4, 6
 abbrev bytes8 : List ℕ
@@ -89,16 +94,7 @@ pub p8-accepted : CalledBytes (varianceBy p8 1) (record { bytes = bytes8; mapped
     (nan ∷ ofNat64 4 ∷ ofNat64 6 ∷ one64 ∷ []) (fourLent 8) p8Left 0
 unfolding table refusal _orElse_ wrongMap planRefusal filled kept ofBits ofInt add sub mul div eq lt le varClear varCombine varFinalize
     entriesFrom splitAfter figureOf insertedAt nonfiniteAt answerAt validAt
-p8-accepted =
-    record {
-      number-is = refl;
-      readings-are = refl;
-      left = record {
-        fits = record { answers = refl; counts = refl };
-        written = record { answers-are = refl; counts-are = refl };
-        work-kept = refl;
-      };
-    }
+p8-accepted = record { number-is = refl; readings-are = refl; left = leaves refl refl refl refl refl }
 
 -- P9 with minimum 2
 abbrev pub p9Left : Lent
@@ -107,15 +103,7 @@ p9Left = fourLeft 12 (two64 ∷ one64 ∷ one64 ∷ one64 ∷ []) (1 ∷ 7 ∷ 7
 pub p9-accepted : Called (varianceBy p9 2) trace9 (fourLent 12) p9Left 0
 unfolding table refusal _orElse_ wrongMap planRefusal filled kept ofBits ofInt add sub mul div eq lt le varClear varCombine varFinalize
     entriesFrom splitAfter figureOf insertedAt nonfiniteAt answerAt validAt
-p9-accepted =
-    record {
-      number-is = refl;
-      left = record {
-        fits = record { answers = refl; counts = refl };
-        written = record { answers-are = refl; counts-are = refl };
-        work-kept = refl;
-      };
-    }
+p9-accepted = record { number-is = refl; left = leaves refl refl refl refl refl }
 
 -- "Trailing window 2, minimum 1, trace 1,3", with ddof 1: row 0 has one place, and so no figure
 abbrev pub trace13 : Trace
@@ -126,17 +114,7 @@ pub trailing-accepted : CalledFixed false 2 1 (Variance 1) trace13 (fourLent 8)
 unfolding table refusal _orElse_ wrongMap planRefusal bounds fixedRefusal filled kept ofBits ofInt add sub mul div eq lt le varClear
     varCombine varFinalize entriesFrom splitAfter figureOf insertedAt nonfiniteAt answerAt validAt
 trailing-accepted =
-    record {
-      number-is = refl;
-      plan-call = record {
-        number-is = refl;
-        left = record {
-          fits = record { answers = refl; counts = refl };
-          written = record { answers-are = refl; counts-are = refl };
-          work-kept = refl;
-        };
-      };
-    }
+    record { number-is = refl; plan-call = record { number-is = refl; left = leaves refl refl refl refl refl } }
 
 -- trailing window 3 over 2, 4, 9
 abbrev trace249 : Trace
@@ -149,17 +127,7 @@ pub trailing3-accepted : CalledFixed false 3 1 (Variance 1) trace249 (fourLent 1
 unfolding table refusal _orElse_ wrongMap planRefusal bounds fixedRefusal filled kept ofBits ofInt add sub mul div eq lt le varClear
     varCombine varFinalize entriesFrom splitAfter figureOf insertedAt nonfiniteAt answerAt validAt
 trailing3-accepted =
-    record {
-      number-is = refl;
-      plan-call = record {
-        number-is = refl;
-        left = record {
-          fits = record { answers = refl; counts = refl };
-          written = record { answers-are = refl; counts-are = refl };
-          work-kept = refl;
-        };
-      };
-    }
+    record { number-is = refl; plan-call = record { number-is = refl; left = leaves refl refl refl refl refl } }
 
 -- 0, 0, 0, 0, 5 in one row: skewness 1.5, kurtosis 3.25
 abbrev trace5 : Trace
@@ -177,28 +145,12 @@ kurtosisLeft = fourLeft 30 (ofBits binary64 0x400A000000000000 ∷ one64 ∷ one
 pub skewness-accepted : Called (query p5 1 (Skewness true)) trace5 (fourLent 25) skewLeft 0
 unfolding table refusal _orElse_ wrongMap planRefusal filled kept ofBits ofInt add sub mul div eq lt le root skewClear skewCombine
     skewBiased skewFinalize entriesFrom splitAfter figureOf insertedAt nonfiniteAt answerAt validAt
-skewness-accepted =
-    record {
-      number-is = refl;
-      left = record {
-        fits = record { answers = refl; counts = refl };
-        written = record { answers-are = refl; counts-are = refl };
-        work-kept = refl;
-      };
-    }
+skewness-accepted = record { number-is = refl; left = leaves refl refl refl refl refl }
 
 pub kurtosis-accepted : Called (query p5 1 (Kurtosis false true)) trace5 (fourLent 30) kurtosisLeft 0
 unfolding table refusal _orElse_ wrongMap planRefusal filled kept ofBits ofInt add sub mul div eq lt le kurtosisClear kurtosisCombine
     kurtosisBiased kurtosisFinalize entriesFrom splitAfter figureOf insertedAt nonfiniteAt answerAt validAt
-kurtosis-accepted =
-    record {
-      number-is = refl;
-      left = record {
-        fits = record { answers = refl; counts = refl };
-        written = record { answers-are = refl; counts-are = refl };
-        work-kept = refl;
-      };
-    }
+kurtosis-accepted = record { number-is = refl; left = leaves refl refl refl refl refl }
 
 -- an `AcceptedCall` by each entry and for each figure
 pub plan-call : AcceptedCall (varianceBy p7 1) trace7 p7Left
@@ -306,15 +258,7 @@ other7Left = fourLeft 8 (ofBits binary64 0x4029000000000000 ∷ two64 ∷ zero64
 other7-accepted : Called (varianceBy p7 1) other7 (fourLent 8) other7Left 0
 unfolding table refusal _orElse_ wrongMap planRefusal filled kept ofBits ofInt add sub mul div eq lt le varClear varCombine varFinalize
     entriesFrom splitAfter figureOf insertedAt nonfiniteAt answerAt validAt
-other7-accepted =
-    record {
-      number-is = refl;
-      left = record {
-        fits = record { answers = refl; counts = refl };
-        written = record { answers-are = refl; counts-are = refl };
-        work-kept = refl;
-      };
-    }
+other7-accepted = record { number-is = refl; left = leaves refl refl refl refl refl }
 
 -- `Alike`: two traces without a map that are not the same
 pub alike7 : Alike Readings trace7 other7
@@ -366,28 +310,12 @@ otherMappedLeft = fourLeft 12 (ofBits binary64 0x4029000000000000 ∷ ofNat64 8 
 mapped-accepted : Called (varianceBy mapPlan 1) mapped (fourLent 12) mappedLeft 0
 unfolding table refusal _orElse_ wrongMap planRefusal filled kept ofBits ofInt add sub mul div eq lt le varClear varCombine varFinalize
     entriesFrom splitAfter figureOf insertedAt nonfiniteAt answerAt validAt
-mapped-accepted =
-    record {
-      number-is = refl;
-      left = record {
-        fits = record { answers = refl; counts = refl };
-        written = record { answers-are = refl; counts-are = refl };
-        work-kept = refl;
-      };
-    }
+mapped-accepted = record { number-is = refl; left = leaves refl refl refl refl refl }
 
 other-mapped-accepted : Called (varianceBy mapPlan 1) otherMapped (fourLent 12) otherMappedLeft 0
 unfolding table refusal _orElse_ wrongMap planRefusal filled kept ofBits ofInt add sub mul div eq lt le varClear varCombine varFinalize
     entriesFrom splitAfter figureOf insertedAt nonfiniteAt answerAt validAt
-other-mapped-accepted =
-    record {
-      number-is = refl;
-      left = record {
-        fits = record { answers = refl; counts = refl };
-        written = record { answers-are = refl; counts-are = refl };
-        work-kept = refl;
-      };
-    }
+other-mapped-accepted = record { number-is = refl; left = leaves refl refl refl refl refl }
 
 places-alike : (i : ℕ) → i < 4 → validAt true (13 ∷ []) i ≡ validAt true (253 ∷ []) i
 unfolding validAt
@@ -471,15 +399,7 @@ fullLeft = fourLeft 12 (ofBits binary64 0x4019555555555555 ∷ ofBits binary64 0
 full-accepted : Called (varianceBy mapPlan 1) fullMap (fourLent 12) fullLeft 0
 unfolding table refusal _orElse_ wrongMap planRefusal filled kept ofBits ofInt add sub mul div eq lt le varClear varCombine varFinalize
     entriesFrom splitAfter figureOf insertedAt nonfiniteAt answerAt validAt
-full-accepted =
-    record {
-      number-is = refl;
-      left = record {
-        fits = record { answers = refl; counts = refl };
-        written = record { answers-are = refl; counts-are = refl };
-        work-kept = refl;
-      };
-    }
+full-accepted = record { number-is = refl; left = leaves refl refl refl refl refl }
 
 -- traces of equal length, both with a map, that agree in the row's window and miss other places
 pub places-count :
@@ -515,28 +435,12 @@ noMapLeft = fourLeft 12 (zero64 ∷ zero64 ∷ ofBits binary64 0x4002AAAAAAAAAAA
 ones-accepted : Called shortRow ones (fourLent 12) onesLeft 0
 unfolding table refusal _orElse_ wrongMap planRefusal filled kept ofBits ofInt add sub mul div eq lt le varClear varCombine varFinalize
     entriesFrom splitAfter figureOf insertedAt nonfiniteAt answerAt validAt
-ones-accepted =
-    record {
-      number-is = refl;
-      left = record {
-        fits = record { answers = refl; counts = refl };
-        written = record { answers-are = refl; counts-are = refl };
-        work-kept = refl;
-      };
-    }
+ones-accepted = record { number-is = refl; left = leaves refl refl refl refl refl }
 
 no-map-accepted : Called shortRow noMap (fourLent 12) noMapLeft 0
 unfolding table refusal _orElse_ wrongMap planRefusal filled kept ofBits ofInt add sub mul div eq lt le varClear varCombine varFinalize
     entriesFrom splitAfter figureOf insertedAt nonfiniteAt answerAt validAt
-no-map-accepted =
-    record {
-      number-is = refl;
-      left = record {
-        fits = record { answers = refl; counts = refl };
-        written = record { answers-are = refl; counts-are = refl };
-        work-kept = refl;
-      };
-    }
+no-map-accepted = record { number-is = refl; left = leaves refl refl refl refl refl }
 
 -- they miss the same places, namely none
 ones-places : (i : ℕ) → i < 4 → validAt true (15 ∷ []) i ≡ validAt false [] i
@@ -581,15 +485,7 @@ ones7 = traceOf (trace7 .readings) true (15 ∷ [])
 ones7-accepted : Called (varianceBy p7 1) ones7 (fourLent 8) p7Left 0
 unfolding table refusal _orElse_ wrongMap planRefusal filled kept ofBits ofInt add sub mul div eq lt le varClear varCombine varFinalize
     entriesFrom splitAfter figureOf insertedAt nonfiniteAt answerAt validAt
-ones7-accepted =
-    record {
-      number-is = refl;
-      left = record {
-        fits = record { answers = refl; counts = refl };
-        written = record { answers-are = refl; counts-are = refl };
-        work-kept = refl;
-      };
-    }
+ones7-accepted = record { number-is = refl; left = leaves refl refl refl refl refl }
 
 -- no row of P7 is shorter than the minimum
 long-enough : (j : ℕ) → 0 < j → j < 3 → 1 ≤ rowEnd p7 j - rowStart p7 j
