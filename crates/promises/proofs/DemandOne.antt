@@ -1,19 +1,19 @@
 -- Demand 1: the numbers of our definitions are put together by 'or else', as the checks are by 'then'. What a list of checks says of a
 -- number is kept by both, so each kind of call is its checks one after another. Assumes nothing.
-use Prim.Native.Nat.{ℕ, zero, suc, _+_, _*_, _/_, _%_, _≤_, _<_, min}
+use Prim.Native.Nat.{ℕ, zero, suc, _+_, _/_, _≤_, _<_, min}
 use mathlib.Core.Path.{_≡_, refl, sym, ap, _∙_, subst}
 use mathlib.Core.Bool.{Bool, true, false, cond, not, _||_}
 use mathlib.Core.List.{List, [], _∷_, _++_}
-use mathlib.Core.Logic.{_⊎_, inl, inr, _↔_}
+use mathlib.Core.Logic.{_⊎_, inl, inr}
 use native.Mathlib.Omega.{arith}
-use lib.Dec.{eqb, ltb, lit≤}
+use lib.Dec.{eqb, ltb}
 use lib.ListN.{length}
-use lib.Ieee.{Float, eq}
+use lib.Ieee.{Float}
 use borrow.Author.Tests.{ltb-true, lt-ltb, eqb-true, eqb-false, ne-eqb, not-true}
 use Rattle.float.specs.Bytes.{readingAt}
 use Rattle.float.proofs.Cases.{apart, Or, here, there, order}
 use Rattle.trace.specs.Trace.{Trace}
-use Rattle.trace.specs.Refusals.{refusal, _orElse_, tooMany, wrongMap, traceRefusal, pairRefusal, rangeRefusal}
+use Rattle.trace.specs.Refusals.{refusal, _orElse_, wrongMap, traceRefusal, pairRefusal, rangeRefusal}
 use Rattle.moment.specs.declared.VarAnswer.the-variants as var
 use Rattle.moment.specs.declared.CovAnswer.the-variants as cov
 use Rattle.moment.specs.declared.PearsonAnswer.the-variants as pearson
@@ -25,13 +25,13 @@ use Rattle.moment.specs.Arrays.{answer, varWhole, varNumber, varMembers, covWho
 use Rattle.moment.specs.Arrays.{pearsonMembers}
 use Rattle.moment.specs.Arrays.{skewWhole, skewNumber, skewMembers, kurtosisWhole, kurtosisNumber, kurtosisMembers}
 use Rattle.plan.specs.Plan.{Plan, rows, rowStart, rowEnd}
-use Rattle.plan.specs.Refusals.{wrongLists, rowRefusal, before, rowsRefusal, needed, planRefusal, fixedRefusal}
+use Rattle.plan.specs.Refusals.{rowRefusal, before, rowsRefusal, needed, planRefusal, fixedRefusal}
 use Rattle.window.specs.Given.{Kind, Readings, Given, seriesOf, placesOf, givenRefusal}
 use Rattle.window.specs.Outputs.{Column, Outputs, Lent, answerLengths, countLengths, shortest, shortestOf, shortestOutput, columnAfter}
-use Rattle.window.specs.Outputs.{filled, kept}
+use Rattle.window.specs.Outputs.{kept}
 use Rattle.window.proofs.Outputs.{unfilled, column-is, answered-refused, numbered-refused}
 use Rattle.rolling.specs.Moments.{Statistic, Variance, Skewness, Kurtosis, kindOf, momentOf, finalsOf, workWidth}
-use Rattle.rolling.specs.Calls.{Query, GivenTo, figuresBy, yields, tallies, refusalOf, Left, Called}
+use Rattle.rolling.specs.Calls.{Query, GivenTo, figuresBy, yields, tallies, Left, Called}
 use Rattle.rolling.specs.Fixed.{fixedQuery, CalledFixed}
 use Rattle.weighted.specs.Weights.{weightedAt, weightsRefusal, CalledWeights}
 use Rattle.moments.specs.HostCall.{Host, readingCount, decodedOf, oddBytes, ReadingLists, shortLists, decodedLists, CalledBytes}

@@ -1,17 +1,15 @@
 -- Demand 2 for windows: an accepted call's answers are what the split account yields, and so are the source's rows; those of fixed
 -- windows are the rows of a plan; a weighted call's answers are row by row the source's. Assumes nothing.
-use Prim.Native.Nat.{ℕ, zero, suc, _+_, _*_, _/_, _^_, _≤_, _<_, min}
+use Prim.Native.Nat.{ℕ, zero, suc, _^_, _≤_, _<_, min}
 use mathlib.Core.Path.{_≡_, refl, sym, ap, _∙_, subst}
-use mathlib.Core.Bool.{Bool, true, false, cond}
-use mathlib.Core.List.{List, [], _∷_, append-nil}
-use native.Mathlib.Nat.{zero-add}
+use mathlib.Core.Bool.{Bool, true, false}
+use mathlib.Core.List.{List, [], _∷_}
 use native.Mathlib.Omega.{arith}
 use lib.Dec.{T, lit≤}
-use lib.ListN.{length, getD, drop}
+use lib.ListN.{length, drop}
 use lib.Ieee.{Float, nan, inf, fin, binary64, fits, eq}
 use borrow.Author.Tests.{le-leb}
 use Rattle.float.specs.Operators.{zero64}
-use Rattle.float.specs.Tables.{table}
 use Rattle.float.proofs.Counts.{zero-is}
 use Rattle.float.proofs.Tables.{table-at}
 use Rattle.root.specs.Root.{root}
@@ -21,20 +19,16 @@ use Rattle.trace.specs.Refusals.{traceRefusal}
 use Rattle.moment.specs.Figure.{doubleOf, byteOf}
 use Rattle.moment.specs.Var.{varClear, varCombine, varFinalize}
 use Rattle.moment.specs.Skew.{skewNew, skewClear, skewCombine, skewBiased, skewFinalize}
-use Rattle.moment.specs.Kurtosis.{kurtosisNew, kurtosisClear, kurtosisCombine, kurtosisFinalize}
+use Rattle.moment.specs.Kurtosis.{kurtosisNew, kurtosisClear, kurtosisCombine}
 use Rattle.moment.specs.Arrays.{varWhole, covWhole, pearsonWhole, skewWhole, kurtosisWhole}
-use Rattle.moment.specs.declared.kurtosis_state.KurtosisState.{KurtosisState}
 use Rattle.moment.specs.declared.Figure.{Figure}
-use Rattle.moment.specs.declared.Figure.the-variants.{Missing}
 use Rattle.moment.proofs.Weights.{at-zero}
 use Rattle.plan.specs.Plan.{Plan, rows}
 use Rattle.plan.specs.Bounds.{bounds}
 use Rattle.plan.specs.Code.Accepted.{Planned}
 use Rattle.plan.proofs.FixedWindows.{bounds-rows}
 use Rattle.window.specs.Window.{Moment}
-use Rattle.window.specs.Readings.{series}
 use Rattle.window.specs.Given.{Readings, Given, seriesOf, placesOf, givenRefusal}
-use Rattle.window.specs.Rows.{answerAt}
 use Rattle.window.specs.Outputs.{Column, Lent, Answer, ofFigure, answersIn, answersAt, filled}
 use Rattle.window.proofs.Outputs.{_then_}
 use Rattle.rolling.specs.Moments.{Statistic, Variance, Skewness, Kurtosis, variance, skewness, kurtosis, kindOf, momentOf, finalsOf}

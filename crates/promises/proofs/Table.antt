@@ -1,7 +1,7 @@
 -- The table of the cases marked P holds, by our definitions and by the transcribed Rust, in one computation. Assumes nothing.
 use lib.Dec.{T}
 use lib.Ieee.{ofBits, toBits, ofInt, add, sub, mul, div, eq, lt, le}
-use mathlib.Core.List.{zip, zipWith, filterMap}
+use mathlib.Core.List.{zip, zipWith}
 use Rattle.root.specs.Root.{root}
 use Rattle.trace.specs.Trace.{validAt, bothAt, validFrom}
 use Rattle.trace.specs.Refusals.{refusal, _orElse_, wrongMap}

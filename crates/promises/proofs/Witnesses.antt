@@ -5,12 +5,11 @@ use Prim.Native.Nat.{ℕ, zero, suc, _+_, _-_, _%_, _^_, _≤_, _<_}
 use mathlib.Core.Path.{_≡_, refl, sym, ap}
 use mathlib.Core.Bool.{Bool, true, false, cond}
 use mathlib.Core.List.{List, [], _∷_}
-use mathlib.Core.Logic.{_⊎_, inl, inr, ⊎-elim}
+use mathlib.Core.Logic.{inl, inr, ⊎-elim}
 use native.Mathlib.Omega.{arith}
 use lib.Dec.{T, eqb, lit≤}
 use lib.ListN.{length}
 use lib.Ieee.{Float, nan, isNan, fits, binary64, ofBits, toBits, ofInt, add, sub, mul, div, eq, lt, le}
-use lib.Ieee.Scale.{finite}
 use Rattle.float.specs.Operators.{zero64, one64, two64, ofNat64}
 use Rattle.float.specs.Tables.{table}
 use Rattle.float.proofs.Cases.{apart}
