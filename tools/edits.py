@@ -52,7 +52,8 @@ def worked_out(message):
 
 
 def without_code(crate):
-    return not any(re.search(r"^[^/\n]*\bfn \w", open(p, encoding="utf-8").read(), re.M) for p in glob.glob(f"crates/{crate}/src/**/*.rt", recursive=True))
+    sources = glob.glob(f"crates/{crate}/src/**/*.rt", recursive=True)
+    return not any(re.search(r"^[^/\n]*\bfn \w", open(p, encoding="utf-8").read(), re.M) for p in sources)
 
 
 bad = shown = theorems = worked = 0
@@ -76,7 +77,7 @@ for edit in sorted(glob.glob("crates/*/must-fail/*.edit")):
         else:
             print(f"{crate}/{label}: {name} is not refused for itself"); bad += 1
     names = re.findall(r"^# refuses-theorem: (\S+)$", source, re.M)
-    if not names and without_code(crate) and all("/" in f and f.startswith("specs/") for f in re.findall(r"^file: (\S+)$", source, re.M)):
+    if not names and without_code(crate) and all(f.startswith("specs/") for f in re.findall(r"^file: (\S+)$", source, re.M)):
         print(f"{crate}/{label}: it names no theorem"); bad += 1
     if names:
         errors, out = errors_of(text), 0
