@@ -18,7 +18,7 @@ import glob, os, re, sys
 
 HEAD = re.compile(r"(\S+\.antt):\d+:\d+: (error|note): ?(.*)")
 # A name that is not there, a field that is not there: the proofs are not checked against the edited statement.
-UNREAD = re.compile(r"is not in scope|can be named from here|is not a field of record|missing field\(s\) of|has no field `")
+UNREAD = re.compile(r"is not in scope(?! here, so)|can be named from here|is not a field of record|missing field\(s\) of|has no field `")
 # A proof whose shape does not fit: arguments, tuples, functions, constructors.
 SHAPE = re.compile(
     r"this λ is checked against|which is not a (function|data)|a tuple is checked against|this tuple has|projects from a"
@@ -26,7 +26,7 @@ SHAPE = re.compile(
     r"|has a constructor pattern at|constructor pattern .* whose type is not"
 )
 # What the log shows where the fact that fails is worked out.
-WORKED = re.compile(r"computed as far as they go|the goal does not follow|does not hold|but this has type `Prim\.Unit")
+WORKED = re.compile(r"computed as far as they go, the two|the goal does not follow|does not hold")
 
 
 def errors_of(text):
@@ -45,8 +45,15 @@ def errors_of(text):
     return [e for e in found if "was not admitted" not in e[2]]
 
 
+def worked_out(message):
+    if "but this has type `Prim.Unit" in message:  # a list of tests: it computes to false, and not only to no end
+        return "`Prim.⊥` (expected)" in message or "computing it took more than" in message
+    return bool(WORKED.search(message))
+
+
 def without_code(crate):
-    return not any(re.search(r"^[^/\n]*\bfn \w", open(p, encoding="utf-8").read(), re.M) for p in glob.glob(f"crates/{crate}/src/**/*.rt", recursive=True))
+    sources = glob.glob(f"crates/{crate}/src/**/*.rt", recursive=True)
+    return not any(re.search(r"^[^/\n]*\bfn \w", open(p, encoding="utf-8").read(), re.M) for p in sources)
 
 
 bad = shown = theorems = worked = 0
@@ -70,7 +77,7 @@ for edit in sorted(glob.glob("crates/*/must-fail/*.edit")):
         else:
             print(f"{crate}/{label}: {name} is not refused for itself"); bad += 1
     names = re.findall(r"^# refuses-theorem: (\S+)$", source, re.M)
-    if not names and without_code(crate) and all("/" in f and f.startswith("specs/") for f in re.findall(r"^file: (\S+)$", source, re.M)):
+    if not names and without_code(crate) and all(f.startswith("specs/") for f in re.findall(r"^file: (\S+)$", source, re.M)):
         print(f"{crate}/{label}: it names no theorem"); bad += 1
     if names:
         errors, out = errors_of(text), 0
@@ -85,7 +92,7 @@ for edit in sorted(glob.glob("crates/*/must-fail/*.edit")):
                 print(f"{crate}/{label}: theorem {name} is not refused for itself"); bad += 1
             elif not fact:
                 print(f"{crate}/{label}: theorem {name} only has a proof of another shape: {own[0].split(chr(10))[0][:160]}"); bad += 1
-            out += any(WORKED.search(m) for m in fact)
+            out += any(map(worked_out, fact))
         if not out:
             print(f"{crate}/{label}: the log shows no fact that fails, worked out"); bad += 1
         worked += out
