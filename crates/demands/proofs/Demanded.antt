@@ -58,12 +58,16 @@ host-meets {q} {h} {r₀} {r} {l₀} {l} {number} c set =
     }
 
 pub two-hosts-meet : {q : Query} {h h′ : Host (kindOf (q .statistic))} {r₀ r r₀′ r′ : ReadingLists (kindOf (q .statistic))}
-    {l₀ l l₀′ l′ : Lent}
-    {number number′ : ℕ} → CalledBytes q h r₀ r l₀ l number → CalledBytes q h′ r₀′ r′ l₀′ l′ number′
-    → MeetTwoHosts q h h′ (l₀, l) (l₀′, l′) number number′
-two-hosts-meet {q} {h} {h′} {l = l} {l′ = l′} c c′ alike e e′ =
-    demand-three .two q (decodedOf (kindOf (q .statistic)) h) (decodedOf (kindOf (q .statistic)) h′) l l′ alike (host-accepted c e)
-    (host-accepted c′ e′)
+    {l₀ l l₀′ l′ : Lent} {number number′ : ℕ} → CalledBytes q h r₀ r l₀ l number → CalledBytes q h′ r₀′ r′ l₀′ l′ number′
+    → IsSetting (q .statistic) → MeetTwoHosts q h h′ (r₀, r) (r₀′, r′) (l₀, l) (l₀′, l′) number number′
+two-hosts-meet {q} {h} {h′} {l = l} {l′ = l′} c c′ set =
+    record {
+      first = host-meets c set;
+      second = host-meets c′ set;
+      both = λ alike e e′.
+          demand-three .two q (decodedOf (kindOf (q .statistic)) h) (decodedOf (kindOf (q .statistic)) h′) l l′ alike (host-accepted c e)
+          (host-accepted c′ e′);
+    }
 
 -- ---- plan calls
 plan-accepted : {q : Query} {t : GivenTo q} {l₀ l : Lent} {number : ℕ} → Called q t l₀ l number → number ≡ 0 → AcceptedCall q t l
@@ -79,10 +83,13 @@ plan-meets {q} {t} {l₀} {l} {number} c set =
     }
 
 pub two-plans-meet : {q : Query} {t t′ : GivenTo q} {l₀ l l₀′ l′ : Lent} {number number′ : ℕ} → Called q t l₀ l number
-    → Called q t′ l₀′ l′ number′
-    → MeetTwoPlans q t t′ (l₀, l) (l₀′, l′) number number′
-two-plans-meet {q} {t} {t′} {l = l} {l′ = l′} c c′ alike e e′ = demand-three .two q t t′ l l′ alike (plan-accepted c e)
-    (plan-accepted c′ e′)
+    → Called q t′ l₀′ l′ number′ → IsSetting (q .statistic) → MeetTwoPlans q t t′ (l₀, l) (l₀′, l′) number number′
+two-plans-meet {q} {t} {t′} {l = l} {l′ = l′} c c′ set =
+    record {
+      first = plan-meets c set;
+      second = plan-meets c′ set;
+      both = λ alike e e′. demand-three .two q t t′ l l′ alike (plan-accepted c e) (plan-accepted c′ e′);
+    }
 
 -- ---- fixed windows
 module _ {center : Bool} {size minPeriods : ℕ} {a : Statistic} where
@@ -101,12 +108,18 @@ module _ {center : Bool} {size minPeriods : ℕ} {a : Statistic} where
       }
 
   -- equal lengths have the same bounds
-  pub two-fixed-meet : {t t′ : Given (kindOf a)} {l₀ l l₀′ l′ : Lent} {number number′ : ℕ}
-      → CalledFixed center size minPeriods a t l₀ l number
-      → CalledFixed center size minPeriods a t′ l₀′ l′ number′ → MeetTwoFixed center size minPeriods a t t′ (l₀, l) (l₀′, l′) number number′
-  two-fixed-meet {t} {t′} {l = l} {l′ = l′} c c′ alike e e′ =
-      demand-three .two (fixedQuery center size minPeriods a t) t t′ l l′ alike (fixedCall (fixed-zero c e))
-      (subst (λ (n : ℕ). AcceptedCall (query (bounds center size n) minPeriods a) t′ l′) (sym (alike .long)) (fixedCall (fixed-zero c′ e′)))
+  pub two-fixed-meet : {t t′ : Given (kindOf a)} {l₀ l l₀′ l′ : Lent} {number number′ : ℕ} → CalledFixed center size minPeriods a t l₀ l number
+      → CalledFixed center size minPeriods a t′ l₀′ l′ number′ → size < 2 ^ 64 → IsSetting a
+      → MeetTwoFixed center size minPeriods a t t′ (l₀, l) (l₀′, l′) number number′
+  two-fixed-meet {t} {t′} {l = l} {l′ = l′} c c′ small set =
+      record {
+        first = fixed-meets c small set;
+        second = fixed-meets c′ small set;
+        both = λ alike e e′.
+            demand-three .two (fixedQuery center size minPeriods a t) t t′ l l′ alike (fixedCall (fixed-zero c e))
+            (subst (λ (n : ℕ). AcceptedCall (query (bounds center size n) minPeriods a) t′ l′) (sym (alike .long))
+            (fixedCall (fixed-zero c′ e′)));
+      }
 
 -- ---- weights
 pub weights-meet : {center : Bool} {size minPeriods : ℕ} {weights : List Float} {t : Trace} {c₀ c : Column} {number : ℕ}

@@ -39,13 +39,14 @@ pub record MeetsHost (q : Query) (h : Host (kindOf (q .statistic)))
   pub two : number ≡ 0 → (rust : Rust) → RowsEqual rust q (decodedOf (kindOf (q .statistic)) h) (l .1)
   pub three : number ≡ 0 → (k : ℕ) → k < rows (q .plan) → Yielded q (decodedOf (kindOf (q .statistic)) h) (l .1) k
 
--- two, with the same plan, the same setting and the same figure
-abbrev pub MeetTwoHosts : (q : Query) → Host (kindOf (q .statistic)) → Host (kindOf (q .statistic)) → Lent × Lent → Lent × Lent → ℕ → ℕ
-    → Type 0
-MeetTwoHosts q h h′ l l′ number number′ =
-    let kind = kindOf (q .statistic) in
-    Alike kind (decodedOf kind h) (decodedOf kind h′) → number ≡ 0 → number′ ≡ 0
-    → SameAnswers q (decodedOf kind h) (decodedOf kind h′) (l .1) (l′ .1)
+-- two, with the same plan, the same setting and the same figure: of each what is said of one, and of both demand 3
+pub record MeetTwoHosts (q : Query) (h h′ : Host (kindOf (q .statistic)))
+    (r r′ : ReadingLists (kindOf (q .statistic)) × ReadingLists (kindOf (q .statistic))) (l l′ : Lent × Lent) (number number′ : ℕ) : Type 0 where
+  pub first : MeetsHost q h r l number
+  pub second : MeetsHost q h′ r′ l′ number′
+  pub both : Alike (kindOf (q .statistic)) (decodedOf (kindOf (q .statistic)) h) (decodedOf (kindOf (q .statistic)) h′)
+      → number ≡ 0 → number′ ≡ 0
+      → SameAnswers q (decodedOf (kindOf (q .statistic)) h) (decodedOf (kindOf (q .statistic)) h′) (l .1) (l′ .1)
 
 -- ---- plan calls, the trace as doubles
 -- one
@@ -55,9 +56,10 @@ pub record MeetsPlan (q : Query) (t : GivenTo q) (l : Lent × Lent) (number : �
   pub three : number ≡ 0 → (k : ℕ) → k < rows (q .plan) → Yielded q t (l .1) k
 
 -- two
-abbrev pub MeetTwoPlans : (q : Query) → GivenTo q → GivenTo q → Lent × Lent → Lent × Lent → ℕ → ℕ → Type 0
-MeetTwoPlans q t t′ l l′ number number′ =
-    Alike (kindOf (q .statistic)) t t′ → number ≡ 0 → number′ ≡ 0 → SameAnswers q t t′ (l .1) (l′ .1)
+pub record MeetTwoPlans (q : Query) (t t′ : GivenTo q) (l l′ : Lent × Lent) (number number′ : ℕ) : Type 0 where
+  pub first : MeetsPlan q t l number
+  pub second : MeetsPlan q t′ l′ number′
+  pub both : Alike (kindOf (q .statistic)) t t′ → number ≡ 0 → number′ ≡ 0 → SameAnswers q t t′ (l .1) (l′ .1)
 
 -- ---- fixed windows
 -- one
@@ -70,9 +72,12 @@ pub record MeetsFixed (center : Bool) (windowSize minPeriods : ℕ) (a : Statist
       → Yielded (fixedQuery center windowSize minPeriods a t) t (l .1) k
 
 -- two, over traces of equal length, whose plan is then the same
-abbrev pub MeetTwoFixed : Bool → ℕ → ℕ → (a : Statistic) → Given (kindOf a) → Given (kindOf a) → Lent × Lent → Lent × Lent → ℕ → ℕ → Type 0
-MeetTwoFixed center windowSize minPeriods a t t′ l l′ number number′ =
-    Alike (kindOf a) t t′ → number ≡ 0 → number′ ≡ 0 → SameAnswers (fixedQuery center windowSize minPeriods a t) t t′ (l .1) (l′ .1)
+pub record MeetTwoFixed (center : Bool) (windowSize minPeriods : ℕ) (a : Statistic) (t t′ : Given (kindOf a)) (l l′ : Lent × Lent)
+    (number number′ : ℕ) : Type 0 where
+  pub first : MeetsFixed center windowSize minPeriods a t l number
+  pub second : MeetsFixed center windowSize minPeriods a t′ l′ number′
+  pub both : Alike (kindOf a) t t′ → number ≡ 0 → number′ ≡ 0
+      → SameAnswers (fixedQuery center windowSize minPeriods a t) t t′ (l .1) (l′ .1)
 
 -- ---- weights
 pub record MeetsWeights (center : Bool) (windowSize minPeriods : ℕ) (weights : List Float) (t : Trace) (c : Column × Column)

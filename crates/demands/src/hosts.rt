@@ -57,7 +57,7 @@ pub fn two_plans_var(
     y_present: &mut [u8],
 ) -> Numbers
     ensures { λ r. ⌜ MeetTwoHosts (querying starts ends «min_periods» (Variance ddof))
-        (hosting x «x_has_map» «x_map») (hosting y «y_has_map» «y_map»)
+        (hosting x «x_has_map» «x_map») (hosting y «y_has_map» «y_map») (decoding «x_readings») (decoding «y_readings»)
         (lending «x_work» «x_figures» «x_present») (lending «y_work» «y_figures» «y_present») (r .first) (r .second) ⌝ }
 {
     let first = moments::moments_plan_var(
@@ -141,7 +141,7 @@ pub fn two_plans_skew(
     y_present: &mut [u8],
 ) -> Numbers
     ensures { λ r. ⌜ MeetTwoHosts (querying starts ends «min_periods» (Skewness bias))
-        (hosting x «x_has_map» «x_map») (hosting y «y_has_map» «y_map»)
+        (hosting x «x_has_map» «x_map») (hosting y «y_has_map» «y_map») (decoding «x_readings») (decoding «y_readings»)
         (lending «x_work» «x_figures» «x_present») (lending «y_work» «y_figures» «y_present») (r .first) (r .second) ⌝ }
 {
     let first = moments::moments_plan_skew(
@@ -228,7 +228,7 @@ pub fn two_plans_kurtosis(
     y_present: &mut [u8],
 ) -> Numbers
     ensures { λ r. ⌜ MeetTwoHosts (querying starts ends «min_periods» (Kurtosis fisher bias))
-        (hosting x «x_has_map» «x_map») (hosting y «y_has_map» «y_map»)
+        (hosting x «x_has_map» «x_map») (hosting y «y_has_map» «y_map») (decoding «x_readings») (decoding «y_readings»)
         (lending «x_work» «x_figures» «x_present») (lending «y_work» «y_figures» «y_present») (r .first) (r .second) ⌝ }
 {
     let first = moments::moments_plan_kurtosis(

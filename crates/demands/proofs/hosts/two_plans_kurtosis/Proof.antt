@@ -1,4 +1,4 @@
--- What demand 3 says of the two calls. Assumes nothing.
+-- What the demands say of each call, and of both. Assumes nothing.
 use borrow.Author.Needs.{needs}
 use Rattle.demands.proofs.Demanded.{two-hosts-meet}
 use Rattle.demands.proofs.hosts.two_plans_kurtosis.Statement.{statement}
@@ -6,9 +6,9 @@ use Rattle.demands.proofs.hosts.two_plans_kurtosis.Tie as tie
 
 returns : tie.Need-returns
 returns c =
-    let d = c .before .before .before .before .before .before .before .before in
-    let e = d .before .before .before .before .before .before .before .before .before .before .before .before .before in
-    two-hosts-meet (e .moments-plan-kurtosis .ensures) (d .moments-plan-kurtosis2 .ensures)
+    let second = c .before .before .before .before .before .before .before .before in
+    let first = second .before .before .before .before .before .before .before .before .before .before .before .before .before in
+    two-hosts-meet (first .moments-plan-kurtosis .ensures) (second .moments-plan-kurtosis2 .ensures) tt
 
 pub two-plans-kurtosis-spec : {M : Type 1} → statement M
 two-plans-kurtosis-spec =

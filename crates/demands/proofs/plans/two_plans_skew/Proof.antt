@@ -1,4 +1,4 @@
--- What demand 3 says of the two calls. Assumes nothing.
+-- What the demands say of each call, and of both. Assumes nothing.
 use borrow.Author.Needs.{needs}
 use Rattle.demands.proofs.Demanded.{two-plans-meet}
 use Rattle.demands.proofs.plans.two_plans_skew.Statement.{statement}
@@ -6,9 +6,9 @@ use Rattle.demands.proofs.plans.two_plans_skew.Tie as tie
 
 returns : tie.Need-returns
 returns c =
-    let d = c .before .before .before .before .before .before in
-    let e = d .before .before .before .before .before .before .before .before .before .before .plan-skew in
-    two-plans-meet (e .ensures) (d .plan-skew2 .ensures)
+    let second = c .before .before .before .before .before .before in
+    let first = second .before .before .before .before .before .before .before .before .before .before in
+    two-plans-meet (first .plan-skew .ensures) (second .plan-skew2 .ensures) tt
 
 pub two-plans-skew-spec : {M : Type 1} → statement M
 two-plans-skew-spec =

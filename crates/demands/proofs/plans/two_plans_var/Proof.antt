@@ -1,4 +1,5 @@
--- What demand 3 says of the two calls. Assumes nothing.
+-- What the demands say of each call, and of both. Assumes nothing.
+use native.Mathlib.Omega.{arith}
 use borrow.Author.Needs.{needs}
 use Rattle.demands.proofs.Demanded.{two-plans-meet}
 use Rattle.demands.proofs.plans.two_plans_var.Statement.{statement}
@@ -6,9 +7,11 @@ use Rattle.demands.proofs.plans.two_plans_var.Tie as tie
 
 returns : tie.Need-returns
 returns c =
-    let d = c .before .before .before .before .before .before in
-    let e = d .before .before .before .before .before .before .before .before .before .before .plan-var in
-    two-plans-meet (e .ensures) (d .plan-var2 .ensures)
+    let second = c .before .before .before .before .before .before in
+    let first = second .before .before .before .before .before .before .before .before .before .before in
+    let before = first .before .before .before .before .before .before .before .before in
+    let fits = before .before .before .before .before .before .before .before .before .fits in
+    two-plans-meet (first .plan-var .ensures) (second .plan-var2 .ensures) (omega (arith, fits))
 
 pub two-plans-var-spec : {M : Type 1} → statement M
 two-plans-var-spec =

@@ -1,4 +1,5 @@
--- What demand 3 says of the two calls. Assumes nothing.
+-- What the demands say of each call, and of both. Assumes nothing.
+use native.Mathlib.Omega.{arith}
 use borrow.Author.Needs.{needs}
 use Rattle.demands.proofs.Demanded.{two-fixed-meet}
 use Rattle.demands.proofs.windows.two_rolling_skew.Statement.{statement}
@@ -6,9 +7,11 @@ use Rattle.demands.proofs.windows.two_rolling_skew.Tie as tie
 
 returns : tie.Need-returns
 returns c =
-    let d = c .before .before .before .before .before .before in
-    let e = d .before .before .before .before .before .before .before .before .before .before .moments-rolling-skew in
-    two-fixed-meet (e .ensures) (d .moments-rolling-skew2 .ensures)
+    let second = c .before .before .before .before .before .before in
+    let first = second .before .before .before .before .before .before .before .before .before .before in
+    let before = first .before .before .before .before .before .before .before in
+    let fits = before .before .before .before .before .before .before .before .fits in
+    two-fixed-meet (first .moments-rolling-skew .ensures) (second .moments-rolling-skew2 .ensures) (omega (arith, fits)) tt
 
 pub two-rolling-skew-spec : {M : Type 1} → statement M
 two-rolling-skew-spec =
