@@ -41,7 +41,8 @@ pub record MeetsHost (q : Query) (h : Host (kindOf (q .statistic)))
 
 -- two, with the same plan, the same setting and the same figure: of each what is said of one, and of both demand 3
 pub record MeetTwoHosts (q : Query) (h h′ : Host (kindOf (q .statistic)))
-    (r r′ : ReadingLists (kindOf (q .statistic)) × ReadingLists (kindOf (q .statistic))) (l l′ : Lent × Lent) (number number′ : ℕ) : Type 0 where
+    (r r′ : ReadingLists (kindOf (q .statistic)) × ReadingLists (kindOf (q .statistic))) (l l′ : Lent × Lent)
+    (number number′ : ℕ) : Type 0 where
   pub first : MeetsHost q h r l number
   pub second : MeetsHost q h′ r′ l′ number′
   pub both : Alike (kindOf (q .statistic)) (decodedOf (kindOf (q .statistic)) h) (decodedOf (kindOf (q .statistic)) h′)

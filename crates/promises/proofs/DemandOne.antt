@@ -1,17 +1,17 @@
 -- Demand 1: the numbers of our definitions are put together by 'or else', as the checks are by 'then'. What a list of checks says of a
 -- number is kept by both, so each kind of call is its checks one after another. Assumes nothing.
-use Prim.Native.Nat.{ℕ, zero, suc, _+_, _/_, _≤_, _<_, min}
+use Prim.Native.Nat.{ℕ, zero, suc, _+_, _/_, _<_, min}
 use mathlib.Core.Path.{_≡_, refl, sym, ap, _∙_, subst}
 use mathlib.Core.Bool.{Bool, true, false, cond, not, _||_}
 use mathlib.Core.List.{List, [], _∷_, _++_}
-use mathlib.Core.Logic.{_⊎_, inl, inr}
+use mathlib.Core.Logic.{_⊎_, inl, inr, ⊎-elim}
 use native.Mathlib.Omega.{arith}
 use lib.Dec.{eqb, ltb}
 use lib.ListN.{length}
 use lib.Ieee.{Float}
 use borrow.Author.Tests.{ltb-true, lt-ltb, eqb-true, eqb-false, ne-eqb, not-true}
 use Rattle.float.specs.Bytes.{readingAt}
-use Rattle.float.proofs.Cases.{apart, Or, here, there, order}
+use Rattle.float.proofs.Cases.{apart}
 use Rattle.trace.specs.Trace.{Trace}
 use Rattle.trace.specs.Refusals.{refusal, _orElse_, wrongMap, traceRefusal, pairRefusal, rangeRefusal}
 use Rattle.moment.specs.declared.VarAnswer.the-variants as var
@@ -26,6 +26,7 @@ use Rattle.moment.specs.Arrays.{pearsonMembers}
 use Rattle.moment.specs.Arrays.{skewWhole, skewNumber, skewMembers, kurtosisWhole, kurtosisNumber, kurtosisMembers}
 use Rattle.plan.specs.Plan.{Plan, rows, rowStart, rowEnd}
 use Rattle.plan.specs.Refusals.{rowRefusal, before, rowsRefusal, needed, planRefusal, fixedRefusal}
+use Rattle.plan.proofs.Checks.{below-min}
 use Rattle.window.specs.Given.{Kind, Readings, Given, seriesOf, placesOf, givenRefusal}
 use Rattle.window.specs.Outputs.{Column, Outputs, Lent, answerLengths, countLengths, shortest, shortestOf, shortestOutput, columnAfter}
 use Rattle.window.specs.Outputs.{kept}
@@ -115,7 +116,7 @@ differ-true : (a b : ℕ) → ¬ (a ≡ b) → not (eqb a b) ≡ true
 differ-true a b h = ap not (ne-eqb a b h)
 
 -- either of two
-either : {P Q : Type 0} (a b : Bool) → (a ≡ true → P) → (b ≡ true → Q) → (a || b) ≡ true → P ⊎ Q
+pub either : {P Q : Type 0} (a b : Bool) → (a ≡ true → P) → (b ≡ true → Q) → (a || b) ≡ true → P ⊎ Q
 either true b f g h = inl (f refl)
 either false b f g h = inr (g h)
 
@@ -193,17 +194,20 @@ planned-say p n short outputs width work g f h =
     (more 13 _ _ (some 12))
 
 -- ---- the lists that are lent
+-- the smaller of two is below n exactly when one of them is
+one-below : (a b n : ℕ) → ltb (min a b) n ≡ true → (a < n) ⊎ (b < n)
+one-below a b n h = either _ _ (ltb-true a n) (ltb-true b n) (sym (below-min a b n) ∙ h)
+
+one-below-true : (a b n : ℕ) → (a < n) ⊎ (b < n) → ltb (min a b) n ≡ true
+one-below-true a b n h = below-min a b n ∙ either-true _ _ (lt-ltb a n) (lt-ltb b n) h
+
 -- the shortest is too short exactly when one of them is
 shorter : (a : ℕ) (l : List ℕ) (n : ℕ) → shortest a l < n → SomeShorter (a ∷ l) n
 shorter a [] n h = inl h
 shorter a (b ∷ l) n h = go (shorter (min a b) l n h)
   where
     go : (min a b < n) ⊎ SomeShorter l n → (a < n) ⊎ ((b < n) ⊎ SomeShorter l n)
-    go (inl m) = least (order b a)
-      where
-        least : Or (b ≤ a) (a < b) → (a < n) ⊎ ((b < n) ⊎ SomeShorter l n)
-        least (here o) = inr (inl (omega arith))
-        least (there o) = inl (omega arith)
+    go (inl m) = ⊎-elim (λ k. inl k) (λ k. inr (inl k)) (one-below a b n (lt-ltb (min a b) n m))
     go (inr s) = inr (inr s)
 
 shorter-back : (a : ℕ) (l : List ℕ) (n : ℕ) → SomeShorter (a ∷ l) n → shortest a l < n
@@ -425,25 +429,10 @@ weighted center windowSize minPeriods weights t c₀ c r call =
     next check 8 _ (some 7) (λ e. e) (λ e. e)
     next check 9 _ (some 8) (λ e. e) (λ e. e)
     next check 10 _ (some 9) (differ _ _) (differ-true _ _)
-    next check 12 _ (some 11) (λ e. pair-shorter (ltb-true _ _ e)) (λ e. lt-ltb _ _ (pair-shorter-back e)) in
+    next check 12 _ (some 11) (one-below _ _ _) (one-below-true _ _ _) in
     answered (subst (Says (weightsChecks windowSize weights t c₀)) (sym (call .number-is)) says)
     (λ e. subst (λ (m : ℕ). c ≡ columnAfter m row n c₀) e (call .column-is))
     (λ e. call .column-is ∙ sym (column-is (unfilled _ r n (c₀ .doubles) e) (unfilled _ r n (c₀ .bytes) e)))
-  where
-    pair-shorter : min (length (c₀ .doubles)) (length (c₀ .bytes)) < length (t .readings)
-        → (length (c₀ .doubles) < length (t .readings)) ⊎ (length (c₀ .bytes) < length (t .readings))
-    pair-shorter h = go (shorter (length (c₀ .doubles)) (length (c₀ .bytes) ∷ []) (length (t .readings)) h)
-      where
-        go : SomeShorter (length (c₀ .doubles) ∷ length (c₀ .bytes) ∷ []) (length (t .readings))
-            → (length (c₀ .doubles) < length (t .readings)) ⊎ (length (c₀ .bytes) < length (t .readings))
-        go (inl a) = inl a
-        go (inr (inl a)) = inr a
-        go (inr (inr a)) = absurd a
-
-    pair-shorter-back : (length (c₀ .doubles) < length (t .readings)) ⊎ (length (c₀ .bytes) < length (t .readings))
-        → min (length (c₀ .doubles)) (length (c₀ .bytes)) < length (t .readings)
-    pair-shorter-back (inl a) = omega arith
-    pair-shorter-back (inr a) = omega arith
 
 pub demand-one : DemandOne
 unfolding rowNumbers

@@ -6,9 +6,10 @@ use mathlib.Core.Bool.{Bool, true, false, cond, _||_}
 use mathlib.Core.List.{[], _∷_}
 use mathlib.Core.Logic.{_⊎_, inl, inr}
 use native.Mathlib.Omega.{arith}
-use lib.Dec.{T, leb, eqb}
+use lib.Dec.{leb, eqb}
 use lib.ListN.{length, length-append}
 use lib.Ieee.{Float, isNan}
+use lib.Ieee.Bits.{is-true}
 use borrow.Author.Tests.{le-leb, leb-true, leb-false, eqb-true}
 use Rattle.float.specs.Operators.{_⊖_, _⊘_, ofNat64}
 use Rattle.float.proofs.Signs.{nan-or-at-least-zero}
@@ -33,6 +34,7 @@ use Rattle.rolling.specs.Calls.{Query, query, GivenTo}
 use Rattle.rolling.proofs.Calls.{few-places}
 use Rattle.promises.specs.Calls.{AcceptedCall}
 use Rattle.promises.specs.DemandThree.{Agree, SomeNotFinite, VarianceRow, IsSetting, WhereVariance, DemandThree}
+use Rattle.promises.proofs.DemandOne.{either}
 use Rattle.promises.proofs.Accounts.{lies, row-account}
 use Rattle.promises.proofs.RowsSame.{counted-is, figures-same}
 use Rattle.promises.proofs.Accepted.{known}
@@ -81,11 +83,6 @@ none-shorter q t t′ k f (suc j) h =
     (rowEnd (q .plan) (suc j)) l
     ∙ sym (long-moves (seriesOf (kindOf (q .statistic)) t′ .places .mapped) (q .minPeriods) (suc j) (rowStart (q .plan) (suc j))
     (rowEnd (q .plan) (suc j)) l)
-
-one-of : (a b : Bool) → T (a || b) → (a ≡ true) ⊎ (b ≡ true)
-one-of true b h = inl refl
-one-of false true h = inr refl
-one-of false false h = absurd h
 
 not-few : {n ddof minPeriods : ℕ} → minPeriods ≤ n → ddof < n → (n ≤ ddof) ⊎ (n < minPeriods) → _≡_ {A = ℕ} 1 0
 not-few h g (inl p) = absurd (omega arith)
@@ -185,7 +182,8 @@ module _ (p : Plan) (minPeriods : ℕ) (t : Trace) (widest : ℕ) (plan : Planne
               byte-is = inr refl;
               missing = (λ z. absurd (omega arith), not-few (leb-true _ _ x) (leb-false _ _ y));
               not-finite = λ z f. absurd (some-nonfinite f (eqb-true _ _ n));
-              not-below = λ z. one-of _ _ (nan-or-at-least-zero (state .dp ⊘ (state .weight ⊖ ofNat64 ddof)));
+              not-below = λ z.
+                  either _ _ (λ e. e) (λ e. e) (is-true _ (nan-or-at-least-zero (state .dp ⊘ (state .weight ⊖ ofNat64 ddof))));
             }
         go true false false x y n =
             record {

@@ -38,7 +38,7 @@ use Rattle.promises.specs.SourceFixed.{offsetFn, fixedRow}
 use Rattle.promises.specs.SourceWeights.{weightsStart, computeVarWeights, weightedRow, rollingVarWeights}
 use Rattle.promises.specs.Calls.{varList, skewList, kurtosisList, covList, pearsonList}
 use Rattle.promises.specs.DemandTwo.{sourceVar, sourceCov, sourceSkewRange, sourceKurtosisRange, varianceMoment}
-use Rattle.promises.specs.Table.{every, same, gives}
+use Rattle.promises.specs.Table.{every, same, gives, infiniteMean}
 
 -- ---- comparisons
 -- lists of numbers, of bits, and of doubles by their bits
@@ -65,7 +65,7 @@ doubles (x ∷ k) [] = false
 doubles (x ∷ k) (y ∷ l) = same x y && doubles k l
 
 -- whole numbers as doubles
-abbrev reals : List ℕ → List Float
+abbrev pub reals : List ℕ → List Float
 reals l = map ofNat64 l
 
 -- doubles that are these whole numbers
@@ -149,10 +149,6 @@ unfolding every ofBits toBits ofInt add sub mul div eq lt le VarState·clearZero
     VarState·combine SkewState·fromIter SkewState·clearZeroWeightNan SkewState·insertOne SkewState·combine KurtosisState·fromIter
     KurtosisState·clearZeroWeightNan KurtosisState·insertOne KurtosisState·combine
 clear-examples = tt
-
--- what P3 combines an empty state with
-abbrev infiniteMean : VarState
-infiniteMean = record { weight = one64; mean = inf false; dp = zero64 }
 
 -- a state whose quotient is below zero
 abbrev below : VarState
@@ -273,7 +269,7 @@ unfolding every table
 last-pair-chunk-examples = tt
 
 -- whole numbers as a trace without a map
-abbrev whole : List ℕ → Trace
+abbrev pub whole : List ℕ → Trace
 whole l = traceOf (reals l) false []
 
 -- 2, 7 and 4, of which the second is missing, a map of ones, and no map

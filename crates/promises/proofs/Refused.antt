@@ -8,7 +8,7 @@ use mathlib.Core.List.{List, [], _∷_, map, zip, zipWith}
 use mathlib.Core.Logic.{_⊎_, inl, inr, ⊎-elim}
 use native.Mathlib.Omega.{arith}
 use lib.Ieee.{Float, binary64, ofBits, toBits, ofInt, add, sub, mul, div, eq}
-use Rattle.float.specs.Operators.{zero64, one64, ofNat64}
+use Rattle.float.specs.Operators.{zero64, one64}
 use Rattle.float.specs.Tables.{table}
 use Rattle.float.proofs.Cases.{apart}
 use Rattle.trace.specs.Trace.{Trace, traceOf, validAt, bothAt, validFrom}
@@ -40,17 +40,10 @@ use Rattle.promises.specs.DemandTwo.{sourceVar, sourceCov, sourceSkewRan
 use Rattle.promises.specs.Table.{varianceBy, p7, trace7, p9, trace9}
 use Rattle.promises.proofs.DemandOne.{demand-one}
 use Rattle.promises.proofs.DemandTwo.{demand-two}
+use Rattle.promises.proofs.Examples.{reals, whole}
 use Rattle.promises.proofs.Witnesses.{fourColumn, fourLent, leaves, trace13, p9Left, p9-accepted}
 
 -- ---- traces
--- whole numbers as doubles
-abbrev reals : List ℕ → List Float
-reals l = map ofNat64 l
-
--- without a map
-abbrev whole : List ℕ → Trace
-whole l = traceOf (reals l) false []
-
 -- two readings, and a map of no bytes
 abbrev noBytes : Trace
 noBytes = traceOf (reals (1 ∷ 3 ∷ [])) true []

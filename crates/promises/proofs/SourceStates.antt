@@ -3,7 +3,7 @@
 use Prim.Native.Nat.{ℕ}
 use mathlib.Core.Path.{_≡_, refl, ap, _∙_}
 use mathlib.Core.Bool.{Bool, true, false}
-use mathlib.Core.List.{List, [], _∷_, foldl, map, zip, zipWith}
+use mathlib.Core.List.{List, [], _∷_, foldl, foldl-map, map, zip, zipWith}
 use lib.Dec.{eqb·suc-zero}
 use lib.ListN.{length, length-map}
 use lib.Ieee.{Float}
@@ -20,7 +20,7 @@ use Rattle.moment.specs.Cov.{pairMean, covNew, covInsert, covCombine, covFinali
 use Rattle.moment.specs.Pearson.{squareX, squareY, pearsonNew, pearsonInsert, pearsonCombine, pearsonFinalize}
 use Rattle.moment.specs.Skew.{skewNew, skewClear, skewInsert, skewCombine, skewBiased, skewFinalize}
 use Rattle.moment.specs.Kurtosis.{kurtosisNew, kurtosisClear, kurtosisInsert, kurtosisCombine, kurtosisBiased, kurtosisFinalize}
-use Rattle.promises.specs.SourceStates.{algSum, addProducts, addCubes, addFourths, squaredFrom, productFrom}
+use Rattle.promises.specs.SourceStates.{algAdd, algSum, addProducts, addCubes, addFourths, squaredFrom, productFrom}
 use Rattle.promises.specs.SourceStates.{VarState·new, VarState·clearZeroWeightNan, VarState·insertOne}
 use Rattle.promises.specs.SourceStates.{VarState·combine, VarState·finalize}
 use Rattle.promises.specs.SourceStates.{CovState·new, CovState·insertOne, CovState·combine, CovState·finalize}
@@ -39,12 +39,8 @@ kept-sum member turn f each s (x ∷ xs) =
     kept-sum member turn f each (turn s x) xs ∙ ap (λ (t : Float). foldl (λ t x. t ⊕ f x) t xs) (each s x)
 
 -- a sum of what f gives, taken of the list of them
-sum-from : {A : Type 0} (f : A → Float) (t : Float) (xs : List A) → foldl (λ a b. a ⊕ b) t (map f xs) ≡ foldl (λ a x. a ⊕ f x) t xs
-sum-from f t [] = refl
-sum-from f t (x ∷ xs) = sum-from f (t ⊕ f x) xs
-
 sum-map : {A : Type 0} (f : A → Float) (xs : List A) → algSum (map f xs) ≡ sumOf f xs
-sum-map f xs = sum-from f zero64 xs
+sum-map f xs = foldl-map f algAdd xs zero64
 
 -- pairs, taken apart and put together
 zip-members : (ps : List (Float × Float)) → zip (map firstOf ps) (map secondOf ps) ≡ ps
