@@ -109,7 +109,8 @@ module _ {center : Bool} {size minPeriods : ℕ} {a : Statistic} where
 
   -- equal lengths have the same bounds
   pub two-fixed-meet : {t t′ : Given (kindOf a)} {l₀ l l₀′ l′ : Lent} {number number′ : ℕ}
-      → CalledFixed center size minPeriods a t l₀ l number → CalledFixed center size minPeriods a t′ l₀′ l′ number′ → size < 2 ^ 64 → IsSetting a
+      → CalledFixed center size minPeriods a t l₀ l number → CalledFixed center size minPeriods a t′ l₀′ l′ number′ → size < 2 ^ 64
+      → IsSetting a
       → MeetTwoFixed center size minPeriods a t t′ (l₀, l) (l₀′, l′) number number′
   two-fixed-meet {t} {t′} {l = l} {l′ = l′} c c′ small set =
       record {
