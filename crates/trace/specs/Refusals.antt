@@ -20,9 +20,10 @@ a orElse b = cond (eqb a 0) b a
 abbrev pub tooMany : ℕ → Bool
 tooMany n = ltb 16777216 n
 
--- "3 a map of the wrong length": "exactly n / 8 bytes rounded up"
+-- "3 a map of the wrong length": one of fewer than n / 8 bytes rounded up. Document 02: "Accept a longer map and ignore the bytes behind.
+-- A shorter one is still 3"
 unfoldable pub wrongMap : ℕ → Bool → List ℕ → Bool
-wrongMap n has map = cond has (not (eqb (length map) ((n + 7) / 8))) false
+wrongMap n has map = cond has (ltb (length map) ((n + 7) / 8)) false
 
 -- one trace: 1, 3
 abbrev pub arrayRefusal : ℕ → Bool → List ℕ → ℕ

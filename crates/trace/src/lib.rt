@@ -58,7 +58,7 @@ pub fn wrong_map(n: usize, has_map: bool, map: &[u8]) -> bool
     ensures { λ r. ⌜ r ≡ wrongMap n «has_map» (now (map .entry)) ⌝ }
 {
     if has_map {
-        return map.len() != n / 8 + (n % 8 + 7) / 8;
+        return map.len() < n / 8 + (n % 8 + 7) / 8;
     }
     false
 }
