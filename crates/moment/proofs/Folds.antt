@@ -12,6 +12,7 @@ use lib.Seq.{drop-cons}
 use lib.Ieee.{Float, nan}
 use Rattle.float.specs.Operators.{_⊕_, zero64}
 use Rattle.trace.specs.Trace.{validAt, validFrom}
+use Rattle.trace.proofs.Maps.{none-missing}
 
 -- ---- every one of a list
 module _ {A B : Type 0} (f : B → A → B) (b : B) (xs : List A) where
@@ -42,16 +43,10 @@ pub from-end : {A : Type 0} (valid : ℕ → Bool) (xs : List A) (p i : ℕ) →
 unfolding validFrom
 from-end valid xs p i h = rw (drop-of-length-le xs h)
 
--- where every place is valid the valid ones are all
-pub none-missing : {A : Type 0} (valid : ℕ → Bool) → ((i : ℕ) → valid i ≡ true) → (i : ℕ) (xs : List A) → validFrom valid i xs ≡ xs
-unfolding validFrom
-none-missing valid v i [] = refl
-none-missing valid v i (x ∷ xs) = rw (v i, none-missing valid v (suc i) xs)
-
--- as without a map
+-- without a map the valid ones are all
 pub all-valid : {A : Type 0} (map : List ℕ) (i : ℕ) (xs : List A) → validFrom (validAt false map) i xs ≡ xs
 unfolding validAt
-all-valid map i xs = none-missing (validAt false map) (λ i. refl) i xs
+all-valid map i xs = none-missing (validAt false map) i xs (λ j k l. refl)
 
 -- so what is made of a list is made of its valid ones
 pub unmapped : {A S : Type 0} (new : List A → S) (has : Bool) (map : List ℕ) (i : ℕ) (xs : List A) → has ≡ false → new xs ≡ new (validFrom (validAt has map) i xs)

@@ -5,7 +5,7 @@ use mathlib.Core.Path.{_≡_, sym, ap, _∙_}
 use mathlib.Core.Bool.{Bool, true, false}
 use lib.Dec.{lit≤}
 use lib.ListN.{length}
-use borrow.Author.Tests.{eqb-true, not-false}
+use borrow.Author.Tests.{ltb-false}
 use Rattle.trace.specs.Trace.{Trace}
 use Rattle.trace.specs.Refusals.{refusal, _orElse_, tooMany, wrongMap, traceRefusal}
 use Rattle.trace.proofs.Accepted.{none-of, not-refused}
@@ -28,13 +28,13 @@ pub record Known (q : Query) (t : GivenTo q) (l : Lent) : Type 0 where
   pub counts : (k : ℕ) → k < rows (q .plan) → countsIn (l .outputs .counts) k ≡ countsAt (tallies q t) k
 
 -- a map that is not refused
-pub map-long : (t : Trace) → traceRefusal t ≡ 0 → t .mapped ≡ true → length (t .map) ≡ (length (t .readings) + 7) / 8
+pub map-long : (t : Trace) → traceRefusal t ≡ 0 → t .mapped ≡ true → (length (t .readings) + 7) / 8 ≤ length (t .map)
 unfolding wrongMap
 map-long t e h =
     let w : wrongMap (length (t .readings)) (t .mapped) (t .map) ≡ false =
     not-refused 3 (wrongMap (length (t .readings)) (t .mapped) (t .map)) (lit≤ tt)
     (none-of (refusal 1 (tooMany (length (t .readings)))) (refusal 3 (wrongMap (length (t .readings)) (t .mapped) (t .map))) e .1) in
-    eqb-true _ _ (not-false _ (rw h at w))
+    ltb-false _ _ (rw h at w)
 
 known-of : (q : Query) (t : GivenTo q) (l₀ l : Lent) (short : Bool) → Left q t l₀ l 0 → refusalOf q t short l₀ ≡ 0 → Known q t l
 known-of q t l₀ l short w e =

@@ -129,14 +129,14 @@ map-wrong : (t : Trace) → wrongMap (length (t .readings)) (t .mapped) (t .map)
 unfolding wrongMap
 map-wrong t h = go (t .mapped) refl h
   where
-    go : (m : Bool) → t .mapped ≡ m → cond m (not (eqb (length (t .map)) ((length (t .readings) + 7) / 8))) false ≡ true
+    go : (m : Bool) → t .mapped ≡ m → cond m (ltb (length (t .map)) ((length (t .readings) + 7) / 8)) false ≡ true
         → MapOfWrongLength t
-    go true e h = (e, differ _ _ h)
+    go true e h = (e, ltb-true _ _ h)
     go false e h = apart h
 
 map-wrong-true : (t : Trace) → MapOfWrongLength t → wrongMap (length (t .readings)) (t .mapped) (t .map) ≡ true
 unfolding wrongMap
-map-wrong-true t (e, h) = rw e (differ-true _ _ h)
+map-wrong-true t (e, h) = rw e (lt-ltb _ _ h)
 
 -- ---- by the kind of call
 trace-says : (t : Trace) → Says (traceChecks t) (traceRefusal t)

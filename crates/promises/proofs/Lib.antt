@@ -1,5 +1,5 @@
 -- Laws by subject: the source's states, whole arrays and ranges; the account over a plan; the source's windows, marks and rows, its
--- fixed windows and its weights; then the demands, computed examples of the source, accepted and refused calls that bear witness, and
+-- fixed windows and its weights; then the demands and the law of maps, computed examples of the source, accepted and refused calls that bear witness, and
 -- the table.
 pub mod SourceStates
 pub mod Spans
@@ -15,6 +15,7 @@ pub mod Accepted
 pub mod RowsSame
 pub mod DemandTwo
 pub mod DemandThree
+pub mod Maps
 pub mod Examples
 pub mod Witnesses
 pub mod Refused

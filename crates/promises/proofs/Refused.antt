@@ -166,7 +166,7 @@ weights-refused = record { number-is = refl; column-is = refl }
 -- ---- `FirstApplies`, from the checks alone
 -- 3 of a whole array, 2 of a pair, 11 of a range
 pub three-first : FirstApplies (traceChecks noBytes) 3
-three-first = inr (λ h. omega arith, inl (refl, (refl, λ h. omega arith)))
+three-first = inr (λ h. omega arith, inl (refl, (refl, omega arith)))
 
 pub two-first : FirstApplies (pairChecks trace13 (whole (1 ∷ []))) 2
 two-first = inr (λ h. ⊎-elim (λ g. omega arith) (λ g. omega arith) h, inl (refl, λ h. omega arith))
@@ -242,7 +242,7 @@ unfolding rowsChecks table widest
 none-apply = (
   λ h. omega arith,
   (
-    λ h. h .1 refl,
+    λ h. omega (arith, h .1),
     (
       λ h. ⊎-elim (λ g. g refl) (λ g. omega arith) h,
       (

@@ -19,6 +19,7 @@ use Rattle.float.proofs.Cases.{Or, here, there, order}
 use Rattle.trace.specs.Trace.{Trace, validAt, bothAt, validFrom, validReadings, validPairs}
 use Rattle.trace.specs.Refusals.{refusal, _orElse_, tooMany, wrongMap, traceRefusal, pairRefusal, rangeRefusal}
 use Rattle.trace.proofs.Accepted.{none-of, not-refused, range-fits, pair-fits}
+use Rattle.trace.proofs.Maps.{none-missing}
 use Rattle.moment.specs.Sums.{firstOf, secondOf}
 use Rattle.moment.specs.Chunks.{chunks, chunksOf, foldChunks, inChunks}
 use Rattle.moment.specs.Var.{varEmpty, varNew, varCombine}
@@ -137,20 +138,12 @@ module _ {S : Type 0} (new : List Float → List Float → S) (combine : S → S
   source-in-pairs empty ps = held-alike ps [] empty ∙ source-in-chunks (ofPairs new) combine empty ps
 
 -- ---- places
--- where no place is missing the readings are the trace itself, map or no map
-none-from : {A : Type 0} (valid : ℕ → Bool) (p : ℕ) (xs : List A) → ((i : ℕ) → p ≤ i → i < p + length xs → valid i ≡ true)
-    → validFrom valid p xs ≡ xs
-unfolding validFrom
-none-from valid p [] h = refl
-none-from valid p (x ∷ xs) h =
-    rw (h p (omega arith) (omega arith), none-from valid (suc p) xs (λ i k l. h i (omega arith) (omega arith)))
-
 -- no place of the trace is missing: the source's `has_nulls` is false, though a map may be lent
 abbrev pub NoneMissing : ℕ → (ℕ → Bool) → Type 0
 NoneMissing n valid = (i : ℕ) → i < n → valid i ≡ true
 
 pub no-nulls : {A : Type 0} (valid : ℕ → Bool) (xs : List A) → NoneMissing (length xs) valid → validFrom valid 0 xs ≡ xs
-no-nulls valid xs h = none-from valid 0 xs (λ i k l. h i (omega arith))
+no-nulls valid xs h = none-missing valid 0 xs (λ i k l. h i (omega arith))
 
 -- a map of ones, whose bits past the trace are 0
 pub ones-none-missing : NoneMissing 4 (validAt true (15 ∷ []))
@@ -237,10 +230,10 @@ pairs-from v w p (x ∷ xs) (y ∷ ys) = pair-step (v p) (w p) x y _ _ (pairs-fr
 
 -- ---- an accepted trace as the source's array
 -- an accepted map's bytes hold a bit for each place
-pub bits-fit : (n bytes : ℕ) → bytes ≡ (n + 7) / 8 → n ≤ 8 * bytes
+pub bits-fit : (n bytes : ℕ) → (n + 7) / 8 ≤ bytes → n ≤ 8 * bytes
 bits-fit n bytes e = omega arith
 
-bits-are : (rust : Rust) (t : Trace) → length (t .map) ≡ (length (t .readings) + 7) / 8
+bits-are : (rust : Rust) (t : Trace) → (length (t .readings) + 7) / 8 ≤ length (t .map)
     → bitsOf rust (bitmapOf t) ≡ span (validAt true (t .map)) (length (t .readings)) 0
 bits-are rust t e =
     let n = length (t .readings) in
@@ -260,7 +253,7 @@ validity-of : (rust : Rust) (t : Trace) → traceRefusal t ≡ 0
     → ValidityOf (validAt (t .mapped) (t .map)) (length (t .readings)) (arrayOf rust t .validity)
 validity-of rust t e = go (t .mapped) (map-long t e)
   where
-    go : (m : Bool) → (m ≡ true → length (t .map) ≡ (length (t .readings) + 7) / 8)
+    go : (m : Bool) → (m ≡ true → (length (t .readings) + 7) / 8 ≤ length (t .map))
         → ValidityOf (validAt m (t .map)) (length (t .readings)) (cond m (some (bitsOf rust (bitmapOf t))) none)
     go true f = lent (bits-are rust t (f refl))
     go false f = unlent (without-map (t .map))
@@ -465,14 +458,14 @@ module _ {S : Type 0} (fromIter : List Float → ℕ → S) (rust : Rust) (valid
       go true f = rw (kept-from valid p xs, set-bits p xs)
       go false f =
           let z : unsetBits bits ≡ 0 = (let h = f refl in omega arith) in
-          ap (λ (l : List Float). fromIter l (length l)) (sym (none-from valid p xs (unset-none valid (length xs) p z)))
+          ap (λ (l : List Float). fromIter l (length l)) (sym (none-missing valid p xs (unset-none valid (length xs) p z)))
 
   by-validity : (start len : ℕ) (values : List Float) (o : Option (List Bool)) → ValidityOf valid (length values) o
       → start + len ≤ length values
       → fromRange fromIter rust (take len (drop start values)) (withUnset (Option·map (sliced start len) o))
       ≡ fromIter (validFrom valid start (take len (drop start values))) (length (validFrom valid start (take len (drop start values))))
   by-validity start len values none (unlent all) h =
-      ap (λ (l : List Float). fromIter l (length l)) (sym (none-from valid start (take len (drop start values)) (λ i k l. all i)))
+      ap (λ (l : List Float). fromIter l (length l)) (sym (none-missing valid start (take len (drop start values)) (λ i k l. all i)))
   by-validity start len values (some bits) (lent q) h =
       let n : len ≤ length (drop start values) = simp length-drop (omega arith) in
       let m : length (take len (drop start values)) ≡ len = length-take-le len (drop start values) n in

@@ -371,11 +371,11 @@ module _ (M : Moment Float) (rust : Rust) (neutral : Neutral M) (final : M .Stat
 -- over any plan that is in order, the source's row is what the split account yields
 pub plan-row : (M : Moment Float) (rust : Rust) → Neutral M → (final : M .State → Figure) (t : Trace) (minPeriods widest : ℕ) (p : Plan)
     → Planned (length (t .readings)) widest p → length (t .readings) ≤ 16777216
-    → (t .mapped ≡ true → length (t .map) ≡ (length (t .readings) + 7) / 8) → (k : ℕ) → k < rows p
+    → (t .mapped ≡ true → (length (t .readings) + 7) / 8 ≤ length (t .map)) → (k : ℕ) → k < rows p
     → planRow M rust final t minPeriods p k ≡ answerAt M final (series (t .mapped) (t .map) (t .readings)) minPeriods p k
 plan-row M rust neutral final t minPeriods widest p plan few fits k h = go (t .mapped) fits
   where
-    go : (m : Bool) → (m ≡ true → length (t .map) ≡ (length (t .readings) + 7) / 8)
+    go : (m : Bool) → (m ≡ true → (length (t .readings) + 7) / 8 ≤ length (t .map))
         → cond m (rowOf (rollingNulls M rust final (t .readings) (bitmapOf t) minPeriods (offsets p) (rows p)) k)
         (getD (rollingNoNulls M rust final (t .readings) minPeriods (offsets p) (rows p)) k Missing)
         ≡ answerAt M final (series m (t .map) (t .readings)) minPeriods p k

@@ -289,8 +289,8 @@ differ7 same =
     let bits : _≡_ {A = ℕ} 0x4000000000000000 0x4029000000000000 = ap firstBits same in
     omega arith
 
--- Rows (0,3), (1,4). 2, 7, 4, 8 and 9, 5, 4, 8 with maps that miss place 1 and differ in their spare bits: they agree in row 1's
--- window, whatever the missing place holds.
+-- Rows (0,3), (1,4). 2, 7, 4, 8 and 9, 5, 4, 8 with maps of one byte and of three that miss place 1, and differ in their spare bits: they
+-- agree in row 1's window, whatever the missing place holds.
 abbrev mapPlan : Plan
 mapPlan = planOf (0 ∷ 1 ∷ []) (3 ∷ 4 ∷ [])
 
@@ -298,7 +298,7 @@ abbrev mapped : Trace
 mapped = traceOf (ofNat64 2 ∷ ofNat64 7 ∷ ofNat64 4 ∷ ofNat64 8 ∷ []) true (13 ∷ [])
 
 abbrev otherMapped : Trace
-otherMapped = traceOf (ofNat64 9 ∷ ofNat64 5 ∷ ofNat64 4 ∷ ofNat64 8 ∷ []) true (253 ∷ [])
+otherMapped = traceOf (ofNat64 9 ∷ ofNat64 5 ∷ ofNat64 4 ∷ ofNat64 8 ∷ []) true (253 ∷ 0 ∷ 255 ∷ [])
 
 abbrev mappedLeft : Lent
 mappedLeft = fourLeft 12 (two64 ∷ ofNat64 8 ∷ one64 ∷ one64 ∷ []) (1 ∷ 1 ∷ 7 ∷ 7 ∷ [])
@@ -316,7 +316,7 @@ unfolding table refusal _orElse_ wrongMap planRefusal filled kept ofBits ofInt a
     entriesFrom splitAfter figureOf insertedAt nonfiniteAt answerAt validAt
 other-mapped-accepted = record { number-is = refl; left = leaves refl refl refl refl refl }
 
-places-alike : (i : ℕ) → i < 4 → validAt true (13 ∷ []) i ≡ validAt true (253 ∷ []) i
+places-alike : (i : ℕ) → i < 4 → validAt true (13 ∷ []) i ≡ validAt true (253 ∷ 0 ∷ 255 ∷ []) i
 unfolding validAt
 places-alike zero h = refl
 places-alike (suc zero) h = refl
@@ -324,7 +324,7 @@ places-alike (suc (suc zero)) h = refl
 places-alike (suc (suc (suc zero))) h = refl
 places-alike (suc (suc (suc (suc i)))) h = absurd (omega arith)
 
--- `Alike`, with maps
+-- `Alike`, with maps of different length
 pub alike-mapped : Alike Readings mapped otherMapped
 alike-mapped = record { long = refl; places = places-alike; mapped = refl }
 

@@ -36,9 +36,10 @@ TooManyReadings n = 16777216 < n
 abbrev pub LengthsDiffer : ℕ → ℕ → Type 0
 LengthsDiffer n n′ = ¬ (n ≡ n′)
 
--- "3 a map of the wrong length": "A validity map, where one is lent, has .. exactly n / 8 bytes rounded up"
+-- "3 a map of the wrong length": one that is lent has fewer than n / 8 bytes rounded up. Document 02: "Accept a longer map and ignore the
+-- bytes behind. A shorter one is still 3, and the map-length example for n = 9 reads 'at least 2 bytes'."
 abbrev pub MapOfWrongLength : Trace → Type 0
-MapOfWrongLength t = (t .mapped ≡ true) × (¬ (length (t .map) ≡ (length (t .readings) + 7) / 8))
+MapOfWrongLength t = (t .mapped ≡ true) × (length (t .map) < (length (t .readings) + 7) / 8)
 
 -- "The writer of a plan: 4 lists differ in length or exceed 16,777,216 rows"
 abbrev pub WrongLists : Plan → Type 0

@@ -1,5 +1,5 @@
 -- The Rust as functions on values: what is taken from Rust itself, the source's states, whole arrays and ranges, then its windows, rows and
--- weights; the kinds of call, and the three demands of them; last the table of the P cases.
+-- weights; the kinds of call, and the three demands of them; the law of maps; last the table of the P cases.
 pub mod Rust
 pub mod SourceStates
 pub mod SourceArrays
@@ -11,4 +11,5 @@ pub mod Calls
 pub mod DemandOne
 pub mod DemandTwo
 pub mod DemandThree
+pub mod Maps
 pub mod Table

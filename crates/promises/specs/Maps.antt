@@ -1,0 +1,105 @@
+-- Document 02, request 1: "Accept a longer map and ignore the bytes behind." Two calls whose maps have the same bits at the places of the
+-- trace give the same in every entry, whatever stands in the spare bits and in the bytes behind, and however many these are. Assumes
+-- nothing.
+use Prim.Native.Nat.{ℕ, _+_, _/_, _≤_, _<_, min}
+use mathlib.Core.Path.{_≡_}
+use mathlib.Core.Bool.{Bool, true}
+use mathlib.Core.List.{List, [], _∷_, _++_}
+use lib.ListN.{length}
+use lib.Ieee.{Float}
+use Rattle.trace.specs.Trace.{Trace, traceOf, validAt}
+use Rattle.plan.specs.Plan.{rows}
+use Rattle.window.specs.Given.{Kind, Readings, Given, placesOf}
+use Rattle.window.specs.Outputs.{Column, Lent, shortestOutput, answersIn}
+use Rattle.rolling.specs.Moments.{Statistic, kindOf}
+use Rattle.rolling.specs.Calls.{Query, GivenTo, Called}
+use Rattle.rolling.specs.Fixed.{CalledFixed}
+use Rattle.weighted.specs.Weights.{CalledWeights}
+use Rattle.moments.specs.HostCall.{Host, decodedOf, ReadingLists, shortLists, CalledBytes}
+use Rattle.promises.specs.Calls.{CallsVar, CallsSkew, CallsKurtosis, CallsCov, CallsPearson, CallsSkewRange, CallsKurtosisRange}
+
+-- ---- maps that say the same
+-- a map, where one is lent, has "at least" n / 8 bytes rounded up
+abbrev pub LongEnough : Trace → Type 0
+LongEnough t = t .mapped ≡ true → (length (t .readings) + 7) / 8 ≤ length (t .map)
+
+-- two traces of the same readings, with maps that are long enough and have the same bit at every place of the trace
+pub record SameMaps (t t′ : Trace) : Type 0 where
+  pub readings : t .readings ≡ t′ .readings
+  pub mapped : t .mapped ≡ t′ .mapped
+  pub long : LongEnough t
+  pub long′ : LongEnough t′
+  pub bits : (i : ℕ) → i < length (t .readings) → validAt (t .mapped) (t .map) i ≡ validAt (t′ .mapped) (t′ .map) i
+
+-- a trace with more bytes behind its map
+abbrev pub padded : Trace → List ℕ → Trace
+padded t behind = traceOf (t .readings) (t .mapped) (t .map ++ behind)
+
+-- the same, of what a call is given ..
+abbrev pub SameGiven : (kind : Kind) → Given kind → Given kind → Type 0
+SameGiven Readings t t′ = SameMaps t t′
+
+-- .. and of what the host lends
+abbrev pub SameHost : (kind : Kind) → Host kind → Host kind → Type 0
+SameHost Readings h h′ = (h .bytes ≡ h′ .bytes) × SameMaps (decodedOf Readings h) (decodedOf Readings h′)
+
+-- ---- what two such calls give
+-- the same number, and where that is 0, `Same`
+pub record SameAnswer (r r′ : ℕ) (Same : Type 0) : Type 0 where
+  pub number : r ≡ r′
+  pub answer : r ≡ 0 → Same
+
+-- lists that are as long: of what is lent, only the lengths count for the number
+pub record SameRoom (l l′ : Lent) : Type 0 where
+  pub outputs : shortestOutput (l .outputs) ≡ shortestOutput (l′ .outputs)
+  pub work : length (l .work) ≡ length (l′ .work)
+
+-- the same answer in every row
+abbrev pub SameColumns : ℕ → List Column → List Column → Type 0
+SameColumns rows cs cs′ = (k : ℕ) → k < rows → answersIn cs k ≡ answersIn cs′ k
+
+-- so it is with a call that hands out a state, of one trace, whatever the lent state held before ..
+abbrev pub OfTrace : (Trace → List Float → List Float → ℕ → Type 0) → Type 0
+OfTrace Calls =
+    (t t′ : Trace) → SameMaps t t′ → (before after before′ after′ : List Float) (r r′ : ℕ) → Calls t before after r
+    → Calls t′ before′ after′ r′ → SameAnswer r r′ (after ≡ after′)
+
+-- .. and of two
+abbrev pub OfPair : (Trace → Trace → List Float → List Float → ℕ → Type 0) → Type 0
+OfPair Calls =
+    (x y x′ y′ : Trace) → SameMaps x x′ → SameMaps y y′ → (before after before′ after′ : List Float) (r r′ : ℕ)
+    → Calls x y before after r → Calls x′ y′ before′ after′ r′ → SameAnswer r r′ (after ≡ after′)
+
+-- ---- the law, for every entry that is lent a map
+pub record MapLaw : Type 0 where
+  -- bytes behind a map leave it the same
+  pub behind : (t : Trace) (bytes : List ℕ) → LongEnough t → SameMaps t (padded t bytes)
+  -- whole arrays, pairs and ranges
+  pub var : OfTrace CallsVar
+  pub skew : OfTrace CallsSkew
+  pub kurtosis : OfTrace CallsKurtosis
+  pub cov : OfPair CallsCov
+  pub pearson : OfPair CallsPearson
+  pub skew-range : (start len : ℕ) → OfTrace (λ t. CallsSkewRange t start len)
+  pub kurtosis-range : (start len : ℕ) → OfTrace (λ t. CallsKurtosisRange t start len)
+  -- plans, the trace as doubles
+  pub plans : (q : Query) (t t′ : GivenTo q) → SameGiven (kindOf (q .statistic)) t t′ → (l₀ l l₀′ l′ : Lent) → SameRoom l₀ l₀′ → (r r′ : ℕ)
+      → Called q t l₀ l r → Called q t′ l₀′ l′ r′
+      → SameAnswer r r′ (SameColumns (rows (q .plan)) (l .outputs .answers) (l′ .outputs .answers))
+  -- host calls, the trace as bytes
+  pub hosts : (q : Query) (h h′ : Host (kindOf (q .statistic))) → SameHost (kindOf (q .statistic)) h h′
+      → (r₀ r r₀′ r′ : ReadingLists (kindOf (q .statistic)))
+      → shortLists (kindOf (q .statistic)) h r₀ ≡ shortLists (kindOf (q .statistic)) h′ r₀′
+      → (l₀ l l₀′ l′ : Lent) → SameRoom l₀ l₀′ → (number number′ : ℕ) → CalledBytes q h r₀ r l₀ l number
+      → CalledBytes q h′ r₀′ r′ l₀′ l′ number′
+      → SameAnswer number number′ (SameColumns (rows (q .plan)) (l .outputs .answers) (l′ .outputs .answers))
+  -- fixed windows
+  pub fixed : (center : Bool) (windowSize minPeriods : ℕ) (a : Statistic) (t t′ : Given (kindOf a)) → SameGiven (kindOf a) t t′
+      → (l₀ l l₀′ l′ : Lent) → SameRoom l₀ l₀′ → (r r′ : ℕ) → CalledFixed center windowSize minPeriods a t l₀ l r
+      → CalledFixed center windowSize minPeriods a t′ l₀′ l′ r′
+      → SameAnswer r r′ (SameColumns (placesOf (kindOf a) t) (l .outputs .answers) (l′ .outputs .answers))
+  -- weights
+  pub weights : (center : Bool) (windowSize minPeriods : ℕ) (weights : List Float) (t t′ : Trace) → SameMaps t t′
+      → (c₀ c c₀′ c′ : Column) → min (length (c₀ .doubles)) (length (c₀ .bytes)) ≡ min (length (c₀′ .doubles)) (length (c₀′ .bytes)) → (r r′ : ℕ)
+      → CalledWeights center windowSize minPeriods weights t c₀ c r → CalledWeights center windowSize minPeriods weights t′ c₀′ c′ r′
+      → SameAnswer r r′ (SameColumns (length (t .readings)) (c ∷ []) (c′ ∷ []))
