@@ -323,6 +323,18 @@ taken {numberOf = numberOf} {membersOf} {state} {refusedBy} {list} laws number s
     go true e n m = (eqb-true number 0 e, m ∙ laws .state-members s before)
     go false e n m = absurd (eqb-false number 0 e (sym (n ∙ laws .refused-number number)))
 
+-- what a call answers is its number
+pub number-of : {S R : Type 0} {numberOf : R → ℕ} {membersOf : R → List Float → List Float} {state : S → R} {refusedBy : ℕ → R}
+    {list : S → List Float}
+    → Hands numberOf membersOf state refusedBy list → (number : ℕ) (s : S) (before after : List Float) (r : ℕ)
+    → StateResult numberOf membersOf (answer state refusedBy number s) before r after → r ≡ number
+unfolding answer
+number-of {numberOf = numberOf} {state = state} {refusedBy} laws number s before after r c = go (eqb number 0) refl (c .number)
+  where
+    go : (b : Bool) → eqb number 0 ≡ b → r ≡ numberOf (cond b (state s) (refusedBy number)) → r ≡ number
+    go true e n = n ∙ laws .state-number s ∙ sym (eqb-true number 0 e)
+    go false e n = n ∙ laws .refused-number number
+
 handed : {S R : Type 0} {numberOf : R → ℕ} {membersOf : R → List Float → List Float} {state : S → R} {refusedBy : ℕ → R}
     {list : S → List Float}
     → Hands numberOf membersOf state refusedBy list → {checks : List Check} (number : ℕ) → Says checks number
@@ -330,18 +342,16 @@ handed : {S R : Type 0} {numberOf : R → ℕ} {membersOf : R → List Float →
     → StateResult numberOf membersOf (answer state refusedBy number s) before r after → Answered checks r before after (after ≡ list s)
 unfolding answer
 handed {numberOf = numberOf} {membersOf} {state} {refusedBy} {list} laws {checks} number says s before after r c =
-    go (eqb number 0) refl (c .number) (c .state)
+    let z = number-of laws number s before after r c in
+    answered (subst (Says checks) (sym z) says)
+    (λ e. taken laws number s before after
+    (subst (λ (k : ℕ). StateResult numberOf membersOf (answer state refusedBy number s) before k after) e c) .1)
+    (λ some. go (eqb number 0) refl z some (c .state))
   where
-    go : (b : Bool) → eqb number 0 ≡ b → r ≡ numberOf (cond b (state s) (refusedBy number)) → after
-        ≡ membersOf (cond b (state s) (refusedBy number)) before
-        → Answered checks r before after (after ≡ list s)
-    go true e n m =
-        let z : r ≡ number = n ∙ laws .state-number s ∙ sym (eqb-true number 0 e) in
-        answered (subst (Says checks) (sym z) says) (λ x. m ∙ laws .state-members s before) (λ x. absurd (x (n ∙ laws .state-number s)))
-    go false e n m =
-        let z : r ≡ number = n ∙ laws .refused-number number in
-        answered (subst (Says checks) (sym z) says) (λ x. absurd (eqb-false number 0 e (sym z ∙ x)))
-        (λ x. m ∙ laws .refused-members number before)
+    go : (b : Bool) → eqb number 0 ≡ b → r ≡ number → ¬ (r ≡ 0) → after ≡ membersOf (cond b (state s) (refusedBy number)) before
+        → after ≡ before
+    go true e z some m = absurd (some (z ∙ eqb-true number 0 e))
+    go false e z some m = m ∙ laws .refused-members number before
 
 pub var-hands : Hands varNumber varMembers var.State var.Refused varList
 var-hands = record { state-number = λ s. refl; refused-number = λ n. refl; state-members = λ s b. refl; refused-members = λ n b. refl }

@@ -9,11 +9,11 @@ use lib.ListN.{length}
 use lib.Ieee.{Float}
 use Rattle.trace.specs.Trace.{Trace, traceOf, validAt}
 use Rattle.plan.specs.Plan.{rows}
-use Rattle.window.specs.Given.{Kind, Readings, Given, placesOf}
+use Rattle.window.specs.Given.{Kind, Readings, Given}
 use Rattle.window.specs.Outputs.{Column, Lent, shortestOutput, answersIn}
 use Rattle.rolling.specs.Moments.{Statistic, kindOf}
 use Rattle.rolling.specs.Calls.{Query, GivenTo, Called}
-use Rattle.rolling.specs.Fixed.{CalledFixed}
+use Rattle.rolling.specs.Fixed.{fixedQuery, CalledFixed}
 use Rattle.weighted.specs.Weights.{CalledWeights}
 use Rattle.moments.specs.HostCall.{Host, decodedOf, ReadingLists, shortLists, CalledBytes}
 use Rattle.promises.specs.Calls.{CallsVar, CallsSkew, CallsKurtosis, CallsCov, CallsPearson, CallsSkewRange, CallsKurtosisRange}
@@ -97,7 +97,7 @@ pub record MapLaw : Type 0 where
   pub fixed : (center : Bool) (windowSize minPeriods : ℕ) (a : Statistic) (t t′ : Given (kindOf a)) → SameGiven (kindOf a) t t′
       → (l₀ l l₀′ l′ : Lent) → SameRoom l₀ l₀′ → (r r′ : ℕ) → CalledFixed center windowSize minPeriods a t l₀ l r
       → CalledFixed center windowSize minPeriods a t′ l₀′ l′ r′
-      → SameAnswer r r′ (SameColumns (placesOf (kindOf a) t) (l .outputs .answers) (l′ .outputs .answers))
+      → SameAnswer r r′ (SameColumns (rows (fixedQuery center windowSize minPeriods a t .plan)) (l .outputs .answers) (l′ .outputs .answers))
   -- weights
   pub weights : (center : Bool) (windowSize minPeriods : ℕ) (weights : List Float) (t t′ : Trace) → SameMaps t t′
       → (c₀ c c₀′ c′ : Column) → min (length (c₀ .doubles)) (length (c₀ .bytes)) ≡ min (length (c₀′ .doubles)) (length (c₀′ .bytes)) → (r r′ : ℕ)
