@@ -39,8 +39,9 @@ use Rattle.promises.specs.Calls.{AcceptedCall, planCall, hostCall, fixedCall}
 use Rattle.promises.proofs.DemandOne.{demand-one}
 use Rattle.promises.proofs.DemandTwo.{demand-two}
 use Rattle.promises.proofs.DemandThree.{demand-three}
+use Rattle.promises.proofs.Maps.{map-law}
 use Rattle.demands.specs.Meets.{MeetsHost, MeetTwoHosts, MeetsPlan, MeetTwoPlans, MeetsFixed, MeetTwoFixed, MeetsWeights}
-use Rattle.demands.specs.Meets.{MeetsState, MeetsFigure, MeetsRoot}
+use Rattle.demands.specs.Meets.{MeetTwoWeights, MeetsState, MeetsFigure, MeetsRoot, MeetTwoMaps, MeetTwoPairs}
 use Rattle.demands.specs.Meets.{MeetsArray, ofVar, ofSkew, ofKurtosis, ofCov, ofPearson, ofSkewRange, ofKurtosisRange}
 
 -- ---- host calls
@@ -60,13 +61,14 @@ host-meets {q} {h} {r₀} {r} {l₀} {l} {number} c set =
 pub two-hosts-meet : {q : Query} {h h′ : Host (kindOf (q .statistic))} {r₀ r r₀′ r′ : ReadingLists (kindOf (q .statistic))}
     {l₀ l l₀′ l′ : Lent} {number number′ : ℕ} → CalledBytes q h r₀ r l₀ l number → CalledBytes q h′ r₀′ r′ l₀′ l′ number′
     → IsSetting (q .statistic) → MeetTwoHosts q h h′ (r₀, r) (r₀′, r′) (l₀, l) (l₀′, l′) number number′
-two-hosts-meet {q} {h} {h′} {l = l} {l′ = l′} c c′ set =
+two-hosts-meet {q} {h} {h′} {r₀} {r} {r₀′} {r′} {l₀} {l} {l₀′} {l′} {number} {number′} c c′ set =
     record {
       first = host-meets c set;
       second = host-meets c′ set;
       both = λ alike e e′.
           demand-three .two q (decodedOf (kindOf (q .statistic)) h) (decodedOf (kindOf (q .statistic)) h′) l l′ alike (host-accepted c e)
           (host-accepted c′ e′);
+      maps = λ s short room. map-law .hosts q h h′ s r₀ r r₀′ r′ short l₀ l l₀′ l′ room number number′ c c′;
     }
 
 -- ---- plan calls
@@ -84,11 +86,12 @@ plan-meets {q} {t} {l₀} {l} {number} c set =
 
 pub two-plans-meet : {q : Query} {t t′ : GivenTo q} {l₀ l l₀′ l′ : Lent} {number number′ : ℕ} → Called q t l₀ l number
     → Called q t′ l₀′ l′ number′ → IsSetting (q .statistic) → MeetTwoPlans q t t′ (l₀, l) (l₀′, l′) number number′
-two-plans-meet {q} {t} {t′} {l = l} {l′ = l′} c c′ set =
+two-plans-meet {q} {t} {t′} {l₀} {l} {l₀′} {l′} {number} {number′} c c′ set =
     record {
       first = plan-meets c set;
       second = plan-meets c′ set;
       both = λ alike e e′. demand-three .two q t t′ l l′ alike (plan-accepted c e) (plan-accepted c′ e′);
+      maps = λ s room. map-law .plans q t t′ s l₀ l l₀′ l′ room number number′ c c′;
     }
 
 -- ---- fixed windows
@@ -112,7 +115,7 @@ module _ {center : Bool} {size minPeriods : ℕ} {a : Statistic} where
       → CalledFixed center size minPeriods a t l₀ l number → CalledFixed center size minPeriods a t′ l₀′ l′ number′ → size < 2 ^ 64
       → IsSetting a
       → MeetTwoFixed center size minPeriods a t t′ (l₀, l) (l₀′, l′) number number′
-  two-fixed-meet {t} {t′} {l = l} {l′ = l′} c c′ small set =
+  two-fixed-meet {t} {t′} {l₀} {l} {l₀′} {l′} {number} {number′} c c′ small set =
       record {
         first = fixed-meets c small set;
         second = fixed-meets c′ small set;
@@ -120,6 +123,7 @@ module _ {center : Bool} {size minPeriods : ℕ} {a : Statistic} where
             demand-three .two (fixedQuery center size minPeriods a t) t t′ l l′ alike (fixedCall (fixed-zero c e))
             (subst (λ (n : ℕ). AcceptedCall (query (bounds center size n) minPeriods a) t′ l′) (sym (alike .long))
             (fixedCall (fixed-zero c′ e′)));
+        maps = λ s room. map-law .fixed center size minPeriods a t t′ s l₀ l l₀′ l′ room number number′ c c′;
       }
 
 -- ---- weights
@@ -131,6 +135,17 @@ weights-meet {center} {size} {minPeriods} {weights} {t} {c₀} {c} {number} call
       one = demand-one .weights center size minPeriods weights t c₀ c number call;
       two = λ e rust. demand-two .weights rust center size minPeriods weights t c₀ c small
           (subst (λ (n : ℕ). CalledWeights center size minPeriods weights t c₀ c n) e call);
+    }
+
+pub two-weights-meet : {center : Bool} {size minPeriods : ℕ} {weights : List Float} {t t′ : Trace} {c₀ c c₀′ c′ : Column}
+    {number number′ : ℕ} → CalledWeights center size minPeriods weights t c₀ c number
+    → CalledWeights center size minPeriods weights t′ c₀′ c′ number′ → size < 2 ^ 64
+    → MeetTwoWeights center size minPeriods weights t t′ (c₀, c) (c₀′, c′) number number′
+two-weights-meet {center} {size} {minPeriods} {weights} {t} {t′} {c₀} {c} {c₀′} {c′} {number} {number′} call call′ small =
+    record {
+      first = weights-meet call small;
+      second = weights-meet call′ small;
+      maps = λ s room. map-law .weights center size minPeriods weights t t′ s c₀ c c₀′ c′ room number number′ call call′;
     }
 
 -- ---- whole arrays, pairs and ranges
@@ -186,6 +201,64 @@ kurtosis-range-meets {t} {start} {len} {before} {after} {r} c =
       one = demand-one .kurtosis-range t start len before after r c;
       two = λ e rust. demand-two .ranges .kurtosis rust t start len before after (subst (CallsKurtosisRange t start len before after) e c);
     }
+
+-- two calls, of which the law of maps speaks
+module _ {t t′ : Trace} {before after before′ after′ : List Float} {r r′ : ℕ} where
+  pub two-var-meet : CallsVar t before after r → CallsVar t′ before′ after′ r′ → MeetTwoMaps ofVar t t′ (before, after) (before′, after′) r r′
+  two-var-meet c c′ =
+      record { first = var-meets c; second = var-meets c′; maps = λ s. map-law .var t t′ s before after before′ after′ r r′ c c′ }
+
+  pub two-skew-meet : CallsSkew t before after r → CallsSkew t′ before′ after′ r′
+      → MeetTwoMaps ofSkew t t′ (before, after) (before′, after′) r r′
+  two-skew-meet c c′ =
+      record { first = skew-meets c; second = skew-meets c′; maps = λ s. map-law .skew t t′ s before after before′ after′ r r′ c c′ }
+
+  pub two-kurtosis-meet : CallsKurtosis t before after r → CallsKurtosis t′ before′ after′ r′
+      → MeetTwoMaps ofKurtosis t t′ (before, after) (before′, after′) r r′
+  two-kurtosis-meet c c′ =
+      record {
+        first = kurtosis-meets c;
+        second = kurtosis-meets c′;
+        maps = λ s. map-law .kurtosis t t′ s before after before′ after′ r r′ c c′;
+      }
+
+  module _ {start len : ℕ} where
+    pub two-skew-ranges-meet : CallsSkewRange t start len before after r → CallsSkewRange t′ start len before′ after′ r′
+        → MeetTwoMaps (λ u. ofSkewRange u start len) t t′ (before, after) (before′, after′) r r′
+    two-skew-ranges-meet c c′ =
+        record {
+          first = skew-range-meets c;
+          second = skew-range-meets c′;
+          maps = λ s. map-law .skew-range start len t t′ s before after before′ after′ r r′ c c′;
+        }
+
+    pub two-kurtosis-ranges-meet : CallsKurtosisRange t start len before after r → CallsKurtosisRange t′ start len before′ after′ r′
+        → MeetTwoMaps (λ u. ofKurtosisRange u start len) t t′ (before, after) (before′, after′) r r′
+    two-kurtosis-ranges-meet c c′ =
+        record {
+          first = kurtosis-range-meets c;
+          second = kurtosis-range-meets c′;
+          maps = λ s. map-law .kurtosis-range start len t t′ s before after before′ after′ r r′ c c′;
+        }
+
+module _ {x y x′ y′ : Trace} {before after before′ after′ : List Float} {r r′ : ℕ} where
+  pub two-cov-meet : CallsCov x y before after r → CallsCov x′ y′ before′ after′ r′
+      → MeetTwoPairs ofCov x y x′ y′ (before, after) (before′, after′) r r′
+  two-cov-meet c c′ =
+      record {
+        first = cov-meets c;
+        second = cov-meets c′;
+        maps = λ s. map-law .cov x y x′ y′ (s .0) (s .1) before after before′ after′ r r′ c c′;
+      }
+
+  pub two-pearson-meet : CallsPearson x y before after r → CallsPearson x′ y′ before′ after′ r′
+      → MeetTwoPairs ofPearson x y x′ y′ (before, after) (before′, after′) r r′
+  two-pearson-meet c c′ =
+      record {
+        first = pearson-meets c;
+        second = pearson-meets c′;
+        maps = λ s. map-law .pearson x y x′ y′ (s .0) (s .1) before after before′ after′ r r′ c c′;
+      }
 
 -- ---- states: r is what our definition gives, which is what the source gives
 pub state-meets : {A : Type 0} {definition source r : A} → r ≡ definition → definition ≡ source → MeetsState definition source r

@@ -1,13 +1,14 @@
--- What the three demands say of calls, each as the contract of a function of this crate that makes them: demands 1, 2 and 3 of a call
--- without weights, 3 also of two such calls, 1 and 2 of the others. What the demands mean is in `promises` DemandOne, DemandTwo and
--- DemandThree. Lists that are lent come as (before, after). Assumes nothing.
-use Prim.Native.Nat.{ℕ, _<_}
+-- What the three demands and the law of maps say of calls, each as the contract of a function of this crate that makes them: demands 1, 2
+-- and 3 of a call without weights, 3 also of two such calls, 1 and 2 of the others, and the law of any two that are lent maps. What they
+-- mean is in `promises` DemandOne, DemandTwo, DemandThree and Maps. Lists that are lent come as (before, after). Assumes nothing.
+use Prim.Native.Nat.{ℕ, _<_, min}
 use mathlib.Core.Path.{_≡_}
 use mathlib.Core.Bool.{Bool}
-use mathlib.Core.List.{List, []}
+use mathlib.Core.List.{List, [], _∷_}
 use lib.ListN.{length}
 use lib.Ieee.{Float}
 use Rattle.root.specs.Root.{root}
+use Rattle.trace.specs.Slices.{Slice, entering, leaving}
 use Rattle.trace.specs.Trace.{Trace}
 use Rattle.moment.specs.declared.Figure.{Figure}
 use Rattle.moment.specs.Skew.{skewNew}
@@ -20,7 +21,7 @@ use Rattle.rolling.specs.Moments.{Statistic, kindOf}
 use Rattle.rolling.specs.Calls.{Query, GivenTo, Left}
 use Rattle.rolling.specs.Fixed.{fixedQuery}
 use Rattle.weighted.specs.Weights.{weightedAt}
-use Rattle.moments.specs.HostCall.{Host, decodedOf, ReadingLists}
+use Rattle.moments.specs.HostCall.{Host, decodedOf, ReadingLists, shortLists}
 use Rattle.moments.specs.Results.{FigureResult}
 use Rattle.promises.specs.Rust.{Rust}
 use Rattle.promises.specs.Calls.{readingsOf, readingsIn, pairsOf, varList, skewList, kurtosisList, covList, pearsonList}
@@ -29,6 +30,7 @@ use Rattle.promises.specs.DemandOne.{Answered, HostLeft}
 use Rattle.promises.specs.DemandTwo.{sourceVar, sourceSkew, sourceKurtosis, sourceCov, sourcePearson, sourceSkewRange, sourceKurtosisRange}
 use Rattle.promises.specs.DemandTwo.{RowsEqual, FixedRowsEqual, WeightedRowsEqual, CorrectRoot}
 use Rattle.promises.specs.DemandThree.{Alike, SameAnswers, Yielded}
+use Rattle.promises.specs.Maps.{SameMaps, SameGiven, SameHost, SameAnswer, SameRoom, SameColumns}
 
 -- ---- host calls
 -- one
@@ -39,7 +41,7 @@ pub record MeetsHost (q : Query) (h : Host (kindOf (q .statistic)))
   pub two : number ≡ 0 → (rust : Rust) → RowsEqual rust q (decodedOf (kindOf (q .statistic)) h) (l .1)
   pub three : number ≡ 0 → (k : ℕ) → k < rows (q .plan) → Yielded q (decodedOf (kindOf (q .statistic)) h) (l .1) k
 
--- two, with the same plan, the same setting and the same figure: of each what is said of one, and of both demand 3
+-- two, with the same plan, the same setting and the same figure: of each what is said of one, and of both demand 3 and the law of maps
 pub record MeetTwoHosts (q : Query) (h h′ : Host (kindOf (q .statistic)))
     (r r′ : ReadingLists (kindOf (q .statistic)) × ReadingLists (kindOf (q .statistic))) (l l′ : Lent × Lent)
     (number number′ : ℕ) : Type 0 where
@@ -48,6 +50,9 @@ pub record MeetTwoHosts (q : Query) (h h′ : Host (kindOf (q .statistic)))
   pub both : Alike (kindOf (q .statistic)) (decodedOf (kindOf (q .statistic)) h) (decodedOf (kindOf (q .statistic)) h′)
       → number ≡ 0 → number′ ≡ 0
       → SameAnswers q (decodedOf (kindOf (q .statistic)) h) (decodedOf (kindOf (q .statistic)) h′) (l .1) (l′ .1)
+  pub maps : SameHost (kindOf (q .statistic)) h h′
+      → shortLists (kindOf (q .statistic)) h (r .0) ≡ shortLists (kindOf (q .statistic)) h′ (r′ .0) → SameRoom (l .0) (l′ .0)
+      → SameAnswer number number′ (SameColumns (rows (q .plan)) (l .1 .outputs .answers) (l′ .1 .outputs .answers))
 
 -- ---- plan calls, the trace as doubles
 -- one
@@ -61,6 +66,8 @@ pub record MeetTwoPlans (q : Query) (t t′ : GivenTo q) (l l′ : Lent × Lent)
   pub first : MeetsPlan q t l number
   pub second : MeetsPlan q t′ l′ number′
   pub both : Alike (kindOf (q .statistic)) t t′ → number ≡ 0 → number′ ≡ 0 → SameAnswers q t t′ (l .1) (l′ .1)
+  pub maps : SameGiven (kindOf (q .statistic)) t t′ → SameRoom (l .0) (l′ .0)
+      → SameAnswer number number′ (SameColumns (rows (q .plan)) (l .1 .outputs .answers) (l′ .1 .outputs .answers))
 
 -- ---- fixed windows
 -- one
@@ -79,13 +86,26 @@ pub record MeetTwoFixed (center : Bool) (windowSize minPeriods : ℕ) (a : Stati
   pub second : MeetsFixed center windowSize minPeriods a t′ l′ number′
   pub both : Alike (kindOf a) t t′ → number ≡ 0 → number′ ≡ 0
       → SameAnswers (fixedQuery center windowSize minPeriods a t) t t′ (l .1) (l′ .1)
+  pub maps : SameGiven (kindOf a) t t′ → SameRoom (l .0) (l′ .0)
+      → SameAnswer number number′
+      (SameColumns (rows (fixedQuery center windowSize minPeriods a t .plan)) (l .1 .outputs .answers) (l′ .1 .outputs .answers))
 
 -- ---- weights
+-- one
 pub record MeetsWeights (center : Bool) (windowSize minPeriods : ℕ) (weights : List Float) (t : Trace) (c : Column × Column)
     (number : ℕ) : Type 0 where
   pub one : Answered (weightsChecks windowSize weights t (c .0)) number (c .0) (c .1)
       (c .1 ≡ columnAfter 0 (weightedAt center windowSize minPeriods weights (t .readings)) (length (t .readings)) (c .0))
   pub two : number ≡ 0 → (rust : Rust) → WeightedRowsEqual rust center windowSize minPeriods weights t (c .1)
+
+-- two
+pub record MeetTwoWeights (center : Bool) (windowSize minPeriods : ℕ) (weights : List Float) (t t′ : Trace) (c c′ : Column × Column)
+    (number number′ : ℕ) : Type 0 where
+  pub first : MeetsWeights center windowSize minPeriods weights t c number
+  pub second : MeetsWeights center windowSize minPeriods weights t′ c′ number′
+  pub maps : SameMaps t t′
+      → min (length (c .0 .doubles)) (length (c .0 .bytes)) ≡ min (length (c′ .0 .doubles)) (length (c′ .0 .bytes))
+      → SameAnswer number number′ (SameColumns (length (t .readings)) (c .1 ∷ []) (c′ .1 ∷ []))
 
 -- ---- whole arrays, pairs and ranges
 -- the calls that hand out a state, each named as the entry is
@@ -131,6 +151,24 @@ sourceOf rust (ofKurtosisRange t start len) = sourceKurtosisRange rust t start l
 pub record MeetsArray (a : ArrayCall) (before after : List Float) (number : ℕ) : Type 0 where
   pub one : Answered (checksOf a) number before after (after ≡ membersOf a)
   pub two : number ≡ 0 → (rust : Rust) → after ≡ sourceOf rust a
+
+-- a state that is lent, before and after
+abbrev pub holding : Slice Float → List Float × List Float
+holding state = (entering state, leaving state)
+
+-- two, where Same says that their maps say the same
+pub record MeetTwoArrays (a a′ : ArrayCall) (Same : Type 0) (state state′ : List Float × List Float) (number number′ : ℕ) : Type 0 where
+  pub first : MeetsArray a (state .0) (state .1) number
+  pub second : MeetsArray a′ (state′ .0) (state′ .1) number′
+  pub maps : Same → SameAnswer number number′ (state .1 ≡ state′ .1)
+
+-- of a trace with either of two maps
+abbrev pub MeetTwoMaps : (Trace → ArrayCall) → (t t′ : Trace) → (state state′ : List Float × List Float) → ℕ → ℕ → Type 0
+MeetTwoMaps call t t′ = MeetTwoArrays (call t) (call t′) (SameMaps t t′)
+
+-- of a pair of traces, each with either of two maps
+abbrev pub MeetTwoPairs : (Trace → Trace → ArrayCall) → (x y x′ y′ : Trace) → (state state′ : List Float × List Float) → ℕ → ℕ → Type 0
+MeetTwoPairs call x y x′ y′ = MeetTwoArrays (call x y) (call x′ y′) (SameMaps x x′ × SameMaps y y′)
 
 -- ---- states: what is answered, by document 01 and by the Rust
 pub record MeetsState {A : Type 0} (definition source r : A) : Type 0 where

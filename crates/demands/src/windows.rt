@@ -1,11 +1,11 @@
 // Calls with fixed windows: one, of which all three demands speak, two of the same windows, setting and figure, of which the third does;
-// and with weights, of which the first two speak.
+// and with weights, of which the first two speak. Of two calls the law of maps speaks too, with weights as well.
 ghost use Rattle.trace.specs.Slices.{entering};
 ghost use Rattle.trace.specs.Trace.{tracing};
 ghost use Rattle.rolling.specs.Moments.{Variance, Skewness, Kurtosis};
 ghost use Rattle.rolling.specs.Calls.{lending};
 ghost use Rattle.weighted.specs.Weights.{lendingColumn};
-ghost use Rattle.demands.specs.Meets.{MeetsFixed, MeetTwoFixed, MeetsWeights};
+ghost use Rattle.demands.specs.Meets.{MeetsFixed, MeetTwoFixed, MeetsWeights, MeetTwoWeights};
 use crate::Numbers;
 
 pub fn rolling_var(
@@ -272,4 +272,47 @@ pub fn rolling_var_weights(
         figures,
         present,
     )
+}
+
+pub fn two_rolling_var_weights(
+    trace: &[f64],
+    has_map: bool,
+    map: &[u8],
+    other_map: &[u8],
+    window_size: usize,
+    min_periods: usize,
+    center: bool,
+    weights: &[f64],
+    figures: &mut [f64],
+    present: &mut [u8],
+    other_figures: &mut [f64],
+    other_present: &mut [u8],
+) -> Numbers
+    ensures { λ r. ⌜ MeetTwoWeights center «window_size» «min_periods» (entering weights)
+        (tracing trace «has_map» map) (tracing trace «has_map» «other_map»)
+        (lendingColumn figures present) (lendingColumn «other_figures» «other_present») (r .first) (r .second) ⌝ }
+{
+    let first = moments::moments_rolling_var_weights(
+        trace,
+        has_map,
+        map,
+        window_size,
+        min_periods,
+        center,
+        weights,
+        figures,
+        present,
+    );
+    let second = moments::moments_rolling_var_weights(
+        trace,
+        has_map,
+        other_map,
+        window_size,
+        min_periods,
+        center,
+        weights,
+        other_figures,
+        other_present,
+    );
+    Numbers { first, second }
 }
