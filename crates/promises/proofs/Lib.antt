@@ -19,4 +19,5 @@ pub mod Maps
 pub mod Examples
 pub mod Witnesses
 pub mod Refused
+pub mod Padded
 pub mod Table
