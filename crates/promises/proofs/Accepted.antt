@@ -1,12 +1,12 @@
 -- What is known of an accepted call, by whichever entry: its number is 0, so no refusal applies, its plan is in order, and its
 -- lists hold every row's answers. Assumes nothing.
-use Prim.Native.Nat.{ℕ, _+_, _/_, _≤_, _<_}
+use Prim.Native.Nat.{ℕ, _≤_, _<_}
 use mathlib.Core.Path.{_≡_, sym, ap, _∙_}
 use mathlib.Core.Bool.{Bool, true, false}
 use lib.Dec.{lit≤}
 use lib.ListN.{length}
 use borrow.Author.Tests.{ltb-false}
-use Rattle.trace.specs.Trace.{Trace}
+use Rattle.trace.specs.Trace.{Trace, bytesFor}
 use Rattle.trace.specs.Refusals.{refusal, _orElse_, tooMany, wrongMap, traceRefusal}
 use Rattle.trace.proofs.Accepted.{none-of, not-refused}
 use Rattle.plan.specs.Plan.{rows}
@@ -28,7 +28,7 @@ pub record Known (q : Query) (t : GivenTo q) (l : Lent) : Type 0 where
   pub counts : (k : ℕ) → k < rows (q .plan) → countsIn (l .outputs .counts) k ≡ countsAt (tallies q t) k
 
 -- a map that is not refused
-pub map-long : (t : Trace) → traceRefusal t ≡ 0 → t .mapped ≡ true → (length (t .readings) + 7) / 8 ≤ length (t .map)
+pub map-long : (t : Trace) → traceRefusal t ≡ 0 → t .mapped ≡ true → bytesFor (length (t .readings)) ≤ length (t .map)
 unfolding wrongMap
 map-long t e h =
     let w : wrongMap (length (t .readings)) (t .mapped) (t .map) ≡ false =

@@ -1,6 +1,6 @@
 -- Demand 1: the numbers of our definitions are put together by 'or else', as the checks are by 'then'. What a list of checks says of a
 -- number is kept by both, so each kind of call is its checks one after another. Assumes nothing.
-use Prim.Native.Nat.{ℕ, zero, suc, _+_, _/_, _<_, min}
+use Prim.Native.Nat.{ℕ, zero, suc, _+_, _<_, min}
 use mathlib.Core.Path.{_≡_, refl, sym, ap, _∙_, subst}
 use mathlib.Core.Bool.{Bool, true, false, cond, not, _||_}
 use mathlib.Core.List.{List, [], _∷_, _++_}
@@ -12,7 +12,7 @@ use lib.Ieee.{Float}
 use borrow.Author.Tests.{ltb-true, lt-ltb, eqb-true, eqb-false, ne-eqb, not-true}
 use Rattle.float.specs.Bytes.{readingAt}
 use Rattle.float.proofs.Cases.{apart}
-use Rattle.trace.specs.Trace.{Trace}
+use Rattle.trace.specs.Trace.{Trace, bytesFor}
 use Rattle.trace.specs.Refusals.{refusal, _orElse_, wrongMap, traceRefusal, pairRefusal, rangeRefusal}
 use Rattle.moment.specs.declared.VarAnswer.the-variants as var
 use Rattle.moment.specs.declared.CovAnswer.the-variants as cov
@@ -129,7 +129,7 @@ map-wrong : (t : Trace) → wrongMap (length (t .readings)) (t .mapped) (t .map)
 unfolding wrongMap
 map-wrong t h = go (t .mapped) refl h
   where
-    go : (m : Bool) → t .mapped ≡ m → cond m (ltb (length (t .map)) ((length (t .readings) + 7) / 8)) false ≡ true
+    go : (m : Bool) → t .mapped ≡ m → cond m (ltb (length (t .map)) (bytesFor (length (t .readings)))) false ≡ true
         → MapOfWrongLength t
     go true e h = (e, ltb-true _ _ h)
     go false e h = apart h

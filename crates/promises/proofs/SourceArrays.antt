@@ -2,7 +2,7 @@
 -- the values left is the fold over the chunks of both, and a left and a right chunk hold a chunk of pairs. Readings: an accepted map's
 -- bits are its places, so what is kept by the bits, and counted by them, are the valid ones; where no bit is 0 they are all.
 -- Assumes nothing.
-use Prim.Native.Nat.{ℕ, zero, suc, _+_, _*_, _/_, _<_, _≤_}
+use Prim.Native.Nat.{ℕ, zero, suc, _+_, _*_, _<_, _≤_}
 use mathlib.Core.Path.{_≡_, refl, sym, ap, _∙_, fun-ext}
 use mathlib.Core.Bool.{Bool, true, false, not, cond, _&&_, _||_}
 use mathlib.Core.List.{List, [], _∷_, _++_, foldl, append-assoc, append-nil, map, map-append, zip, zipWith, filterMap}
@@ -16,7 +16,7 @@ use lib.Seq.{take-at, drop-at, take-all, take-length, length-take-le}
 use lib.Ieee.{Float}
 use Rattle.float.proofs.Tables.{table-same}
 use Rattle.float.proofs.Cases.{Or, here, there, order}
-use Rattle.trace.specs.Trace.{Trace, validAt, bothAt, validFrom, validReadings, validPairs}
+use Rattle.trace.specs.Trace.{Trace, bytesFor, validAt, bothAt, validFrom, validReadings, validPairs}
 use Rattle.trace.specs.Refusals.{refusal, _orElse_, tooMany, wrongMap, traceRefusal, pairRefusal, rangeRefusal}
 use Rattle.trace.proofs.Accepted.{none-of, not-refused, range-fits, pair-fits}
 use Rattle.trace.proofs.Maps.{none-missing}
@@ -230,10 +230,10 @@ pairs-from v w p (x ∷ xs) (y ∷ ys) = pair-step (v p) (w p) x y _ _ (pairs-fr
 
 -- ---- an accepted trace as the source's array
 -- an accepted map's bytes hold a bit for each place
-pub bits-fit : (n bytes : ℕ) → (n + 7) / 8 ≤ bytes → n ≤ 8 * bytes
+pub bits-fit : (n bytes : ℕ) → bytesFor n ≤ bytes → n ≤ 8 * bytes
 bits-fit n bytes e = omega arith
 
-bits-are : (rust : Rust) (t : Trace) → (length (t .readings) + 7) / 8 ≤ length (t .map)
+bits-are : (rust : Rust) (t : Trace) → bytesFor (length (t .readings)) ≤ length (t .map)
     → bitsOf rust (bitmapOf t) ≡ span (validAt true (t .map)) (length (t .readings)) 0
 bits-are rust t e =
     let n = length (t .readings) in
@@ -253,7 +253,7 @@ validity-of : (rust : Rust) (t : Trace) → traceRefusal t ≡ 0
     → ValidityOf (validAt (t .mapped) (t .map)) (length (t .readings)) (arrayOf rust t .validity)
 validity-of rust t e = go (t .mapped) (map-long t e)
   where
-    go : (m : Bool) → (m ≡ true → (length (t .readings) + 7) / 8 ≤ length (t .map))
+    go : (m : Bool) → (m ≡ true → bytesFor (length (t .readings)) ≤ length (t .map))
         → ValidityOf (validAt m (t .map)) (length (t .readings)) (cond m (some (bitsOf rust (bitmapOf t))) none)
     go true f = lent (bits-are rust t (f refl))
     go false f = unlent (without-map (t .map))

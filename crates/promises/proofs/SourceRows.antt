@@ -1,7 +1,7 @@
 -- The rows that the source's drivers yield are the split account's: before each row the window stands at the account that the rows
 -- before it leave, row 0's second `update` moves nothing, and `create_validity` takes the mark of too short rows only. Assumes
 -- nothing.
-use Prim.Native.Nat.{ℕ, zero, suc, _+_, _-_, _/_, _≤_, _<_}
+use Prim.Native.Nat.{ℕ, zero, suc, _+_, _-_, _≤_, _<_}
 use mathlib.Core.Path.{_≡_, refl, sym, ap, _∙_, subst}
 use mathlib.Core.Bool.{Bool, true, false, cond, not, _||_}
 use mathlib.Core.List.{List, [], _∷_}
@@ -15,7 +15,7 @@ use borrow.Author.Tests.{le-leb, lt-leb, lt-ltb, leb-true, ltb-true, ltb-false, 
 use Rattle.float.specs.Tables.{table}
 use Rattle.float.proofs.Cases.{Or, here, there, order}
 use Rattle.float.proofs.Tables.{table-place}
-use Rattle.trace.specs.Trace.{Trace, validAt}
+use Rattle.trace.specs.Trace.{Trace, bytesFor, validAt}
 use Rattle.moment.specs.declared.Figure.{Figure}
 use Rattle.moment.specs.declared.Figure.the-variants.{Missing, Present}
 use Rattle.plan.specs.Plan.{Plan, rows, rowStart, rowEnd}
@@ -371,11 +371,11 @@ module _ (M : Moment Float) (rust : Rust) (neutral : Neutral M) (final : M .Stat
 -- over any plan that is in order, the source's row is what the split account yields
 pub plan-row : (M : Moment Float) (rust : Rust) → Neutral M → (final : M .State → Figure) (t : Trace) (minPeriods widest : ℕ) (p : Plan)
     → Planned (length (t .readings)) widest p → length (t .readings) ≤ 16777216
-    → (t .mapped ≡ true → (length (t .readings) + 7) / 8 ≤ length (t .map)) → (k : ℕ) → k < rows p
+    → (t .mapped ≡ true → bytesFor (length (t .readings)) ≤ length (t .map)) → (k : ℕ) → k < rows p
     → planRow M rust final t minPeriods p k ≡ answerAt M final (series (t .mapped) (t .map) (t .readings)) minPeriods p k
 plan-row M rust neutral final t minPeriods widest p plan few fits k h = go (t .mapped) fits
   where
-    go : (m : Bool) → (m ≡ true → (length (t .readings) + 7) / 8 ≤ length (t .map))
+    go : (m : Bool) → (m ≡ true → bytesFor (length (t .readings)) ≤ length (t .map))
         → cond m (rowOf (rollingNulls M rust final (t .readings) (bitmapOf t) minPeriods (offsets p) (rows p)) k)
         (getD (rollingNoNulls M rust final (t .readings) minPeriods (offsets p) (rows p)) k Missing)
         ≡ answerAt M final (series m (t .map) (t .readings)) minPeriods p k

@@ -1,7 +1,7 @@
 -- Demand 1: "Whoever calls a public entry, with traces, maps, plans, weights, states and buffers of any content, gets the answer or the
 -- first refusal of document 01 that applies. A refusal changes no buffer." First when each number applies, in the words of document 01's
 -- "Who can cause a refusal"; then the checks of each kind of call, in their order; then the demand. Assumes nothing.
-use Prim.Native.Nat.{ℕ, zero, suc, _+_, _*_, _/_, _%_, _<_, min}
+use Prim.Native.Nat.{ℕ, zero, suc, _+_, _*_, _%_, _<_, min}
 use mathlib.Core.Path.{_≡_}
 use mathlib.Core.Bool.{Bool, true}
 use mathlib.Core.List.{List, [], _∷_, _++_}
@@ -9,7 +9,7 @@ use mathlib.Core.Logic.{_⊎_, _↔_}
 use lib.ListN.{length}
 use lib.Ieee.{Float, eq}
 use Rattle.float.specs.Operators.{zero64}
-use Rattle.trace.specs.Trace.{Trace}
+use Rattle.trace.specs.Trace.{Trace, bytesFor}
 use Rattle.moment.specs.declared.Figure.{Figure}
 use Rattle.moment.specs.Skew.{skewNew}
 use Rattle.moment.specs.Kurtosis.{kurtosisNew}
@@ -36,10 +36,9 @@ TooManyReadings n = 16777216 < n
 abbrev pub LengthsDiffer : ℕ → ℕ → Type 0
 LengthsDiffer n n′ = ¬ (n ≡ n′)
 
--- "3 a map of the wrong length": one that is lent has fewer than n / 8 bytes rounded up. Document 02: "Accept a longer map and ignore the
--- bytes behind. A shorter one is still 3, and the map-length example for n = 9 reads 'at least 2 bytes'."
+-- "3 a map of the wrong length", and document 02, request 1: "Accept a longer map and ignore the bytes behind. A shorter one is still 3"
 abbrev pub MapOfWrongLength : Trace → Type 0
-MapOfWrongLength t = (t .mapped ≡ true) × (length (t .map) < (length (t .readings) + 7) / 8)
+MapOfWrongLength t = (t .mapped ≡ true) × (length (t .map) < bytesFor (length (t .readings)))
 
 -- "The writer of a plan: 4 lists differ in length or exceed 16,777,216 rows"
 abbrev pub WrongLists : Plan → Type 0

@@ -23,7 +23,8 @@ use Rattle.rolling.specs.Moments.{Statistic, Variance, Skewness, Kurtosis, kind
 use Rattle.rolling.specs.Calls.{Query, GivenTo, yields}
 use Rattle.promises.specs.Calls.{AcceptedCall}
 
--- "Two traces of equal length that miss the same places, both by a map or both without one"
+-- "Two traces of equal length that miss the same places, both by a map or both without one": of the places of the traces, so that maps of
+-- different length are among those that it speaks of
 pub record Alike (kind : Kind) (t t′ : Given kind) : Type 0 where
   pub long : placesOf kind t ≡ placesOf kind t′
   pub places : (i : ℕ) → i < placesOf kind t → seriesOf kind t .places .valid i ≡ seriesOf kind t′ .places .valid i

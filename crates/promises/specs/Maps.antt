@@ -1,13 +1,13 @@
 -- Document 02, request 1: "Accept a longer map and ignore the bytes behind." Two calls whose maps have the same bits at the places of the
 -- trace give the same in every entry, whatever stands in the spare bits and in the bytes behind, and however many these are. Assumes
 -- nothing.
-use Prim.Native.Nat.{ℕ, _+_, _/_, _≤_, _<_, min}
+use Prim.Native.Nat.{ℕ, _≤_, _<_, min}
 use mathlib.Core.Path.{_≡_}
 use mathlib.Core.Bool.{Bool, true}
 use mathlib.Core.List.{List, [], _∷_, _++_}
 use lib.ListN.{length}
 use lib.Ieee.{Float}
-use Rattle.trace.specs.Trace.{Trace, traceOf, validAt}
+use Rattle.trace.specs.Trace.{Trace, traceOf, bytesFor, validAt}
 use Rattle.plan.specs.Plan.{rows}
 use Rattle.window.specs.Given.{Kind, Readings, Given}
 use Rattle.window.specs.Outputs.{Column, Lent, shortestOutput, answersIn}
@@ -19,9 +19,9 @@ use Rattle.moments.specs.HostCall.{Host, decodedOf, ReadingLists, shortLists, C
 use Rattle.promises.specs.Calls.{CallsVar, CallsSkew, CallsKurtosis, CallsCov, CallsPearson, CallsSkewRange, CallsKurtosisRange}
 
 -- ---- maps that say the same
--- a map, where one is lent, has "at least" n / 8 bytes rounded up
+-- a map, where one is lent, has "at least" so many bytes
 abbrev pub LongEnough : Trace → Type 0
-LongEnough t = t .mapped ≡ true → (length (t .readings) + 7) / 8 ≤ length (t .map)
+LongEnough t = t .mapped ≡ true → bytesFor (length (t .readings)) ≤ length (t .map)
 
 -- two traces of the same readings, with maps that are long enough and have the same bit at every place of the trace
 pub record SameMaps (t t′ : Trace) : Type 0 where

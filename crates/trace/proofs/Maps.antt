@@ -6,7 +6,7 @@ use mathlib.Core.List.{List, [], _∷_, _++_}
 use native.Mathlib.Omega.{arith}
 use lib.ListN.{length, List·getD-append}
 use borrow.Author.Tests.{le-ltb}
-use Rattle.trace.specs.Trace.{validAt, validFrom}
+use Rattle.trace.specs.Trace.{bytesFor, validAt, validFrom}
 use Rattle.trace.specs.Refusals.{wrongMap}
 
 -- entries from place p on, of which the same are valid
@@ -28,7 +28,7 @@ pub none-missing : {A : Type 0} (valid : ℕ → Bool) (p : ℕ) (xs : List A) �
 none-missing valid p xs h = rw (valid-same valid (λ i. true) p xs h) (every-valid p xs)
 
 -- the bytes behind are not read for a place that the map reaches
-pub behind-unread : (has : Bool) (map behind : List ℕ) (n i : ℕ) → (has ≡ true → (n + 7) / 8 ≤ length map) → i < n
+pub behind-unread : (has : Bool) (map behind : List ℕ) (n i : ℕ) → (has ≡ true → bytesFor n ≤ length map) → i < n
     → validAt has map i ≡ validAt has (map ++ behind) i
 unfolding validAt
 behind-unread true map behind n i h l =
@@ -37,7 +37,7 @@ behind-unread true map behind n i h l =
 behind-unread false map behind n i h l = refl
 
 -- a map that is long enough, or that is not lent, is not wrong
-pub long-enough : (n : ℕ) (has : Bool) (map : List ℕ) → (has ≡ true → (n + 7) / 8 ≤ length map) → wrongMap n has map ≡ false
+pub long-enough : (n : ℕ) (has : Bool) (map : List ℕ) → (has ≡ true → bytesFor n ≤ length map) → wrongMap n has map ≡ false
 unfolding wrongMap
 long-enough n true map h = le-ltb _ _ (h refl)
 long-enough n false map h = refl

@@ -1,11 +1,11 @@
 -- Document 01, "Who can cause a refusal": the numbers that whole arrays and ranges can answer, and their order. A refusal is its
 -- term for an error, answered as a number; a call that is accepted has the number 0. Assumes nothing.
-use Prim.Native.Nat.{ℕ, _+_, _/_}
+use Prim.Native.Nat.{ℕ, _+_}
 use mathlib.Core.Bool.{Bool, false, cond, not, _||_}
 use mathlib.Core.List.{List}
 use lib.Dec.{eqb, ltb}
 use lib.ListN.{length}
-use Rattle.trace.specs.Trace.{Trace}
+use Rattle.trace.specs.Trace.{Trace, bytesFor}
 
 -- a number where its condition holds, else 0
 unfoldable pub refusal : ℕ → Bool → ℕ
@@ -20,10 +20,9 @@ a orElse b = cond (eqb a 0) b a
 abbrev pub tooMany : ℕ → Bool
 tooMany n = ltb 16777216 n
 
--- "3 a map of the wrong length": one of fewer than n / 8 bytes rounded up. Document 02: "Accept a longer map and ignore the bytes behind.
--- A shorter one is still 3"
+-- "3 a map of the wrong length", and document 02, request 1: "Accept a longer map and ignore the bytes behind. A shorter one is still 3"
 unfoldable pub wrongMap : ℕ → Bool → List ℕ → Bool
-wrongMap n has map = cond has (ltb (length map) ((n + 7) / 8)) false
+wrongMap n has map = cond has (ltb (length map) (bytesFor n)) false
 
 -- one trace: 1, 3
 abbrev pub arrayRefusal : ℕ → Bool → List ℕ → ℕ

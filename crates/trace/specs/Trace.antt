@@ -1,6 +1,6 @@
 -- Document 01, "A plan call, from bytes to figures": which places of a trace are valid, and the readings there. Its terms: a trace
 -- is a series of n doubles, a reading one of them, a place an index; a place that is not valid is missing. Assumes nothing.
-use Prim.Native.Nat.{ℕ, suc, _/_, _%_, _^_}
+use Prim.Native.Nat.{ℕ, suc, _+_, _/_, _%_, _^_}
 use mathlib.Core.Bool.{Bool, true, cond, _&&_}
 use mathlib.Core.List.{List, [], _∷_, zip}
 use lib.Dec.{eqb}
@@ -21,6 +21,10 @@ traceOf readings has map = record { readings = readings; mapped = has; map = map
 -- the trace that a call's parameters are
 abbrev pub tracing : Slice Float → Bool → Slice ℕ → Trace
 tracing values has map = traceOf (entering values) has (entering map)
+
+-- how many bytes have a bit for each of n places: "n / 8 bytes rounded up"
+abbrev pub bytesFor : ℕ → ℕ
+bytesFor n = (n + 7) / 8
 
 -- "A validity map, where one is lent, has one bit a place, lowest bit first, 1 for valid .. Without a map every place is valid"
 unfoldable pub validAt : Bool → List ℕ → ℕ → Bool
