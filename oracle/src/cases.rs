@@ -109,6 +109,14 @@ fn in_order(r: &mut Rng) -> Vec<(u32, Case)> {
     v.push((0, edge));
     v
 }
+/// The number for which a random call is picked: its own, but 3 for each map that is not of just the length. Such calls were all
+/// refused once, and those whose map is longer stay in the lists with what they answer now.
+fn picked_for(number: u32, map: Option<&[u8]>, n: usize) -> u32 {
+    match map {
+        Some(bytes) if number != 14 && bytes.len() != n.div_ceil(8) => 3,
+        _ => number,
+    }
+}
 /// Random calls, small, in equal parts of each figure; two thirds are accepted, most of those with a number among the answers.
 fn random(r: &mut Rng, count: usize) -> Vec<Case> {
     let numbers = [3, 4, 5, 6, 7, 12, 13, 14];
@@ -120,7 +128,9 @@ fn random(r: &mut Rng, count: usize) -> Vec<Case> {
             let tells = |case: &Case| i % 4 == 3 || case.call().answers().iter().flatten().any(|x| !x.is_nan() && *x != 0.0);
             loop {
                 let case = if number == 0 { Case::any(r, 10, 6) } else { Case::any(r, 5, 3) };
-                if kind(&case.figure) == figure && case.call().refusal(case.room) == number && (number != 0 || tells(&case)) {
+                let call = case.call();
+                let picked = picked_for(call.refusal(case.room), call.map(), call.trace.len() / 8);
+                if kind(&case.figure) == figure && picked == number && (number != 0 || tells(&case)) {
                     return case;
                 }
             }
@@ -197,9 +207,9 @@ fn fixed_in_order(r: &mut Rng) -> Vec<(u32, windows::Case)> {
         let good = Case::new(f, &x, Some(&[0xFF, 1]), 3, 1, k == 1);
         let none = Room { readings: 0, work: 0, figures: 0, present: 0 };
         let need = good.room.work;
-        // n = 9 needs a map of 2 bytes, no more and no fewer
-        for map in [vec![], vec![0xFF], vec![0xFF; 3]] {
-            v.push((3, Case { map, room: none, ..good.clone() }));
+        // n = 9 needs a map of 2 bytes or more
+        for (number, map) in [(3, vec![]), (3, vec![0xFF]), (12, vec![0xFF; 3])] {
+            v.push((number, Case { map, room: none, ..good.clone() }));
         }
         for (number, room) in [
             (12, none),
@@ -337,7 +347,9 @@ fn random_windows(r: &mut Rng, count: usize, numbers: &[u32], any: fn(&mut Rng, 
             loop {
                 let case = any(r, if number == 0 { 9 } else { 4 });
                 let asked = case.weights.is_some() || kind(&case.figure) == figure;
-                if asked && case.call().refusal(case.room) == number && (number != 0 || tells(&case)) {
+                let call = case.call();
+                let picked = picked_for(call.refusal(case.room), call.map(), call.x.len());
+                if asked && picked == number && (number != 0 || tells(&case)) {
                     return case;
                 }
             }

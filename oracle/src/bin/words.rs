@@ -348,7 +348,7 @@ fn records(r: &mut Rng, kind: &str) -> Vec<Vec<u64>> {
                     // with and without a map at every length
                     0..10 => (xm, ym) = (None, None),
                     10..20 => xm = Some(r.map(n)),
-                    // lengths that are wrong: a byte too many, one too few, none
+                    // another length than is needed: a byte more, one fewer, none
                     20 => { let mut w = r.map(n); w.push(0xFF); xm = Some(w) }
                     21 => { let mut w = r.map(n); if w.pop().is_none() { w.push(0) } xm = Some(w) }
                     22 => xm = Some(vec![]),
