@@ -2,7 +2,7 @@
 use crate::account::afresh;
 use crate::host::{Case, Room, EASY};
 use crate::rng::Rng;
-use crate::{fixed, offsets, plan, same_row, windows, Figure};
+use crate::{fixed, maps, offsets, plan, same_row, windows, Figure};
 
 const VAR: Figure = EASY[0];
 const INF: f64 = f64::INFINITY;
@@ -109,8 +109,8 @@ fn in_order(r: &mut Rng) -> Vec<(u32, Case)> {
     v.push((0, edge));
     v
 }
-/// The number for which a random call is picked: its own, but 3 for each map that is not of just the length. Such calls were all
-/// refused once, and those whose map is longer stay in the lists with what they answer now.
+/// The number for which a random call is picked: its own, but 3 for each map of another length than is needed. So the calls that are picked
+/// for 3 have shorter maps, which it refuses, and longer ones, which it does not.
 fn picked_for(number: u32, map: Option<&[u8]>, n: usize) -> u32 {
     match map {
         Some(bytes) if number != 14 && bytes.len() != n.div_ceil(8) => 3,
@@ -373,6 +373,40 @@ pub fn weighted_cases(r: &mut Rng) -> Vec<windows::Case> {
     v.extend(numbered(weighted_in_order(r)));
     v.extend(random_windows(r, 72, &[3, 8, 9, 10, 12], windows::Case::any_weighted));
     v
+}
+
+// ---- maps of other lengths ----
+/// Of each figure three calls with a longer map, from 1 byte to 64, and one whose map is a byte too short; small, as the list has little
+/// room left.
+pub fn other_plan_maps(r: &mut Rng) -> Vec<Case> {
+    let mut v = Vec::new();
+    for (k, figure) in EASY.into_iter().enumerate() {
+        for (i, behind) in [1 + k, 8 * (k + 1), 62 + k].into_iter().enumerate() {
+            let (x, map) = maps::example(r, 3, Some(behind), i + k);
+            v.push(Case::new(figure, 0, &x, Some(&map), &[(0, 3)]));
+        }
+        let (x, map) = maps::example(r, 9, None, 0);
+        v.push(Case::new(figure, 0, &x, Some(&map), &[(5, 9)]));
+    }
+    v
+}
+/// Maps with 0 to 64 bytes behind them, the figures in turn, and of each figure one that is a byte too short.
+pub fn other_fixed_maps(r: &mut Rng) -> Vec<windows::Case> {
+    let behind = (0..=64).map(Some).chain([None; 3]);
+    behind.enumerate().map(|(k, behind)| {
+        let n = if behind.is_none() { 9 } else { [9, 1, 8, 5, 0, 7, 3][k % 7] };
+        let (x, map) = maps::example(r, n, behind, k / 3);
+        windows::Case::new(EASY[k % 3], &x, Some(&map), 3, k % 2, k % 4 < 2)
+    }).collect()
+}
+/// The same with weights: 8 with any map, but 3 with one that is too short.
+pub fn other_weighted_maps(r: &mut Rng) -> Vec<windows::Case> {
+    let behind = (0..=64).step_by(4).map(Some).chain([None; 2]);
+    behind.enumerate().map(|(k, behind)| {
+        let n = if behind.is_none() { 9 - k % 2 } else { [9, 1, 8, 0][k % 4] };
+        let (x, map) = maps::example(r, n, behind, k);
+        windows::Case { has_map: true, map, ..windows::Case::weighted(&[1.0, 2.0, 0.5], &x, 1, k % 2 == 0) }
+    }).collect()
 }
 
 // ---- bounds ----
