@@ -240,6 +240,17 @@ fn with_every_padding(n: usize, mut ask: impl FnMut(&mut Rng, &[f64], &[u8], &[u
 }
 
 #[test]
+fn every_entry_that_is_lent_a_map_is_tried() {
+    let declarations = include_str!("../../src/abi.rs").split("pub fn ").skip(1).filter_map(|text| text.split_once('('));
+    let lent_a_map = declarations.filter(|(_, rest)| rest.split(';').next().is_some_and(|head| head.contains("map_len: usize")));
+    let names: Vec<&str> = lent_a_map.map(|(name, _)| name).collect();
+    assert_eq!(names.len(), 14);
+    for name in names {
+        assert!(include_str!("maps.rs").contains(&format!("abi::{name}")), "{name}");
+    }
+}
+
+#[test]
 fn a_longer_map_answers_as_the_exact_one() {
     for n in READINGS {
         for entry in entries() {
