@@ -246,7 +246,8 @@ fn every_entry_that_is_lent_a_map_is_tried() {
     let names: Vec<&str> = lent_a_map.map(|(name, _)| name).collect();
     assert_eq!(names.len(), 14);
     for name in names {
-        assert!(include_str!("maps.rs").contains(&format!("abi::{name}")), "{name}");
+        let called = ["(", ","].map(|after| include_str!("maps.rs").contains(&format!("abi::{name}{after}")));
+        assert!(called.contains(&true), "{name}");
     }
 }
 
