@@ -46,12 +46,13 @@ pub fn trace_of(readings: impl IntoIterator<Item = Option<f64>>) -> (Vec<f64>, O
     (trace, (!whole).then_some(map))
 }
 
-/// The map of a slice of a bitmap: bit i is the bitmap's bit `offset + i`, spare bits are 0.
+/// The map of a slice of a bitmap: bit i is the bitmap's bit `offset + i`. It has just the bytes that are needed, and spare bits are 0.
 ///
 /// An Arrow array may be a slice of a longer one: it has the longer one's bitmap, an offset in bits and a length. At an offset of 0
 /// the bitmap can be lent as it is, and at a multiple of 8 without the bytes in front, as a longer map is taken: no copy is needed.
 ///
-/// A bitmap of fewer than `offset + length` bits is refused. There is no map then, and to lend none would be to call every place valid.
+/// A bitmap of fewer than `offset + length` bits is refused, as a map that is too short is. It gives no `None` then, which as a map would
+/// say that every place is valid.
 ///
 /// ```
 /// use moments::{map_of, var, Refusal};

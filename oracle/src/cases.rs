@@ -1,4 +1,4 @@
-//! The calls on windows that `words` stores: those by hand, then random ones of every number and figure.
+//! The calls on windows that `words` stores: those by hand, then random ones of every number and figure, then maps of other lengths.
 use crate::account::afresh;
 use crate::host::{Case, Room, EASY};
 use crate::rng::Rng;
