@@ -1,7 +1,8 @@
 //! What the entries are given: the same for the same number of readings.
+use oracle::maps;
 use oracle::rng::Rng;
 
-/// Two traces and a map in which nine places in ten are valid.
+/// Two traces and a map in which nine places in ten are valid, padded with noise to a multiple of 64 bytes, as Arrow pads its buffers.
 pub struct Input {
     pub n: usize,
     pub x: Vec<f64>,
@@ -17,6 +18,8 @@ impl Input {
         for i in (0..n).filter(|_| r.chance(9, 10)) {
             map[i / 8] |= 1 << (i % 8);
         }
+        let behind = map.len().next_multiple_of(64) - map.len();
+        map.extend(maps::padding(&mut r, 2, behind));
         Input { n, x, y, map }
     }
     /// Without a map and with it, and what to call that.

@@ -1,7 +1,8 @@
 //! The entries of libmoments.a as a linker sees them; the rest of the crate calls them safely.
 //!
 //! Names, order and types are those of docs/ABI.md, where a slice is a pointer and then a length (`trace`, `trace_len`);
-//! `tests/library/declarations.rs` holds each to that document and to the Rattle source.
+//! `tests/library/declarations.rs` holds each to that document and to the Rattle source. A map has at least as many bytes as
+//! one bit a reading takes; spare bits and the bytes behind are ignored.
 //!
 //! # Safety
 //!

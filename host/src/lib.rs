@@ -7,8 +7,10 @@
 //! - Windows: [`plan`] for a [`Plan`] of any windows, [`rolling`] for a [`Window`] of one size, [`rolling_var_weights`] for weighted ones; what is
 //!   asked of each window is a [`Setting`]. Those that end in `_into` take the lists to write to and allocate nothing.
 //!
-//! A trace is a slice. Where readings are missing, a map has a bit for each place, lowest bit first, 1 for valid, in just as many bytes as that
-//! takes; [`trace_of`] makes both. A call gives its answer or a [`Refusal`], and does not panic.
+//! A trace is a slice. Where readings are missing, a map has a bit for each place, lowest bit first, 1 for valid, in at least as many
+//! bytes as that takes; [`trace_of`] makes both. Spare bits and the bytes behind are ignored, so the bitmap of an Arrow array, padded to
+//! 8 or 64 bytes, can be lent as it is; of a slice of one, [`map_of`] makes the map. A call gives its answer or a [`Refusal`], and
+//! does not panic.
 //!
 //! ```
 //! use moments::{rolling, trace_of, var, Setting, Window};
@@ -30,7 +32,7 @@ mod moment;
 mod refusal;
 mod rolling;
 
-pub use map::{is_valid, trace_of};
+pub use map::{is_valid, map_of, trace_of};
 pub use moment::{
     cov, kurtosis, kurtosis_range, pearson_corr, root, skew, skew_range, var, CovState, KurtosisState, PearsonState, SkewState,
     VarState,

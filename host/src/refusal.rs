@@ -44,11 +44,11 @@ pub enum Refusal {
         /// Readings of the second.
         second: usize,
     },
-    /// 3: a map of the wrong length.
+    /// 3: a map with fewer bytes than its trace needs. A longer one is taken.
     MapLength {
         /// Bytes of the map.
         bytes: usize,
-        /// Readings of its trace, which needs one bit for each.
+        /// Readings of its trace, which needs at least one bit for each.
         readings: usize,
     },
     /// 4: a plan's lists differ in length or have more than [`MOST`] rows.
@@ -179,7 +179,7 @@ impl fmt::Display for Refusal {
             }
             Self::MapLength { bytes, readings: n } => write!(
                 f,
-                "a map of {} has {}, but needs {}: one bit a reading, eight bits a byte",
+                "a map of {} has {}, but needs at least {}: one bit a reading, eight bits a byte",
                 count(n, "reading"),
                 count(bytes, "byte"),
                 bytes_for(n),
@@ -290,7 +290,7 @@ impl Given<'_> {
         Some(match number {
             1 => Refusal::TooManyReadings { readings: self.readings.max(second) },
             2 => Refusal::LengthsDiffer { first: self.readings, second },
-            3 => self.bad_map()?,
+            3 => self.short_map()?,
             4 => Refusal::PlanLengths { starts: self.plan.starts.len(), ends: self.plan.ends.len() },
             5..=7 => self.plan.first_refusal(self.readings)?,
             8 => Refusal::WeightsWithMap,
@@ -303,10 +303,10 @@ impl Given<'_> {
             _ => return None,
         })
     }
-    fn bad_map(&self) -> Option<Refusal> {
+    fn short_map(&self) -> Option<Refusal> {
         let traces = [Some((self.readings, self.map)), self.pair].into_iter().flatten();
         let mut maps = traces.filter_map(|(readings, map)| Some((readings, map?)));
-        let (readings, bytes) = maps.find(|(readings, bytes)| *bytes != bytes_for(*readings))?;
+        let (readings, bytes) = maps.find(|(readings, bytes)| *bytes < bytes_for(*readings))?;
         Some(Refusal::MapLength { bytes, readings })
     }
     fn short_list(&self) -> Option<Refusal> {
@@ -330,6 +330,19 @@ mod tests {
         assert_eq!(given.result(6), Err(Refusal::EndPastTrace { row: 0, end: 4, readings: 3 }));
         for number in [3, 5, 7, 12, 15, 99, u32::MAX] {
             assert_eq!(given.result(number), Err(Refusal::Unknown { number }));
+        }
+    }
+
+    #[test]
+    fn the_map_that_is_told_of_is_the_short_one() {
+        let given = |map, other| Given { readings: 9, map, pair: Some((9, other)), ..Given::default() }.result(3);
+        let short = |bytes| Err(Refusal::MapLength { bytes, readings: 9 });
+        assert_eq!(given(Some(1), Some(0)), short(1));
+        assert_eq!(given(Some(3), Some(1)), short(1));
+        assert_eq!(given(None, Some(0)), short(0));
+        // no map is short: the archive is not this crate's
+        for longer in [2, 3, 66] {
+            assert_eq!(given(Some(longer), None), Err(Refusal::Unknown { number: 3 }));
         }
     }
 }

@@ -1,8 +1,8 @@
-//! The calls on windows that `words` stores: those by hand, then random ones of every number and figure.
+//! The calls on windows that `words` stores: those by hand, then random ones of every number and figure, then maps of other lengths.
 use crate::account::afresh;
 use crate::host::{Case, Room, EASY};
 use crate::rng::Rng;
-use crate::{fixed, offsets, plan, same_row, windows, Figure};
+use crate::{fixed, maps, offsets, plan, same_row, windows, Figure};
 
 const VAR: Figure = EASY[0];
 const INF: f64 = f64::INFINITY;
@@ -109,6 +109,14 @@ fn in_order(r: &mut Rng) -> Vec<(u32, Case)> {
     v.push((0, edge));
     v
 }
+/// The number for which a random call is picked: its own, but 3 for each map of another length than is needed. So the calls that are picked
+/// for 3 have shorter maps, which it refuses, and longer ones, which it does not.
+fn picked_for(number: u32, map: Option<&[u8]>, n: usize) -> u32 {
+    match map {
+        Some(bytes) if number != 14 && bytes.len() != n.div_ceil(8) => 3,
+        _ => number,
+    }
+}
 /// Random calls, small, in equal parts of each figure; two thirds are accepted, most of those with a number among the answers.
 fn random(r: &mut Rng, count: usize) -> Vec<Case> {
     let numbers = [3, 4, 5, 6, 7, 12, 13, 14];
@@ -120,7 +128,9 @@ fn random(r: &mut Rng, count: usize) -> Vec<Case> {
             let tells = |case: &Case| i % 4 == 3 || case.call().answers().iter().flatten().any(|x| !x.is_nan() && *x != 0.0);
             loop {
                 let case = if number == 0 { Case::any(r, 10, 6) } else { Case::any(r, 5, 3) };
-                if kind(&case.figure) == figure && case.call().refusal(case.room) == number && (number != 0 || tells(&case)) {
+                let call = case.call();
+                let picked = picked_for(call.refusal(case.room), call.map(), call.trace.len() / 8);
+                if kind(&case.figure) == figure && picked == number && (number != 0 || tells(&case)) {
                     return case;
                 }
             }
@@ -197,9 +207,9 @@ fn fixed_in_order(r: &mut Rng) -> Vec<(u32, windows::Case)> {
         let good = Case::new(f, &x, Some(&[0xFF, 1]), 3, 1, k == 1);
         let none = Room { readings: 0, work: 0, figures: 0, present: 0 };
         let need = good.room.work;
-        // n = 9 needs a map of 2 bytes, no more and no fewer
-        for map in [vec![], vec![0xFF], vec![0xFF; 3]] {
-            v.push((3, Case { map, room: none, ..good.clone() }));
+        // n = 9 needs a map of 2 bytes or more
+        for (number, map) in [(3, vec![]), (3, vec![0xFF]), (12, vec![0xFF; 3])] {
+            v.push((number, Case { map, room: none, ..good.clone() }));
         }
         for (number, room) in [
             (12, none),
@@ -337,7 +347,9 @@ fn random_windows(r: &mut Rng, count: usize, numbers: &[u32], any: fn(&mut Rng, 
             loop {
                 let case = any(r, if number == 0 { 9 } else { 4 });
                 let asked = case.weights.is_some() || kind(&case.figure) == figure;
-                if asked && case.call().refusal(case.room) == number && (number != 0 || tells(&case)) {
+                let call = case.call();
+                let picked = picked_for(call.refusal(case.room), call.map(), call.x.len());
+                if asked && picked == number && (number != 0 || tells(&case)) {
                     return case;
                 }
             }
@@ -361,6 +373,40 @@ pub fn weighted_cases(r: &mut Rng) -> Vec<windows::Case> {
     v.extend(numbered(weighted_in_order(r)));
     v.extend(random_windows(r, 72, &[3, 8, 9, 10, 12], windows::Case::any_weighted));
     v
+}
+
+// ---- maps of other lengths ----
+/// Of each figure three calls with a longer map, from 1 byte to 64, and one whose map is a byte too short; small, as the list has little
+/// room left.
+pub fn other_plan_maps(r: &mut Rng) -> Vec<Case> {
+    let mut v = Vec::new();
+    for (k, figure) in EASY.into_iter().enumerate() {
+        for (i, behind) in [1 + k, 8 * (k + 1), 62 + k].into_iter().enumerate() {
+            let (x, map) = maps::example(r, 3, Some(behind), i + k);
+            v.push(Case::new(figure, 0, &x, Some(&map), &[(0, 3)]));
+        }
+        let (x, map) = maps::example(r, 9, None, 0);
+        v.push(Case::new(figure, 0, &x, Some(&map), &[(5, 9)]));
+    }
+    v
+}
+/// Maps with 0 to 64 bytes behind them, the figures in turn, and of each figure one that is a byte too short.
+pub fn other_fixed_maps(r: &mut Rng) -> Vec<windows::Case> {
+    let behind = (0..=64).map(Some).chain([None; 3]);
+    behind.enumerate().map(|(k, behind)| {
+        let n = if behind.is_none() { 9 } else { [9, 1, 8, 5, 0, 7, 3][k % 7] };
+        let (x, map) = maps::example(r, n, behind, k / 3);
+        windows::Case::new(EASY[k % 3], &x, Some(&map), 3, k % 2, k % 4 < 2)
+    }).collect()
+}
+/// The same with weights: 8 with any map, but 3 with one that is too short.
+pub fn other_weighted_maps(r: &mut Rng) -> Vec<windows::Case> {
+    let behind = (0..=64).step_by(4).map(Some).chain([None; 2]);
+    behind.enumerate().map(|(k, behind)| {
+        let n = if behind.is_none() { 9 - k % 2 } else { [9, 1, 8, 0][k % 4] };
+        let (x, map) = maps::example(r, n, behind, k);
+        windows::Case { has_map: true, map, ..windows::Case::weighted(&[1.0, 2.0, 0.5], &x, 1, k % 2 == 0) }
+    }).collect()
 }
 
 // ---- bounds ----

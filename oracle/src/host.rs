@@ -142,7 +142,7 @@ impl Case {
         kinds.iter().for_each(|k| case.shorten(r, *k));
         case
     }
-    /// A fault of what is given: 14, 3, 4, 5, 6 or 7, where it comes to one.
+    /// A fault of what is given: 14, 3, 4, 5, 6 or 7, where it comes to one; a map that gets longer is none.
     fn spoil(&mut self, r: &mut Rng, kind: usize) {
         let n = self.trace.len() / 8;
         let rows = self.starts.len().min(self.ends.len());

@@ -9,6 +9,7 @@ pub mod rolling;
 pub mod account;
 pub mod cases;
 pub mod host;
+pub mod maps;
 pub mod model;
 pub mod record;
 pub mod refusal;

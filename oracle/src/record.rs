@@ -73,7 +73,7 @@ pub fn finalize(s: &str, v: &[f64], ddof: u8, biased: bool, fisher: bool) -> Opt
         _ => KurtosisState::of_fields(v).finalize(fisher, biased),
     }
 }
-/// A map, now and then of a wrong length.
+/// A map, now and then a byte longer or shorter than is needed.
 pub fn maybe_map(r: &mut Rng, n: usize) -> Option<Vec<u8>> {
     if r.chance(1, 2) {
         return None;
@@ -83,6 +83,10 @@ pub fn maybe_map(r: &mut Rng, n: usize) -> Option<Vec<u8>> {
         if r.chance(1, 2) || m.is_empty() { m.push(0xFF) } else { m.pop(); }
     }
     Some(m)
+}
+/// The same as a caller may lend it.
+pub fn lent_map(r: &mut Rng, n: usize) -> Option<Vec<u8>> {
+    maybe_map(r, n).map(|map| maps::lent(r, map, n))
 }
 /// The driver's state, in chunks of 128.
 pub fn whole(s: &str, x: &[f64], xm: Option<&[u8]>, y: &[f64], ym: Option<&[u8]>) -> Vec<f64> {

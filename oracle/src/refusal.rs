@@ -1,4 +1,4 @@
-//! Document 01's refusal numbers, straight from its text (not from the crate). 0: accepted.
+//! Document 01's refusal numbers, with document 02's requests, straight from their text (not from the crate). 0: accepted.
 pub const LIMIT: usize = 16_777_216;
 
 /// The first row that is refused, with its number, itself and the row before: 5, 6, 7, each row tested in that order from row 0.
@@ -33,7 +33,8 @@ pub fn trace(n: usize, map: Option<usize>) -> u32 {
         return 1;
     }
     match map {
-        Some(m) if m != n.div_ceil(8) => 3,
+        // a longer map is taken, whatever stands behind (document 02, request 1)
+        Some(m) if m < n.div_ceil(8) => 3,
         _ => 0,
     }
 }

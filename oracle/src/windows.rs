@@ -156,7 +156,7 @@ impl Case {
         faults.iter().for_each(|k| self.spoil(r, *k));
         self
     }
-    /// A fault: 3, 8, 9, 10, 12, 12 or 13, where it comes to one.
+    /// A fault: 3, 8, 9, 10, 12, 12 or 13, where it comes to one; a map that gets longer is none but with weights.
     fn spoil(&mut self, r: &mut Rng, kind: usize) {
         let n = self.x.len();
         let need = self.call().need();

@@ -1,4 +1,5 @@
 //! Lists to lend, with places beside them that nobody may touch, and a small generator of their contents.
+use moments::Lists;
 
 /// splitmix64.
 pub struct Rng(pub u64);
@@ -74,7 +75,58 @@ impl<T: Bits> Guarded<T> {
     }
 }
 
+/// Lengths of the lists that a call on windows is lent.
+#[derive(Clone, PartialEq)]
+pub struct Lengths {
+    pub readings: usize,
+    pub work: usize,
+    pub figures: usize,
+    pub present: usize,
+}
+impl Lengths {
+    /// Runs the call on lists of any bits; places past `rows`, `readings` and `work`, and all of them on a refusal, are kept. It gives
+    /// what readings, figures and present bytes then hold.
+    pub fn run<E>(
+        &self,
+        (readings, work, rows): (usize, usize, usize),
+        call: impl FnOnce(&mut [f64], Lists) -> Result<(), E>,
+    ) -> Result<Vec<u64>, E> {
+        let mut rng = Rng(7);
+        let mut lists = [self.readings, self.work, self.figures].map(|length| Guarded::<f64>::any(&mut rng, length));
+        let mut present = Guarded::<u8>::any(&mut rng, self.present);
+        let [decoded, scratch, figures] = &mut lists;
+        let lent = Lists { work: scratch.lend(), figures: figures.lend(), present: present.lend() };
+        let result = call(decoded.lend(), lent);
+        let free = if result.is_ok() { [readings, work, rows] } else { [0; 3] };
+        for ((list, name), free) in lists.iter().zip(["readings", "work", "figures"]).zip(free) {
+            list.check(name, free);
+        }
+        present.check("present", free[2]);
+        result.map(|()| [bits(lists[0].held()), bits(lists[2].held()), bits(present.held())].concat())
+    }
+}
+
+/// Calls an entry as it is with a state array of any bits, which a refusal must leave: the members, or the number.
+pub fn state_of<const N: usize>(call: impl FnOnce(&mut [f64; N]) -> u32) -> Result<Vec<u64>, u32> {
+    let mut state = Guarded::<f64>::any(&mut Rng(9), N);
+    let answer = accepted(call(state.lend().try_into().expect("N members")));
+    state.check("state", if answer.is_ok() { N } else { 0 });
+    answer.map(|()| bits(state.held()))
+}
+/// The number that an entry answers.
+pub fn accepted(number: u32) -> Result<(), u32> {
+    if number == 0 {
+        Ok(())
+    } else {
+        Err(number)
+    }
+}
+/// A trace and its map as an entry takes them.
+pub fn raw(trace: &[f64], has_map: bool, map: &[u8]) -> (*const f64, usize, bool, *const u8, usize) {
+    (trace.as_ptr(), trace.len(), has_map, map.as_ptr(), map.len())
+}
+
 /// The list as a map is lent, if one is.
-pub fn map_of(has_map: bool, map: &[u8]) -> Option<&[u8]> {
+pub fn lent_map(has_map: bool, map: &[u8]) -> Option<&[u8]> {
     has_map.then_some(map)
 }

@@ -1,6 +1,6 @@
 //! Every refusal of every entry, alone and before those of higher numbers, with lists that hold any bits: the refusal says what is
 //! wrong and nothing is written. Then what is accepted at the edge: empty slices, odd addresses, maps that are not lent, NaNs.
-use crate::lists::{Guarded, Rng};
+use crate::lists::{raw, state_of, Lengths, Rng};
 use moments::*;
 
 const NAN: u64 = 0x7FF8_0000_0000_0000;
@@ -31,36 +31,6 @@ fn try_each<C: Clone + PartialEq>(call: &C, faults: &[Fault<C>], run: impl Fn(&C
     }
 }
 
-/// Lengths of the lists that a call on windows is lent.
-#[derive(Clone, PartialEq)]
-struct Lengths {
-    readings: usize,
-    work: usize,
-    figures: usize,
-    present: usize,
-}
-impl Lengths {
-    /// Runs the call on lists of any bits; places past `rows`, `readings` and `work`, and all of them on a refusal, are kept.
-    fn run(
-        &self,
-        (readings, work, rows): (usize, usize, usize),
-        call: impl FnOnce(&mut [f64], Lists) -> Result<(), Refusal>,
-    ) -> Result<(), Refusal> {
-        let mut rng = Rng(7);
-        let mut lists = [self.readings, self.work, self.figures].map(|length| Guarded::<f64>::any(&mut rng, length));
-        let mut present = Guarded::<u8>::any(&mut rng, self.present);
-        let [decoded, scratch, figures] = &mut lists;
-        let lent = Lists { work: scratch.lend(), figures: figures.lend(), present: present.lend() };
-        let result = call(decoded.lend(), lent);
-        let free = if result.is_ok() { [readings, work, rows] } else { [0; 3] };
-        for ((list, name), free) in lists.iter().zip(["readings", "work", "figures"]).zip(free) {
-            list.check(name, free);
-        }
-        present.check("present", free[2]);
-        result
-    }
-}
-
 #[derive(Clone, PartialEq)]
 struct PlanCall {
     setting: Setting,
@@ -81,7 +51,8 @@ impl PlanCall {
         let plan = Plan::new(&self.starts, &self.ends);
         self.lent.run((self.trace.len() / 8, self.setting.work(6), self.starts.len()), |readings, lists| {
             plan_into(&self.trace, readings, self.map.as_deref(), plan, self.setting, lists)
-        })
+        })?;
+        Ok(())
     }
 }
 
@@ -92,7 +63,7 @@ fn plans_are_refused_by_the_first_number_that_applies() {
         let row = Refusal::BelowRowBefore { row: 2, bounds: (1, 9), before: (2, 6) };
         let faults: [Fault<PlanCall>; 10] = [
             (|c| c.trace.truncate(71), Refusal::TraceBytes { bytes: 71 }),
-            (|c| c.map = Some(vec![0xFF; 3]), Refusal::MapLength { bytes: 3, readings: 9 }),
+            (|c| c.map = Some(vec![0xFF; 1]), Refusal::MapLength { bytes: 1, readings: 9 }),
             (|c| _ = c.starts.pop(), Refusal::PlanLengths { starts: 2, ends: 3 }),
             (|c| c.starts[1] = 7, Refusal::StartAfterEnd { row: 1, start: 7, end: 6 }),
             (|c| c.ends[2] = 10, Refusal::EndPastTrace { row: 2, end: 10, readings: 9 }),
@@ -139,13 +110,15 @@ impl WindowCall {
     fn run(&self) -> Result<(), Refusal> {
         self.lent.run((0, self.setting.work(3), 9), |_, lists| {
             rolling_into(&self.trace, self.map.as_deref(), self.window, self.setting, lists)
-        })
+        })?;
+        Ok(())
     }
     fn run_weights(&self) -> Result<(), Refusal> {
         let (map, min) = (self.map.as_deref(), self.setting.min_periods);
         self.lent.run((0, 0, 9), |_, lists| {
             rolling_var_weights_into(&self.trace, map, self.window, min, &self.weights, lists.figures, lists.present)
-        })
+        })?;
+        Ok(())
     }
 }
 const SHORT_FIGURES: Refusal = Refusal::ListTooShort { list: List::Figures, length: 8, needed: 9 };
@@ -178,21 +151,15 @@ fn weights_are_refused_by_the_first_number_that_applies() {
     try_each(&WindowCall::new(SETTINGS[0]), &faults, WindowCall::run_weights);
 }
 
-/// Calls an entry as it is with a state array of any bits, which a refusal must leave.
+/// The number that an entry answers, with a state array that a refusal must leave.
 fn kept<const N: usize>(number: u32, call: impl FnOnce(&mut [f64; N]) -> u32) {
-    let mut state = Guarded::<f64>::any(&mut Rng(9), N);
-    assert_eq!(call(state.lend().try_into().expect("N members")), number);
-    state.check("state", if number == 0 { N } else { 0 });
-}
-/// A trace and its map as an entry takes them.
-fn raw(trace: &[f64], has_map: bool, map: &[u8]) -> (*const f64, usize, bool, *const u8, usize) {
-    (trace.as_ptr(), trace.len(), has_map, map.as_ptr(), map.len())
+    assert_eq!(state_of(call).err().unwrap_or(0), number);
 }
 
 #[test]
 fn states_of_arrays_are_refused_and_kept() {
     let trace = [2.0, 7.0, 4.0];
-    for (bytes, number) in [(1, 0), (0, 3), (2, 3)] {
+    for (bytes, number) in [(1, 0), (0, 3), (2, 0)] {
         let map = vec![5; bytes];
         let (t, n, has_map, m, mn) = raw(&trace, true, &map);
         // SAFETY: pointers and lengths are the slices'.
@@ -248,7 +215,7 @@ fn each_refusal_is_a_sentence() {
         (
             Refusal::MapLength { bytes: 1, readings: 9 },
             3,
-            "a map of 9 readings has 1 byte, but needs 2: one bit a reading, eight bits a byte",
+            "a map of 9 readings has 1 byte, but needs at least 2: one bit a reading, eight bits a byte",
         ),
         (Refusal::PlanLengths { starts: 1, ends: 2 }, 4, "the plan has 1 start and 2 ends, but every row needs both"),
         (
@@ -329,8 +296,7 @@ fn empty_slices_are_answered() {
     }
     assert_eq!(rolling_var_weights(&[], None, Window::trailing(1), 0, &[1.0]).as_deref(), Ok(&none[..]));
     assert_eq!(rolling_var_weights(&[], None, Window::trailing(0), 0, &[]), Err(Refusal::WeightsSumToZero));
-    // a map of no readings has no bytes, and no map is another thing than one of no bytes
-    assert_eq!(var(&[], Some(&[0])), Err(Refusal::MapLength { bytes: 1, readings: 0 }));
+    // no map is another thing than one of no bytes
     assert_eq!(var(&[1.0], Some(&[])), Err(Refusal::MapLength { bytes: 0, readings: 1 }));
     // an empty window has no figure
     assert_eq!(rolling(&[1.0, 2.0], None, Window::trailing(0), Setting::var(0)), Ok(vec![None, None]));

@@ -1,4 +1,4 @@
-//! The tests on stored answers and on refusals once more under valgrind, where it is on the PATH, and the collector on its example.
+//! The tests on stored answers, refusals and maps once more under valgrind, where it is on the PATH, and the collector on its example.
 use std::path::Path;
 use std::process::Command;
 
@@ -22,7 +22,7 @@ fn run(program: &Path, args: &[&str]) -> String {
 #[cfg_attr(not(valgrind), ignore = "valgrind is not on the PATH")]
 fn no_error_in_the_entries() {
     let this = std::env::current_exe().expect("this program");
-    let said = run(&this, &["vectors::", "refusals::", "--test-threads=1"]);
+    let said = run(&this, &["vectors::", "refusals::", "maps::", "--test-threads=1"]);
     assert!(said.contains("test vectors::plans ... ok") && said.contains(" passed; 0 failed"));
 }
 

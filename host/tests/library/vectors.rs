@@ -1,6 +1,6 @@
 //! The stored answers of the Rust (crates/vectors/data, oracle/FORMAT.md 'Word lists'), through the safe functions. NaN figures are
 //! held to their bits; a NaN member of a state may be any.
-use crate::lists::{bits, map_of, Guarded, Rng};
+use crate::lists::{bits, lent_map, Guarded, Rng};
 use moments::*;
 use std::fs;
 use std::path::Path;
@@ -238,12 +238,12 @@ fn plans() {
         let mut readings = Guarded::holding(&mut rng, w.held(w.pair(5).1));
         let plan = Plan::new(&starts, &ends);
         let lists = Lists { work: work.lend(), figures: figures.lend(), present: present.lend() };
-        let result = plan_into(&trace, readings.lend(), map_of(w.has_map, &map), plan, w.setting, lists);
+        let result = plan_into(&trace, readings.lend(), lent_map(w.has_map, &map), plan, w.setting, lists);
         w.check(i, result, &work, &figures, &present);
         readings.check("readings", if result.is_ok() { trace.len() / 8 } else { 0 });
         assert_eq!(bits(readings.held()), w.list(5), "record {i}");
         if w.number == 0 {
-            let answers = moments::plan(&decoded(&trace), map_of(w.has_map, &map), plan, w.setting).expect("accepted");
+            let answers = moments::plan(&decoded(&trace), lent_map(w.has_map, &map), plan, w.setting).expect("accepted");
             assert_eq!(answers.len(), starts.len());
             w.check_answers(i, &answers);
         }
@@ -271,10 +271,10 @@ fn fixed_windows() {
         let window = Window { size, center: center == 1 };
         let (mut work, mut figures, mut present) = lent(&mut rng, &w);
         let lists = Lists { work: work.lend(), figures: figures.lend(), present: present.lend() };
-        let result = rolling_into(&trace, map_of(w.has_map, &map), window, w.setting, lists);
+        let result = rolling_into(&trace, lent_map(w.has_map, &map), window, w.setting, lists);
         w.check(i, result, &work, &figures, &present);
         if w.number == 0 {
-            let answers = rolling(&trace, map_of(w.has_map, &map), window, w.setting).expect("accepted");
+            let answers = rolling(&trace, lent_map(w.has_map, &map), window, w.setting).expect("accepted");
             assert_eq!(answers.len(), trace.len());
             w.check_answers(i, &answers);
         }
@@ -290,7 +290,7 @@ fn weights() {
         let (size, center) = w.pair(3);
         let (window, min) = (Window { size, center: center == 1 }, w.setting.min_periods);
         let (work, mut figures, mut present) = lent(&mut rng, &w);
-        let map = map_of(w.has_map, &map);
+        let map = lent_map(w.has_map, &map);
         let result = rolling_var_weights_into(&trace, map, window, min, &weights, figures.lend(), present.lend());
         w.check(i, result, &work, &figures, &present);
         if w.number == 0 {

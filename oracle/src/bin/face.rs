@@ -7,7 +7,7 @@ use moments::{CovState, KurtosisState, PearsonState, Refusal, SkewState, VarStat
 use oracle::record::*;
 use oracle::refusal::LIMIT;
 use oracle::rng::Rng;
-use oracle::{canon, refusal};
+use oracle::{canon, maps, refusal};
 use std::collections::BTreeMap;
 
 /// A map as it is lent. Without one, pointer and length may be anything that a slice may be, null too where it is empty.
@@ -80,6 +80,7 @@ struct Seen {
     /// Calls and how many of them differ, by entry.
     calls: BTreeMap<&'static str, (u64, u64)>,
     numbers: BTreeMap<u32, u64>,
+    maps: maps::Lengths,
     nans: u64,
     missing: u64,
     differing: u64,
@@ -164,8 +165,9 @@ fn unlike(got: &[f64], want: &[f64]) -> Option<String> {
     differ.then(|| format!("state {}, wanted {}", hex(got), hex(want)))
 }
 /// The start of a long list is enough to see what was given.
-fn shown(x: &[f64]) -> String {
-    format!("{} readings {}", x.len(), hex(&x[..x.len().min(40)]))
+fn shown(x: &[f64], map: &Lent) -> String {
+    let map = map.map.map(|m| (m.len(), &m[..m.len().min(200)]));
+    format!("{} readings {} map {map:02X?}", x.len(), hex(&x[..x.len().min(40)]))
 }
 
 fn one<const N: usize, S: Into<[f64; N]>>(
@@ -176,8 +178,9 @@ fn one<const N: usize, S: Into<[f64; N]>>(
     &Given { x, xm: m, .. }: &Given,
 ) {
     let want = refusal::trace(x.len(), m.map.map(<[u8]>::len));
+    seen.maps.count(&[(x.len(), m.map)], want);
     let answer = || whole(s, x, m.map, &[], None);
-    let given = || format!("{} map {:02X?}", shown(x), m.map);
+    let given = || shown(x, m);
     let call = |state: &mut [f64; N]| unsafe { f(at(x), x.len(), m.has, m.at, m.bytes, state) };
     seen.array(r, Asked { name, want, answer, given }, call, || safe(x, m.map));
 }
@@ -189,8 +192,9 @@ fn two<const N: usize, S: Into<[f64; N]>>(
     &Given { x, xm, y, ym, .. }: &Given,
 ) {
     let want = refusal::pair(x.len(), xm.map.map(<[u8]>::len), y.len(), ym.map.map(<[u8]>::len));
+    seen.maps.count(&[(x.len(), xm.map), (y.len(), ym.map)], want);
     let answer = || whole(s, x, xm.map, y, ym.map);
-    let given = || format!("{} map {:02X?} {} map {:02X?}", shown(x), xm.map, shown(y), ym.map);
+    let given = || format!("{} {}", shown(x, xm), shown(y, ym));
     let call = |state: &mut [f64; N]| unsafe {
         f(at(x), x.len(), xm.has, xm.at, xm.bytes, at(y), y.len(), ym.has, ym.at, ym.bytes, state)
     };
@@ -204,8 +208,9 @@ fn part<const N: usize, S: Into<[f64; N]>>(
     &Given { x, xm: m, start, length, .. }: &Given,
 ) {
     let want = refusal::range(x.len(), m.map.map(<[u8]>::len), start, length);
+    seen.maps.count(&[(x.len(), m.map)], want);
     let answer = || range(s, x, m.map, start, length);
-    let given = || format!("{} map {:02X?} start {start} length {length}", shown(x), m.map);
+    let given = || format!("{} start {start} length {length}", shown(x, m));
     let call = |state: &mut [f64; N]| unsafe { f(at(x), x.len(), m.has, m.at, m.bytes, start, length, state) };
     seen.array(r, Asked { name, want, answer, given }, call, || safe(x, m.map, start, length));
 }
@@ -272,7 +277,7 @@ fn states(seen: &mut Seen, r: &mut Rng, s: &str) {
 /// 16,777,216 readings pass, one more is 1, whatever the map.
 fn limits(seen: &mut Seen, r: &mut Rng) {
     let x: Vec<f64> = (0..LIMIT + 1).map(|i| (i % 1000) as f64 - 400.0).collect();
-    let ones = vec![0xFF; LIMIT / 8];
+    let ones = vec![0xFF; LIMIT / 8 + 64];
     for (n, map) in [(LIMIT, None), (LIMIT, Some(&ones[..])), (LIMIT + 1, None), (LIMIT + 1, Some(&ones[..]))] {
         let m = Lent::new(map, &ones, r);
         for which in 0..7 {
@@ -309,7 +314,7 @@ fn main() {
                 };
                 let m = if r.chance(1, 25) { r.below(30) } else { n };
                 let (x, y) = (r.trace(n), r.trace(m));
-                let (xm, ym) = (maybe_map(&mut r, n), maybe_map(&mut r, m));
+                let (xm, ym) = (lent_map(&mut r, n), lent_map(&mut r, m));
                 let (xm, ym) = (Lent::new(xm.as_deref(), &junk, &mut r), Lent::new(ym.as_deref(), &junk, &mut r));
                 let (mut start, mut length) = range_case(&mut r, n);
                 if r.chance(1, 12) {
@@ -345,6 +350,7 @@ fn main() {
     for (name, (calls, differing)) in &seen.calls {
         println!("{name:<28}{calls:>10}{differing:>10}");
     }
+    println!("{}", seen.maps);
     println!("by number {:?}; NaN figures {}, missing {}", seen.numbers, seen.nans, seen.missing);
     println!("differing {}", seen.differing);
     std::process::exit((seen.differing > 0) as i32);

@@ -114,6 +114,7 @@ struct Seen {
     present: u64,
     nans: u64,
     missing: u64,
+    maps: maps::Lengths,
     /// NaN readings decoded, and those of them whose bits are not the trace's.
     nan_readings: (u64, u64),
     /// Refused rows of a plan, and those of them that were told in words.
@@ -181,6 +182,7 @@ fn plan_call(seen: &mut Seen, r: &mut Rng, f: PlanFn, call: Call, room: Room) {
         0 => Wanted { readings: call.readings(), rows: call.answers(), need: call.need(), ..Wanted::refused(0) },
         number => Wanted { row: refused_row(&call, number), ..Wanted::refused(number) },
     };
+    seen.maps.count(&[(call.trace.len() / 8, call.map())], wanted.number);
     seen.tell(plan_name(call.figure), call, &wanted, &answer, &before, &after);
 }
 fn any_plan(seen: &mut Seen, r: &mut Rng, f: PlanFn) {
@@ -189,7 +191,10 @@ fn any_plan(seen: &mut Seen, r: &mut Rng, f: PlanFn) {
         1..=20 => (300, 24),
         _ => (24, 24),
     };
-    let case = Case::any(r, most, count);
+    let mut case = Case::any(r, most, count);
+    if case.has_map {
+        case.map = maps::lent(r, case.map, case.trace.len() / 8);
+    }
     // the bytes of a trace may start at any address
     let shift = r.below(8);
     let bytes: Vec<u8> = (0..shift as u8).chain(case.trace.iter().copied()).collect();
@@ -200,7 +205,7 @@ fn any_plan(seen: &mut Seen, r: &mut Rng, f: PlanFn) {
 fn limits(seen: &mut Seen, r: &mut Rng, f: PlanFn) {
     let figures = [Figure::Var { ddof: 1 }, Figure::Skew { bias: false }, Figure::Kurt { fisher: true, bias: true }];
     let x: Vec<f64> = (0..LIMIT + 1).map(|i| (i % 1000) as f64 - 400.0).collect();
-    let ones = vec![0xFF; LIMIT / 8];
+    let ones = vec![0xFF; LIMIT / 8 + 64];
     let far = [(0, 3), (2, 9), (LIMIT - 70, LIMIT - 60), (LIMIT - 65, LIMIT)];
     for figure in figures {
         for (n, map) in [(LIMIT, None), (LIMIT, Some(&ones[..])), (LIMIT + 1, None), (LIMIT + 1, Some(&ones[..]))] {
@@ -238,6 +243,7 @@ fn windows_call(seen: &mut Seen, r: &mut Rng, f: WindowsFn, call: windows::Call,
         0 => Wanted { rows: call.answers(), need: call.need(), ..Wanted::refused(0) },
         number => Wanted::refused(number),
     };
+    seen.maps.count(&[(call.x.len(), call.map())], wanted.number);
     if wanted.number == 0 {
         let (n, sizes) = (call.x.len(), seen.sizes.entry(name).or_default());
         let edges = [("0", 0), ("1", 1), ("n", n), ("n + 1", n + 1), ("2^63", 1 << 63), ("2^64 - 1", usize::MAX)];
@@ -258,7 +264,10 @@ fn any_windows(seen: &mut Seen, r: &mut Rng, f: WindowsFn, any: fn(&mut Rng, usi
         1..=20 => 300,
         _ => 24,
     };
-    let case = any(r, most);
+    let mut case = any(r, most);
+    if case.has_map {
+        case.map = maps::lent(r, case.map, case.x.len());
+    }
     windows_call(seen, r, f, case.call(), case.room);
 }
 /// 16,777,216 readings pass, with the largest sizes too (13 where the work is short), and one more is 1, whatever else is
@@ -266,7 +275,7 @@ fn any_windows(seen: &mut Seen, r: &mut Rng, f: WindowsFn, any: fn(&mut Rng, usi
 fn windows_limits(seen: &mut Seen, r: &mut Rng, fixed: Option<WindowsFn>, weighted: Option<WindowsFn>) {
     use windows::Case;
     let x: Vec<f64> = (0..LIMIT + 1).map(|i| (i % 1000) as f64 - 400.0).collect();
-    let (ones, w) = (vec![0xFF; LIMIT / 8], [1.0, 2.0, 0.5]);
+    let (ones, w) = (vec![0xFF; LIMIT / 8 + 64], [1.0, 2.0, 0.5]);
     let none = Room { readings: 0, work: 0, figures: 0, present: 0 };
     let mut make = |f: Option<WindowsFn>, case: Case, room: Room| {
         if let Some(f) = f {
@@ -339,6 +348,7 @@ fn main() {
     for (name, sizes) in &seen.sizes {
         println!("accepted windows of {name}: {sizes:?}");
     }
+    println!("{}", seen.maps);
     println!("rows that are refused: {}, told in words: {}", seen.refused_rows.0, seen.refused_rows.1);
     println!("rows: {} numbers, {} NaN, {} missing", seen.present, seen.nans, seen.missing);
     println!("NaN readings decoded: {}, with bits other than the trace's: {}", seen.nan_readings.0, seen.nan_readings.1);

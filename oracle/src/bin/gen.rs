@@ -109,8 +109,8 @@ fn record(r: &mut Rng, kind: &str) -> String {
             let two = pairs(s);
             let m = if two && r.chance(1, 25) { r.below(30) } else { n };
             let y = if two { r.trace(m) } else { vec![] };
-            let xm = maybe_map(r, n);
-            let ym = if two { maybe_map(r, m) } else { None };
+            let xm = lent_map(r, n);
+            let ym = if two { lent_map(r, m) } else { None };
             let (xm, ym) = (xm.as_deref(), ym.as_deref());
             let code = whole_refusal(s, n, xm, m, ym);
             write!(o, "whole s={s} x={} xmap={} y={} ymap={} => refusal={code} st=", list(&x), map(xm), list(&y), map(ym)).unwrap();
@@ -122,7 +122,7 @@ fn record(r: &mut Rng, kind: &str) -> String {
             let s = ["skew", "kurt"][r.below(2)];
             let n = if r.chance(1, 6) { 130 + r.below(200) } else { r.below(30) };
             let x = r.trace(n);
-            let m = maybe_map(r, n);
+            let m = lent_map(r, n);
             let m = m.as_deref();
             let (start, len) = range_case(r, n);
             let code = refusal::range(n, m.map(|v| v.len()), start, len);
@@ -137,7 +137,7 @@ fn record(r: &mut Rng, kind: &str) -> String {
             let n = if keen { 8 + r.below(30) } else { size_n(r) };
             let style = [0, 1, 2, 3, 6][r.below(5)];
             let x = if keen { (0..n).map(|_| r.reading(style)).collect() } else { r.trace(n) };
-            let m = if keen && r.chance(1, 3) { Some(vec![0xFF; n.div_ceil(8)]) } else { maybe_map(r, n) };
+            let m = if keen && r.chance(1, 3) { Some(maps::lent(r, vec![0xFF; n.div_ceil(8)], n)) } else { lent_map(r, n) };
             let m = m.as_deref();
             let count = if keen { 6 + r.below(18) } else { r.below(24) };
             let rw = if keen && r.chance(2, 3) { r.slides(n, count) } else { r.rows(n, count) };
@@ -177,7 +177,7 @@ fn record(r: &mut Rng, kind: &str) -> String {
             let n = size_n(r);
             let style = [0, 1, 2, 3, 6][r.below(5)];
             let x = if keen { (0..n).map(|_| r.reading(style)).collect() } else { r.trace(n) };
-            let m = if keen && r.chance(1, 3) { Some(vec![0xFF; n.div_ceil(8)]) } else { maybe_map(r, n) };
+            let m = if keen && r.chance(1, 3) { Some(maps::lent(r, vec![0xFF; n.div_ceil(8)], n)) } else { lent_map(r, n) };
             let m = m.as_deref();
             let size = match r.below(14) { 0 => usize::MAX - r.below(3), 1 => 1 << 63, 2 => r.below(100), 3 => 0, _ => r.below(14) };
             let centre = r.chance(1, 2);
@@ -198,7 +198,7 @@ fn record(r: &mut Rng, kind: &str) -> String {
         "weighted" => {
             let n = size_n(r).min(80);
             let x = r.trace(n);
-            let m = if r.chance(1, 15) { maybe_map(r, n) } else { None };
+            let m = if r.chance(1, 15) { lent_map(r, n) } else { None };
             let m = m.as_deref();
             let size = r.below(10);
             let wn = if r.chance(1, 15) { r.below(10) } else { size };

@@ -264,6 +264,37 @@ fn root_inputs(r: &mut Rng) -> Vec<u64> {
     v
 }
 
+/// Of each map that a whole array has four that are longer than is needed, by 1 byte to 64, and one that is a byte too short. Of a pair the
+/// other map is longer too.
+fn other_whole_maps(r: &mut Rng, out: &mut Vec<Vec<u64>>) {
+    let maps = [("var", 0), ("skew", 0), ("kurt", 0), ("cov", 0), ("cov", 1), ("pearson", 0), ("pearson", 1)];
+    for (k, (s, second)) in maps.into_iter().enumerate() {
+        for (i, behind) in [Some(1 + k), Some(8 * (k + 1)), Some(63 - k), Some(64), None].into_iter().enumerate() {
+            let n = [9, 1, 8, 3, 9][i];
+            let tried = maps::example(r, n, behind, i + k);
+            let other = if pairs(s) { maps::example(r, n, Some(2), i) } else { Default::default() };
+            let [(x, xm), (y, ym)] = if second == 1 { [other, tried] } else { [tried, other] };
+            let (xm, ym) = (Some(&xm[..]), Some(&ym[..]).filter(|_| pairs(s)));
+            let code = whole_refusal(s, n, xm, y.len(), ym);
+            let call = Call { state: s, x: &x, x_map: xm, y: &y, y_map: ym, ..Default::default() };
+            out.push(call.record(r, code, || whole(s, &x, xm, &y, ym)));
+        }
+    }
+}
+/// Maps with 0 to 64 bytes behind them, of ranges of either state in turn, and of each one that is a byte too short.
+fn other_range_maps(r: &mut Rng, out: &mut Vec<Vec<u64>>) {
+    for (k, behind) in (0..=64).map(Some).chain([None; 2]).enumerate() {
+        let s = ["skew", "kurt"][k % 2];
+        let n = if behind.is_none() { 9 } else { [9, 1, 8, 5, 0, 17, 7][k % 7] };
+        let (x, map) = maps::example(r, n, behind, k / 2);
+        // the last place is in the range
+        let (start, len) = (n / 4, n - n / 4);
+        let code = refusal::range(n, Some(map.len()), start, len);
+        let call = Call { state: s, x: &x, x_map: Some(&map), start, length: len, ..Default::default() };
+        out.push(call.record(r, code, || range(s, &x, Some(&map), start, len)));
+    }
+}
+
 /// The records of a kind, each a list of words.
 fn records(r: &mut Rng, kind: &str) -> Vec<Vec<u64>> {
     let which = |i: usize| STATES[i % 5];
@@ -348,7 +379,7 @@ fn records(r: &mut Rng, kind: &str) -> Vec<Vec<u64>> {
                     // with and without a map at every length
                     0..10 => (xm, ym) = (None, None),
                     10..20 => xm = Some(r.map(n)),
-                    // lengths that are wrong: a byte too many, one too few, none
+                    // another length than is needed: a byte more, one fewer, none
                     20 => { let mut w = r.map(n); w.push(0xFF); xm = Some(w) }
                     21 => { let mut w = r.map(n); if w.pop().is_none() { w.push(0) } xm = Some(w) }
                     22 => xm = Some(vec![]),
@@ -360,6 +391,7 @@ fn records(r: &mut Rng, kind: &str) -> Vec<Vec<u64>> {
                 let call = Call { state: s, x: &x, x_map: xm, y: &y, y_map: ym, ..Default::default() };
                 out.push(call.record(r, code, || whole(s, &x, xm, &y, ym)));
             }
+            other_whole_maps(r, &mut out);
         }
         "range" => {
             for i in 0..200 {
@@ -387,9 +419,13 @@ fn records(r: &mut Rng, kind: &str) -> Vec<Vec<u64>> {
                 let call = Call { state: s, x: &x, x_map: m, start, length: len, ..Default::default() };
                 out.push(call.record(r, code, || range(s, &x, m, start, len)));
             }
+            other_range_maps(r, &mut out);
         }
         "plan" => {
             for case in cases(r) {
+                out.push(plan_record(r, &case));
+            }
+            for case in other_plan_maps(r) {
                 out.push(plan_record(r, &case));
             }
         }
@@ -397,9 +433,15 @@ fn records(r: &mut Rng, kind: &str) -> Vec<Vec<u64>> {
             for case in fixed_cases(r) {
                 out.push(fixed_record(r, &case));
             }
+            for case in other_fixed_maps(r) {
+                out.push(fixed_record(r, &case));
+            }
         }
         "weighted" => {
             for case in weighted_cases(r) {
+                out.push(fixed_record(r, &case));
+            }
+            for case in other_weighted_maps(r) {
                 out.push(fixed_record(r, &case));
             }
         }
@@ -434,6 +476,8 @@ fn main() {
             }
             text.push('\n');
         }
+        // the program has no more room for a list
+        assert!(text.len() <= 524_288, "{kind} has {} bytes", text.len());
         std::fs::write(Path::new(&folder).join(kind), &text).unwrap();
         println!("{kind}: {} records, {} bytes", list.len(), text.len());
     }

@@ -1,0 +1,343 @@
+//! Maps of every length in every entry that is lent one. A map that is longer than its trace needs is taken, and what stands behind the
+//! last reading's bit does not matter; with weights it is refused as any map is. A shorter one is refused, and nothing is written.
+use crate::lists::{accepted, bits, raw, state_of, Guarded, Lengths, Rng};
+use moments::abi::{self, OfPair, OfRange, OfTrace};
+use moments::*;
+
+/// Bytes behind a map, at most: Arrow pads its buffers to a multiple of 64.
+const MOST_BEHIND: usize = 64;
+const READINGS: [usize; 9] = [0, 1, 7, 8, 9, 63, 64, 65, 130];
+const FIGURES: [Figure; 3] =
+    [Figure::Var { ddof: 0 }, Figure::Skew { bias: true }, Figure::Kurtosis { fisher: true, bias: true }];
+/// What spare bits and the bytes behind may be: zeros, ones, noise.
+const FILLS: [fn(&mut Rng) -> u8; 3] = [|_| 0, |_| 0xFF, |rng| rng.word() as u8];
+
+/// What a call writes, or why it is refused.
+type Answer<E> = Result<Vec<u64>, E>;
+type Call<E> = Box<dyn Fn(&[f64], &[u8]) -> Answer<E>>;
+/// An entry on a trace and the map that is tried, by its declaration and by its safe function.
+struct Entry {
+    name: String,
+    declared: Call<u32>,
+    safe: Call<Refusal>,
+}
+impl Entry {
+    /// Both calls answer alike, and the map and the places beside it are kept.
+    fn ask(&self, rng: &mut Rng, trace: &[f64], map: &[u8]) -> Answer<Refusal> {
+        let mut lent = Guarded::<u8>::holding(rng, &bits(map));
+        let declared = (self.declared)(trace, lent.lend());
+        let safe = (self.safe)(trace, lent.lend());
+        lent.check("map", 0);
+        assert_eq!(declared, safe.clone().map_err(|refusal| refusal.number()), "{}", self.name);
+        safe
+    }
+}
+fn words<const N: usize>(state: impl Into<[f64; N]>) -> Vec<u64> {
+    bits::<f64>(&state.into())
+}
+
+// ---- whole arrays and ranges ----
+type SafeTrace<S> = fn(&[f64], Option<&[u8]>) -> Result<S, Refusal>;
+type SafeRange<S> = fn(&[f64], Option<&[u8]>, usize, usize) -> Result<S, Refusal>;
+type SafePair<S> = fn(&[f64], Option<&[u8]>, &[f64], Option<&[u8]>) -> Result<S, Refusal>;
+fn of_trace<const N: usize, S: Into<[f64; N]> + 'static>(name: &str, entry: OfTrace<N>, safe: SafeTrace<S>) -> Entry {
+    let declared = move |trace: &[f64], map: &[u8]| {
+        let (t, n, has_map, m, mn) = raw(trace, true, map);
+        // SAFETY: pointers and lengths are the slices'.
+        state_of(|s| unsafe { entry(t, n, has_map, m, mn, s) })
+    };
+    let safe = move |trace: &[f64], map: &[u8]| safe(trace, Some(map)).map(words);
+    Entry { name: name.into(), declared: Box::new(declared), safe: Box::new(safe) }
+}
+fn of_range<const N: usize, S: Into<[f64; N]> + 'static>(name: &str, entry: OfRange<N>, safe: SafeRange<S>) -> Entry {
+    // the last place is in it
+    let range = |n: usize| (n / 3, n - n / 3);
+    let declared = move |trace: &[f64], map: &[u8]| {
+        let ((t, n, has_map, m, mn), (start, length)) = (raw(trace, true, map), range(trace.len()));
+        // SAFETY: pointers and lengths are the slices'.
+        state_of(|s| unsafe { entry(t, n, has_map, m, mn, start, length, s) })
+    };
+    let safe = move |trace: &[f64], map: &[u8]| {
+        let (start, length) = range(trace.len());
+        safe(trace, Some(map), start, length).map(words)
+    };
+    Entry { name: name.into(), declared: Box::new(declared), safe: Box::new(safe) }
+}
+/// The map that is tried is the first, the second or both; the other one is longer than is needed.
+fn of_pair<const N: usize, S: Into<[f64; N]> + 'static>(name: &str, entry: OfPair<N>, safe: SafePair<S>, tried: usize) -> Entry {
+    fn maps<'a>(tried: usize, map: &'a [u8], other: &'a [u8]) -> [&'a [u8]; 2] {
+        [[map, other], [other, map], [map, map]][tried]
+    }
+    let second = |n: usize| (0..n).map(|i| 2.0 - (i * i % 17) as f64).collect::<Vec<f64>>();
+    // of more readings than one, the first is missing
+    let longer = |n: usize| [vec![0xFF - u8::from(n > 1)], vec![0xFF; n.div_ceil(8) + 3]].concat();
+    let declared = move |trace: &[f64], map: &[u8]| {
+        let (y, other) = (second(trace.len()), longer(trace.len()));
+        let [x_map, y_map] = maps(tried, map, &other);
+        let ((x, n, _, xm, xn), (y, _, _, ym, yn)) = (raw(trace, true, x_map), raw(&y, true, y_map));
+        // SAFETY: pointers and lengths are the slices'.
+        state_of(|s| unsafe { entry(x, n, true, xm, xn, y, n, true, ym, yn, s) })
+    };
+    let safe = move |trace: &[f64], map: &[u8]| {
+        let other = longer(trace.len());
+        let [x_map, y_map] = maps(tried, map, &other);
+        safe(trace, Some(x_map), &second(trace.len()), Some(y_map)).map(words)
+    };
+    let which = ["first map", "second map", "both maps"][tried];
+    Entry { name: format!("{name}, {which}"), declared: Box::new(declared), safe: Box::new(safe) }
+}
+
+// ---- windows ----
+/// Runs the call on lists that are two places longer than is needed.
+fn with_lists<E>(needed: (usize, usize, usize), call: impl FnOnce(&mut [f64], Lists) -> Result<(), E>) -> Answer<E> {
+    let (readings, work, rows) = needed;
+    Lengths { readings: readings + 2, work: work + 2, figures: rows + 2, present: rows + 2 }.run(needed, call)
+}
+/// Four rows, in three of which the last place is.
+fn rows(n: usize) -> [[u32; 4]; 2] {
+    [[0, n / 4, n / 2, n], [n / 2, n, n, n]].map(|bounds| bounds.map(|place| place as u32))
+}
+fn of_plan(figure: Figure) -> Entry {
+    let setting = Setting { figure, min_periods: 1 };
+    let given = move |trace: &[f64]| {
+        let (bytes, rows) = (trace.iter().flat_map(|x| x.to_le_bytes()).collect::<Vec<u8>>(), rows(trace.len()));
+        (bytes, rows, (trace.len(), setting.work(Plan::new(&rows[0], &rows[1]).widest()), rows[0].len()))
+    };
+    let declared = move |trace: &[f64], map: &[u8]| {
+        let (bytes, [starts, ends], needed) = given(trace);
+        with_lists(needed, |readings, Lists { work, figures, present }| {
+            let (t, tn, r, rn) = (bytes.as_ptr(), bytes.len(), readings.as_mut_ptr(), readings.len());
+            let (m, mn, s, e) = (map.as_ptr(), map.len(), starts.as_ptr(), ends.as_ptr());
+            let (w, wn, f, fl) = (work.as_mut_ptr(), work.len(), figures.as_mut_ptr(), figures.len());
+            let (p, pn) = (present.as_mut_ptr(), present.len());
+            // SAFETY: pointers and lengths are the slices' and the arrays'.
+            accepted(unsafe {
+                match figure {
+                    Figure::Var { ddof } => {
+                        abi::moments_plan_var(t, tn, r, rn, true, m, mn, s, 4, e, 4, 1, ddof, w, wn, f, fl, p, pn)
+                    }
+                    Figure::Skew { bias } => {
+                        abi::moments_plan_skew(t, tn, r, rn, true, m, mn, s, 4, e, 4, 1, bias, w, wn, f, fl, p, pn)
+                    }
+                    Figure::Kurtosis { fisher, bias } => {
+                        abi::moments_plan_kurtosis(t, tn, r, rn, true, m, mn, s, 4, e, 4, 1, fisher, bias, w, wn, f, fl, p, pn)
+                    }
+                }
+            })
+        })
+    };
+    let safe = move |trace: &[f64], map: &[u8]| {
+        let (bytes, [starts, ends], needed) = given(trace);
+        let plan = Plan::new(&starts, &ends);
+        with_lists(needed, |readings, lists| plan_into(&bytes, readings, Some(map), plan, setting, lists))
+    };
+    Entry { name: format!("plan {figure:?}"), declared: Box::new(declared), safe: Box::new(safe) }
+}
+fn of_fixed(figure: Figure, window: Window) -> Entry {
+    let setting = Setting { figure, min_periods: 1 };
+    let needed = move |n: usize| (0, setting.work(window.size.min(n)), n);
+    let declared = move |trace: &[f64], map: &[u8]| {
+        let ((t, n, has_map, m, mn), Window { size, center }) = (raw(trace, true, map), window);
+        with_lists(needed(n), |_, Lists { work, figures, present }| {
+            let (w, wn, f, fl) = (work.as_mut_ptr(), work.len(), figures.as_mut_ptr(), figures.len());
+            let (p, pn) = (present.as_mut_ptr(), present.len());
+            // SAFETY: pointers and lengths are the slices'.
+            accepted(unsafe {
+                match figure {
+                    Figure::Var { ddof } => {
+                        abi::moments_rolling_var(t, n, has_map, m, mn, size, 1, center, ddof, w, wn, f, fl, p, pn)
+                    }
+                    Figure::Skew { bias } => {
+                        abi::moments_rolling_skew(t, n, has_map, m, mn, size, 1, center, bias, w, wn, f, fl, p, pn)
+                    }
+                    Figure::Kurtosis { fisher, bias } => {
+                        abi::moments_rolling_kurtosis(t, n, has_map, m, mn, size, 1, center, fisher, bias, w, wn, f, fl, p, pn)
+                    }
+                }
+            })
+        })
+    };
+    let safe = move |trace: &[f64], map: &[u8]| {
+        with_lists(needed(trace.len()), |_, lists| rolling_into(trace, Some(map), window, setting, lists))
+    };
+    Entry { name: format!("{window:?} {figure:?}"), declared: Box::new(declared), safe: Box::new(safe) }
+}
+const WEIGHTS: [f64; 3] = [1.0, 2.0, 0.5];
+fn of_weights() -> Entry {
+    let declared = |trace: &[f64], map: &[u8]| {
+        let ((t, n, has_map, m, mn), (w, wn)) = (raw(trace, true, map), (WEIGHTS.as_ptr(), WEIGHTS.len()));
+        with_lists((0, 0, n), |_, Lists { figures, present, .. }| {
+            let (f, fl, p, pn) = (figures.as_mut_ptr(), figures.len(), present.as_mut_ptr(), present.len());
+            // SAFETY: pointers and lengths are the slices'.
+            accepted(unsafe { abi::moments_rolling_var_weights(t, n, has_map, m, mn, wn, 1, false, w, wn, f, fl, p, pn) })
+        })
+    };
+    let safe = |trace: &[f64], map: &[u8]| {
+        with_lists((0, 0, trace.len()), |_, Lists { figures, present, .. }| {
+            rolling_var_weights_into(trace, Some(map), Window::trailing(WEIGHTS.len()), 1, &WEIGHTS, figures, present)
+        })
+    };
+    Entry { name: "weights".into(), declared: Box::new(declared), safe: Box::new(safe) }
+}
+
+/// Every entry that answers where there is a map.
+fn entries() -> Vec<Entry> {
+    let mut entries = vec![
+        of_trace("var", abi::moments_var, var),
+        of_trace("skew", abi::moments_skew, skew),
+        of_trace("kurtosis", abi::moments_kurtosis, kurtosis),
+        of_range("skew_range", abi::moments_skew_range, skew_range),
+        of_range("kurtosis_range", abi::moments_kurtosis_range, kurtosis_range),
+    ];
+    for tried in 0..3 {
+        entries.push(of_pair("cov", abi::moments_cov, cov, tried));
+        entries.push(of_pair("pearson_corr", abi::moments_pearson_corr, pearson_corr, tried));
+    }
+    for (figure, window) in FIGURES.into_iter().zip([Window::trailing(5), Window::centered(4), Window::trailing(3)]) {
+        entries.extend([of_plan(figure), of_fixed(figure, window)]);
+    }
+    entries
+}
+/// A trace and its map of just the bytes that it needs, spare bits 0. The last place is valid, and a place that is not holds what would
+/// show in any figure.
+fn any_trace(rng: &mut Rng, n: usize) -> (Vec<f64>, Vec<u8>) {
+    let mut map = vec![0; n.div_ceil(8)];
+    let trace = (0..n).map(|i| {
+        if i + 1 < n && rng.word() % 3 == 0 {
+            return [f64::NAN, f64::INFINITY, 1e150][i % 3];
+        }
+        map[i / 8] |= 1 << (i % 8);
+        (rng.word() % 4096) as f64 / 8.0
+    });
+    (trace.collect(), map)
+}
+/// The map with these spare bits, and so many bytes behind it.
+fn padded(
+    rng: &mut Rng,
+    (map, n): (&[u8], usize),
+    spare: fn(&mut Rng) -> u8,
+    behind: usize,
+    fill: fn(&mut Rng) -> u8,
+) -> Vec<u8> {
+    let mut bytes = map.to_vec();
+    if let (Some(last), true) = (bytes.last_mut(), n % 8 != 0) {
+        *last |= spare(rng) & 0xFF << (n % 8);
+    }
+    bytes.extend((0..behind).map(|_| fill(rng)));
+    bytes
+}
+/// Asks of a trace with every map that may stand for its own.
+fn with_every_padding(n: usize, mut ask: impl FnMut(&mut Rng, &[f64], &[u8], &[u8])) {
+    let mut rng = Rng(n as u64);
+    let (trace, exact) = any_trace(&mut rng, n);
+    let before = bits(&trace);
+    for (k, behind) in (0..=MOST_BEHIND).flat_map(|behind| (0..FILLS.len() * FILLS.len()).map(move |k| (k, behind))) {
+        let (spare, fill) = (FILLS[k % FILLS.len()], FILLS[k / FILLS.len()]);
+        let map = padded(&mut rng, (&exact, n), spare, behind, fill);
+        ask(&mut rng, &trace, &exact, &map);
+    }
+    assert_eq!(bits(&trace), before);
+}
+
+#[test]
+fn every_entry_that_is_lent_a_map_is_tried() {
+    let declarations = include_str!("../../src/abi.rs").split("pub fn ").skip(1).filter_map(|text| text.split_once('('));
+    let lent_a_map = declarations.filter(|(_, rest)| rest.split(';').next().is_some_and(|head| head.contains("map_len: usize")));
+    let names: Vec<&str> = lent_a_map.map(|(name, _)| name).collect();
+    assert_eq!(names.len(), 14);
+    for name in names {
+        let called = ["(", ","].map(|after| include_str!("maps.rs").contains(&format!("abi::{name}{after}")));
+        assert!(called.contains(&true), "{name}");
+    }
+}
+
+#[test]
+fn a_longer_map_answers_as_the_exact_one() {
+    for n in READINGS {
+        for entry in entries() {
+            let mut wanted = None;
+            with_every_padding(n, |rng, trace, exact, map| {
+                let wanted = wanted.get_or_insert_with(|| entry.ask(rng, trace, exact).expect("an exact map"));
+                let answer = entry.ask(rng, trace, map);
+                assert_eq!(answer.as_ref(), Ok(&*wanted), "{} of {n} readings, map {map:02X?}", entry.name);
+            });
+        }
+    }
+}
+
+/// What the tests here compare depends on every bit that counts, also on the last.
+#[test]
+fn another_bit_gives_another_answer() {
+    for n in READINGS.into_iter().skip(1) {
+        let mut rng = Rng(n as u64);
+        let (trace, exact) = any_trace(&mut rng, n);
+        let mut other = exact.clone();
+        other[(n - 1) / 8] ^= 1 << ((n - 1) % 8);
+        for entry in entries() {
+            assert_ne!(entry.ask(&mut rng, &trace, &exact), entry.ask(&mut rng, &trace, &other), "{} of {n}", entry.name);
+        }
+    }
+}
+
+#[test]
+fn with_weights_every_map_is_refused() {
+    for n in READINGS {
+        with_every_padding(n, |rng, trace, _, map| {
+            assert_eq!(of_weights().ask(rng, trace, map), Err(Refusal::WeightsWithMap), "{n} readings, map {map:02X?}");
+        });
+    }
+}
+
+#[test]
+fn a_shorter_map_is_refused_and_all_is_kept() {
+    for n in READINGS {
+        let mut rng = Rng(n as u64);
+        let (trace, exact) = any_trace(&mut rng, n);
+        let before = bits(&trace);
+        for entry in entries().into_iter().chain([of_weights()]) {
+            for bytes in 0..exact.len() {
+                let refusal = Refusal::MapLength { bytes, readings: n };
+                assert_eq!(entry.ask(&mut rng, &trace, &exact[..bytes]), Err(refusal), "{}", entry.name);
+            }
+        }
+        assert_eq!(bits(&trace), before);
+    }
+}
+
+#[test]
+fn a_map_may_have_any_bytes_behind() {
+    for n in [0, 9] {
+        let mut rng = Rng(n as u64);
+        let (trace, exact) = any_trace(&mut rng, n);
+        for entry in entries() {
+            let wanted = entry.ask(&mut rng, &trace, &exact);
+            for behind in [65, 4096, 100_000] {
+                let map = padded(&mut rng, (&exact, n), FILLS[2], behind, FILLS[2]);
+                assert_eq!(entry.ask(&mut rng, &trace, &map), wanted, "{} of {n} readings, {behind} bytes behind", entry.name);
+            }
+        }
+    }
+}
+
+/// The safe functions that allocate what they answer.
+#[test]
+fn answers_are_those_of_the_exact_map() {
+    let words =
+        |answers: Result<Vec<Option<f64>>, Refusal>| answers.map(|rows| rows.iter().map(|x| x.map(f64::to_bits)).collect());
+    for n in READINGS {
+        with_every_padding(n, |_, trace, exact, map| {
+            let [starts, ends] = rows(n);
+            for setting in FIGURES.map(|figure| Setting { figure, min_periods: 2 }) {
+                let ask = |map: &[u8]| -> [Result<Vec<_>, Refusal>; 2] {
+                    let by_plan = plan(trace, Some(map), Plan::new(&starts, &ends), setting);
+                    [by_plan, rolling(trace, Some(map), Window::trailing(5), setting)].map(words)
+                };
+                let answers = ask(map);
+                assert!(answers.iter().all(Result::is_ok));
+                assert_eq!(answers, ask(exact));
+            }
+            let weighted = rolling_var_weights(trace, Some(map), Window::trailing(3), 1, &WEIGHTS);
+            assert_eq!(weighted, Err(Refusal::WeightsWithMap));
+        });
+    }
+}
