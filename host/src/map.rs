@@ -52,7 +52,8 @@ pub fn trace_of(readings: impl IntoIterator<Item = Option<f64>>) -> (Vec<f64>, O
 /// the bitmap can be lent as it is, and at a multiple of 8 without the bytes in front, as a longer map is taken: no copy is needed.
 ///
 /// A bitmap of fewer than `offset + length` bits is refused, as a map that is too short is. It gives no `None` then, which as a map would
-/// say that every place is valid.
+/// say that every place is valid. Where every bit is 1 it gives a map all the same, and a map of ones is another question than no map
+/// (see [`trace_of`]).
 ///
 /// ```
 /// use moments::{map_of, var, Refusal};
