@@ -204,7 +204,8 @@ kurtosis-range-meets {t} {start} {len} {before} {after} {r} c =
 
 -- two calls, of which the law of maps speaks
 module _ {t t′ : Trace} {before after before′ after′ : List Float} {r r′ : ℕ} where
-  pub two-var-meet : CallsVar t before after r → CallsVar t′ before′ after′ r′ → MeetTwoMaps ofVar t t′ (before, after) (before′, after′) r r′
+  pub two-var-meet : CallsVar t before after r → CallsVar t′ before′ after′ r′
+      → MeetTwoMaps ofVar t t′ (before, after) (before′, after′) r r′
   two-var-meet c c′ =
       record { first = var-meets c; second = var-meets c′; maps = λ s. map-law .var t t′ s before after before′ after′ r r′ c c′ }
 

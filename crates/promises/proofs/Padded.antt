@@ -135,7 +135,8 @@ pub length-counts :
     → ⊥
 unfolding refusal _orElse_ wrongMap validAt
 length-counts all =
-    let numbers : _≡_ {A = ℕ} 3 0 = all (traceOf (trace13 .readings) true []) (traceOf (trace13 .readings) true (0 ∷ [])) refl refl no-bits in
+    let numbers : _≡_ {A = ℕ} 3 0 = all (traceOf (trace13 .readings) true []) (traceOf (trace13 .readings) true (0 ∷ [])) refl refl
+    no-bits in
     omega arith
   where
     no-bits : (i : ℕ) → i < 2 → validAt true [] i ≡ validAt true (0 ∷ []) i

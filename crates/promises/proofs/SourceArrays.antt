@@ -341,7 +341,7 @@ kurtosis-array rust t e =
 
 -- ---- two arrays
 -- the number of two traces
-abbrev pairNumber : Trace → Trace → ℕ
+abbrev pub pairNumber : Trace → Trace → ℕ
 pairNumber x y = pairRefusal (length (x .readings)) (x .mapped) (x .map) (length (y .readings)) (y .mapped) (y .map)
 
 -- a trace that neither number fits is accepted

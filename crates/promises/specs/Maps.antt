@@ -97,9 +97,11 @@ pub record MapLaw : Type 0 where
   pub fixed : (center : Bool) (windowSize minPeriods : ℕ) (a : Statistic) (t t′ : Given (kindOf a)) → SameGiven (kindOf a) t t′
       → (l₀ l l₀′ l′ : Lent) → SameRoom l₀ l₀′ → (r r′ : ℕ) → CalledFixed center windowSize minPeriods a t l₀ l r
       → CalledFixed center windowSize minPeriods a t′ l₀′ l′ r′
-      → SameAnswer r r′ (SameColumns (rows (fixedQuery center windowSize minPeriods a t .plan)) (l .outputs .answers) (l′ .outputs .answers))
+      → SameAnswer r r′
+      (SameColumns (rows (fixedQuery center windowSize minPeriods a t .plan)) (l .outputs .answers) (l′ .outputs .answers))
   -- weights
   pub weights : (center : Bool) (windowSize minPeriods : ℕ) (weights : List Float) (t t′ : Trace) → SameMaps t t′
-      → (c₀ c c₀′ c′ : Column) → min (length (c₀ .doubles)) (length (c₀ .bytes)) ≡ min (length (c₀′ .doubles)) (length (c₀′ .bytes)) → (r r′ : ℕ)
+      → (c₀ c c₀′ c′ : Column) → min (length (c₀ .doubles)) (length (c₀ .bytes)) ≡ min (length (c₀′ .doubles)) (length (c₀′ .bytes))
+      → (r r′ : ℕ)
       → CalledWeights center windowSize minPeriods weights t c₀ c r → CalledWeights center windowSize minPeriods weights t′ c₀′ c′ r′
       → SameAnswer r r′ (SameColumns (length (t .readings)) (c ∷ []) (c′ ∷ []))
