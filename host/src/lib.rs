@@ -9,8 +9,8 @@
 //!
 //! A trace is a slice. Where readings are missing, a map has a bit for each place, lowest bit first, 1 for valid, in at least as many
 //! bytes as that takes; [`trace_of`] makes both. Spare bits and the bytes behind are ignored, so the bitmap of an Arrow array, padded to
-//! 8 or 64 bytes, can be lent as it is; of a slice of one, [`map_of`] makes the map. A call gives its answer or a [`Refusal`], and
-//! does not panic.
+//! 8 or 64 bytes, can be lent as it is where its offset is 0; where it is not, [`map_of`] makes the map, and a bitmap lent without its
+//! offset is not noticed. A call gives its answer or a [`Refusal`], and does not panic.
 //!
 //! ```
 //! use moments::{rolling, trace_of, var, Setting, Window};

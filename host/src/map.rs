@@ -7,7 +7,7 @@ pub(crate) fn bytes_for(readings: usize) -> usize {
     readings.div_ceil(8)
 }
 
-/// Whether a place is valid: without a map each is, and past a map's end none.
+/// Whether a place of a trace is valid: without a map each is, and past a map's end none.
 ///
 /// ```
 /// assert!(moments::is_valid(Some(&[0b101]), 2));
@@ -49,11 +49,12 @@ pub fn trace_of(readings: impl IntoIterator<Item = Option<f64>>) -> (Vec<f64>, O
 /// The map of a slice of a bitmap: bit i is the bitmap's bit `offset + i`. It has just the bytes that are needed, and spare bits are 0.
 ///
 /// An Arrow array may be a slice of a longer one: it has the longer one's bitmap, an offset in bits and a length. At an offset of 0
-/// the bitmap can be lent as it is, and at a multiple of 8 without the bytes in front, as a longer map is taken: no copy is needed.
+/// the bitmap can be lent as it is, and at a multiple of 8 without the bytes in front, as a longer map is taken: no copy is needed. At any
+/// other offset it takes this function: nobody notices a bitmap that is lent without its offset.
 ///
-/// A bitmap of fewer than `offset + length` bits is refused, as a map that is too short is. It gives no `None` then, which as a map would
-/// say that every place is valid. Where every bit is 1 it gives a map all the same, and a map of ones is another question than no map
-/// (see [`trace_of`]).
+/// A bitmap of fewer than `offset + length` bits is refused, as a map of so many readings that is too short. It gives no `None` then,
+/// which as a map would say that every place is valid. Of ones it makes a map of ones, which is another question than no map (see
+/// [`trace_of`]); an array without missing readings is asked without a map.
 ///
 /// ```
 /// use moments::{map_of, var, Refusal};
@@ -88,7 +89,7 @@ mod tests {
     fn a_slice_of_a_bitmap_has_its_bits() {
         for offset in 0..=17 {
             for length in 0..=40 {
-                let map = map_of(&BITMAP, offset, length).expect("58 bits of 64");
+                let map = map_of(&BITMAP, offset, length).expect("57 bits of 64");
                 assert_eq!(map.len(), length.div_ceil(8));
                 for i in 0..8 * map.len() {
                     let bit = i < length && BITMAP[(offset + i) / 8] & 1 << ((offset + i) % 8) != 0;

@@ -48,7 +48,7 @@ pub enum Refusal {
     MapLength {
         /// Bytes of the map.
         bytes: usize,
-        /// Readings of its trace, which needs at least one bit for each.
+        /// Readings of its trace, each with a bit.
         readings: usize,
     },
     /// 4: a plan's lists differ in length or have more than [`MOST`] rows.

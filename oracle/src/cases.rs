@@ -109,8 +109,8 @@ fn in_order(r: &mut Rng) -> Vec<(u32, Case)> {
     v.push((0, edge));
     v
 }
-/// The number for which a random call is picked: its own, but 3 for each map of another length than is needed. So the calls that are picked
-/// for 3 have shorter maps, which it refuses, and longer ones, which it does not.
+/// The number for which a random call is picked: its own, but 3 where the map has another length than is needed, as it was when longer maps
+/// were refused: so the calls that are stored stay the same.
 fn picked_for(number: u32, map: Option<&[u8]>, n: usize) -> u32 {
     match map {
         Some(bytes) if number != 14 && bytes.len() != n.div_ceil(8) => 3,

@@ -1,7 +1,7 @@
 -- What the three demands and the law of maps say of calls, each as the contract of a function of this crate that makes them: demands 1, 2
 -- and 3 of a call without weights, 3 also of two such calls, 1 and 2 of the others, and the law of any two that are lent maps. What they
 -- mean is in `promises` DemandOne, DemandTwo, DemandThree and Maps. Lists that are lent come as (before, after). Assumes nothing.
-use Prim.Native.Nat.{ℕ, _<_, min}
+use Prim.Native.Nat.{ℕ, _<_}
 use mathlib.Core.Path.{_≡_}
 use mathlib.Core.Bool.{Bool}
 use mathlib.Core.List.{List, [], _∷_}
@@ -21,7 +21,7 @@ use Rattle.rolling.specs.Moments.{Statistic, kindOf}
 use Rattle.rolling.specs.Calls.{Query, GivenTo, Left}
 use Rattle.rolling.specs.Fixed.{fixedQuery}
 use Rattle.weighted.specs.Weights.{weightedAt}
-use Rattle.moments.specs.HostCall.{Host, decodedOf, ReadingLists, shortLists}
+use Rattle.moments.specs.HostCall.{Host, decodedOf, ReadingLists}
 use Rattle.moments.specs.Results.{FigureResult}
 use Rattle.promises.specs.Rust.{Rust}
 use Rattle.promises.specs.Calls.{readingsOf, readingsIn, pairsOf, varList, skewList, kurtosisList, covList, pearsonList}
@@ -30,7 +30,7 @@ use Rattle.promises.specs.DemandOne.{Answered, HostLeft}
 use Rattle.promises.specs.DemandTwo.{sourceVar, sourceSkew, sourceKurtosis, sourceCov, sourcePearson, sourceSkewRange, sourceKurtosisRange}
 use Rattle.promises.specs.DemandTwo.{RowsEqual, FixedRowsEqual, WeightedRowsEqual, CorrectRoot}
 use Rattle.promises.specs.DemandThree.{Alike, SameAnswers, Yielded}
-use Rattle.promises.specs.Maps.{SameMaps, SameGiven, SameHost, SameAnswer, SameRoom, SameColumns}
+use Rattle.promises.specs.Maps.{SameMaps, SameGiven, SameHost, SameRoom, SameReadingRoom, SameColumnRoom, SameAnswer, SameColumns, SameRows}
 
 -- ---- host calls
 -- one
@@ -50,9 +50,8 @@ pub record MeetTwoHosts (q : Query) (h h′ : Host (kindOf (q .statistic)))
   pub both : Alike (kindOf (q .statistic)) (decodedOf (kindOf (q .statistic)) h) (decodedOf (kindOf (q .statistic)) h′)
       → number ≡ 0 → number′ ≡ 0
       → SameAnswers q (decodedOf (kindOf (q .statistic)) h) (decodedOf (kindOf (q .statistic)) h′) (l .1) (l′ .1)
-  pub maps : SameHost (kindOf (q .statistic)) h h′
-      → shortLists (kindOf (q .statistic)) h (r .0) ≡ shortLists (kindOf (q .statistic)) h′ (r′ .0) → SameRoom (l .0) (l′ .0)
-      → SameAnswer number number′ (SameColumns (rows (q .plan)) (l .1 .outputs .answers) (l′ .1 .outputs .answers))
+  pub maps : SameHost (kindOf (q .statistic)) h h′ → SameReadingRoom (kindOf (q .statistic)) h h′ (r .0) (r′ .0)
+      → SameRoom (l .0) (l′ .0) → SameRows (rows (q .plan)) (l .1) (l′ .1) number number′
 
 -- ---- plan calls, the trace as doubles
 -- one
@@ -66,8 +65,7 @@ pub record MeetTwoPlans (q : Query) (t t′ : GivenTo q) (l l′ : Lent × Lent)
   pub first : MeetsPlan q t l number
   pub second : MeetsPlan q t′ l′ number′
   pub both : Alike (kindOf (q .statistic)) t t′ → number ≡ 0 → number′ ≡ 0 → SameAnswers q t t′ (l .1) (l′ .1)
-  pub maps : SameGiven (kindOf (q .statistic)) t t′ → SameRoom (l .0) (l′ .0)
-      → SameAnswer number number′ (SameColumns (rows (q .plan)) (l .1 .outputs .answers) (l′ .1 .outputs .answers))
+  pub maps : SameGiven (kindOf (q .statistic)) t t′ → SameRoom (l .0) (l′ .0) → SameRows (rows (q .plan)) (l .1) (l′ .1) number number′
 
 -- ---- fixed windows
 -- one
@@ -87,8 +85,7 @@ pub record MeetTwoFixed (center : Bool) (windowSize minPeriods : ℕ) (a : Stati
   pub both : Alike (kindOf a) t t′ → number ≡ 0 → number′ ≡ 0
       → SameAnswers (fixedQuery center windowSize minPeriods a t) t t′ (l .1) (l′ .1)
   pub maps : SameGiven (kindOf a) t t′ → SameRoom (l .0) (l′ .0)
-      → SameAnswer number number′
-      (SameColumns (rows (fixedQuery center windowSize minPeriods a t .plan)) (l .1 .outputs .answers) (l′ .1 .outputs .answers))
+      → SameRows (rows (fixedQuery center windowSize minPeriods a t .plan)) (l .1) (l′ .1) number number′
 
 -- ---- weights
 -- one
@@ -103,8 +100,7 @@ pub record MeetTwoWeights (center : Bool) (windowSize minPeriods : ℕ) (weights
     (number number′ : ℕ) : Type 0 where
   pub first : MeetsWeights center windowSize minPeriods weights t c number
   pub second : MeetsWeights center windowSize minPeriods weights t′ c′ number′
-  pub maps : SameMaps t t′
-      → min (length (c .0 .doubles)) (length (c .0 .bytes)) ≡ min (length (c′ .0 .doubles)) (length (c′ .0 .bytes))
+  pub maps : SameMaps t t′ → SameColumnRoom (c .0) (c′ .0)
       → SameAnswer number number′ (SameColumns (length (t .readings)) (c .1 ∷ []) (c′ .1 ∷ []))
 
 -- ---- whole arrays, pairs and ranges

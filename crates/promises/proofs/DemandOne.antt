@@ -125,7 +125,7 @@ either-true true b f g h = refl
 either-true false b f g (inl p) = apart (f p)
 either-true false b f g (inr q) = g q
 
-map-wrong : (t : Trace) → wrongMap (length (t .readings)) (t .mapped) (t .map) ≡ true → MapOfWrongLength t
+pub map-wrong : (t : Trace) → wrongMap (length (t .readings)) (t .mapped) (t .map) ≡ true → MapOfWrongLength t
 unfolding wrongMap
 map-wrong t h = go (t .mapped) refl h
   where

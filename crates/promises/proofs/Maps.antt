@@ -1,15 +1,15 @@
 -- The law of maps: a map is looked at through `validAt` at the places of the trace, and through its length, which is too short or not.
 -- So the numbers are the same and so are the valid readings; the rows are the same by demand 3. Assumes nothing.
-use Prim.Native.Nat.{ℕ, _<_}
+use Prim.Native.Nat.{ℕ, _≤_, _<_}
 use mathlib.Core.Path.{_≡_, refl, sym, ap, _∙_, subst}
-use mathlib.Core.Bool.{Bool, false}
+use mathlib.Core.Bool.{Bool, true, false}
 use mathlib.Core.List.{List, [], _∷_, zip}
 use native.Mathlib.Omega.{arith}
 use lib.ListN.{length, take, drop, length-append, length-take, length-drop}
 use lib.Ieee.{Float}
-use Rattle.trace.specs.Trace.{Trace, validAt, bothAt}
+use Rattle.trace.specs.Trace.{Trace, bytesFor, validAt, bothAt}
 use Rattle.trace.specs.Refusals.{refusal, _orElse_, wrongMap, traceRefusal, rangeRefusal}
-use Rattle.trace.proofs.Maps.{valid-same, behind-unread, long-enough}
+use Rattle.trace.proofs.Maps.{valid-same, behind-unread}
 use Rattle.trace.proofs.Accepted.{pair-fits}
 use Rattle.moment.proofs.Pairs.{length-zip}
 use Rattle.moment.specs.Skew.{skewNew}
@@ -31,15 +31,22 @@ use Rattle.moments.specs.HostCall.{Host, decodedOf, oddBytes, ReadingLists, sho
 use Rattle.moments.specs.Results.{StateResult}
 use Rattle.promises.specs.Calls.{readingsOf, readingsIn, pairsOf, AcceptedCall, planCall, hostCall, fixedCall}
 use Rattle.promises.specs.DemandThree.{Alike, Agree}
-use Rattle.promises.specs.Maps.{LongEnough, SameMaps, padded, SameGiven, SameHost, SameAnswer, SameRoom, SameColumns, OfTrace, OfPair}
-use Rattle.promises.specs.Maps.{MapLaw}
+use Rattle.promises.specs.Maps.{LongEnough, SameMaps, padded, SameGiven, SameHost, SameRoom, SameReadingRoom, SameAnswer}
+use Rattle.promises.specs.Maps.{SameColumns, OfTrace, OfPair, MapLaw}
 use Rattle.promises.proofs.SourceArrays.{pairNumber}
 use Rattle.promises.proofs.DemandThree.{demand-three}
-use Rattle.promises.proofs.DemandOne.{Hands, number-of, taken, var-hands, skew-hands, kurtosis-hands, cov-hands, pearson-hands}
+use Rattle.promises.proofs.DemandOne.{map-wrong, Hands, number-of, taken, var-hands, skew-hands, kurtosis-hands, cov-hands, pearson-hands}
 
 -- ---- maps that say the same
 right : (t : Trace) → LongEnough t → wrongMap (length (t .readings)) (t .mapped) (t .map) ≡ false
-right t h = long-enough (length (t .readings)) (t .mapped) (t .map) h
+right t h = go (wrongMap (length (t .readings)) (t .mapped) (t .map)) refl
+  where
+    go : (b : Bool) → wrongMap (length (t .readings)) (t .mapped) (t .map) ≡ b → b ≡ false
+    go true e = absurd (h (map-wrong t e))
+    go false e = refl
+
+at-least : (t : Trace) → LongEnough t → t .mapped ≡ true → bytesFor (length (t .readings)) ≤ length (t .map)
+at-least t h e = let k : ¬ (length (t .map) < bytesFor (length (t .readings))) = λ l. h (e, l) in omega arith
 
 behind : (t : Trace) (bytes : List ℕ) → LongEnough t → SameMaps t (padded t bytes)
 behind t bytes h =
@@ -47,8 +54,8 @@ behind t bytes h =
       readings = refl;
       mapped = refl;
       long = h;
-      long′ = λ e. let k = h e in let l = length-append (t .map) bytes in omega arith;
-      bits = λ i l. behind-unread (t .mapped) (t .map) bytes (length (t .readings)) i h l;
+      long′ = λ w. let k = w .1 in let l = length-append (t .map) bytes in h (w .0, omega arith);
+      bits = λ i l. behind-unread (t .mapped) (t .map) bytes (length (t .readings)) i (at-least t h) l;
     }
 
 -- the number of a range
@@ -165,8 +172,7 @@ hostNumber q h r l =
     orElse refusalOf q (decodedOf (kindOf (q .statistic)) h) (shortLists (kindOf (q .statistic)) h r) l
 
 host-number : (q : Query) (h h′ : Host (kindOf (q .statistic))) → SameHost (kindOf (q .statistic)) h h′
-    → (r r′ : ReadingLists (kindOf (q .statistic)))
-    → shortLists (kindOf (q .statistic)) h r ≡ shortLists (kindOf (q .statistic)) h′ r′ → (l l′ : Lent) → SameRoom l l′
+    → (r r′ : ReadingLists (kindOf (q .statistic))) → SameReadingRoom (kindOf (q .statistic)) h h′ r r′ → (l l′ : Lent) → SameRoom l l′
     → hostNumber q h r l ≡ hostNumber q h′ r′ l′
 host-number q h h′ s r r′ short l l′ room =
     let kind = kindOf (q .statistic) in

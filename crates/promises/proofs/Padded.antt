@@ -1,36 +1,41 @@
--- Each hypothesis of the law of maps is met, by computation: maps with other spare bits and bytes behind, in calls of several kinds; the
--- paper's example of nine places; and what would be said too much: of maps that are too short. Assumes nothing.
+-- Each hypothesis of the law of maps is met, by computation: two maps, one with other spare bits and bytes behind, in calls of every kind;
+-- the paper's example of nine places; and what would be said too much: of maps that are too short. Assumes nothing.
 use Prim.Native.Nat.{ℕ, zero, suc, _<_}
 use mathlib.Core.Path.{_≡_, refl}
 use mathlib.Core.Bool.{true, false}
-use mathlib.Core.List.{List, [], _∷_}
+use mathlib.Core.List.{List, [], _∷_, zip, zipWith}
 use native.Mathlib.Omega.{arith}
 use lib.ListN.{length}
 use lib.Ieee.{Float, ofBits, ofInt, add, sub, mul, div, eq, lt, le}
-use Rattle.float.specs.Operators.{one64}
+use Rattle.float.specs.Operators.{zero64, one64, two64}
 use Rattle.float.specs.Tables.{table}
 use Rattle.float.proofs.Cases.{apart}
-use Rattle.trace.specs.Trace.{Trace, traceOf, validAt, validFrom}
+use Rattle.trace.specs.Trace.{Trace, traceOf, validAt, bothAt, validFrom}
 use Rattle.trace.specs.Refusals.{refusal, _orElse_, wrongMap, traceRefusal}
 use Rattle.moment.specs.Var.{varNew, varClear, varCombine, varFinalize}
+use Rattle.moment.specs.Cov.{covNew, covCombine}
+use Rattle.moment.specs.Skew.{skewNew}
 use Rattle.moment.specs.Chunks.{chunks, chunksOf, inChunks}
 use Rattle.moment.specs.Arrays.{answer}
-use Rattle.plan.specs.Refusals.{planRefusal}
+use Rattle.plan.specs.Bounds.{bounds}
+use Rattle.plan.specs.Refusals.{planRefusal, fixedRefusal}
 use Rattle.window.specs.Places.{entriesFrom}
 use Rattle.window.specs.Window.{splitAfter, figureOf}
 use Rattle.window.specs.Readings.{insertedAt, nonfiniteAt}
 use Rattle.window.specs.Given.{Readings}
 use Rattle.window.specs.Rows.{answerAt}
-use Rattle.window.specs.Outputs.{filled, kept}
+use Rattle.window.specs.Outputs.{Column, Lent, column, filled, kept}
+use Rattle.rolling.specs.Moments.{Variance}
 use Rattle.rolling.specs.Calls.{Called}
+use Rattle.rolling.specs.Fixed.{CalledFixed}
 use Rattle.weighted.specs.Weights.{weightsRefusal, CalledWeights}
-use Rattle.moments.specs.HostCall.{Host}
-use Rattle.promises.specs.Calls.{CallsVar}
-use Rattle.promises.specs.Maps.{SameMaps, padded, SameHost, SameAnswer, SameColumns}
+use Rattle.moments.specs.HostCall.{Host, CalledBytes}
+use Rattle.promises.specs.Calls.{CallsVar, CallsCov, CallsSkewRange}
+use Rattle.promises.specs.Maps.{SameMaps, padded, SameHost, SameRoom, SameAnswer, SameColumns, SameRows}
 use Rattle.promises.specs.Table.{varianceBy, p9, trace9}
 use Rattle.promises.proofs.Maps.{map-law}
-use Rattle.promises.proofs.Examples.{reals}
-use Rattle.promises.proofs.Witnesses.{fourColumn, fourLent, leaves, trace13, p9Left, p9-accepted}
+use Rattle.promises.proofs.Examples.{reals, whole}
+use Rattle.promises.proofs.Witnesses.{fourColumn, lent, fourLent, leaves, trace13, p9Left, p9-accepted}
 
 -- ---- "the map-length example for n = 9 reads 'at least 2 bytes'"
 pub nine-by-one : wrongMap 9 true (0 ∷ []) ≡ true
@@ -67,17 +72,43 @@ bits9 (suc (suc zero)) h = refl
 bits9 (suc (suc (suc i))) h = absurd (omega arith)
 
 pub same9 : SameMaps trace9 behind9
-same9 = record { readings = refl; mapped = refl; long = λ e. omega arith; long′ = λ e. omega arith; bits = bits9 }
+same9 =
+    record { readings = refl; mapped = refl; long = λ w. omega (arith, w .1); long′ = λ w. omega (arith, w .1); bits = bits9 }
 
 -- 64 bytes behind
 pub sixty-four-behind : SameMaps trace9 (padded trace9 (table (λ i. 170) 64))
-sixty-four-behind = map-law .behind trace9 (table (λ i. 170) 64) (λ e. omega arith)
+sixty-four-behind = map-law .behind trace9 (table (λ i. 170) 64) (λ w. omega (arith, w .1))
 
 -- traces without a map, and something where it would be
-pub unlent13 : SameMaps trace13 (padded trace13 (255 ∷ []))
-unlent13 = map-law .behind trace13 (255 ∷ []) (λ e. apart e)
+pub unlent : SameMaps trace13 (padded trace13 (255 ∷ []))
+unlent = map-law .behind trace13 (255 ∷ []) (λ w. apart (w .0))
 
--- P9's trace as bytes, with either map
+-- ---- calls with either map, lent other contents
+-- four places with something else than `fourColumn` has
+abbrev otherColumn : Column
+otherColumn = column (table (λ i. zero64) 4) (table (λ i. 9) 4)
+
+-- what is left of it by P9 with minimum 2
+abbrev behindLeft : Lent
+behindLeft = lent 12 (column (two64 ∷ zero64 ∷ zero64 ∷ zero64 ∷ []) (1 ∷ 9 ∷ 9 ∷ 9 ∷ []))
+
+pub behind9-accepted : Called (varianceBy p9 2) behind9 (lent 12 otherColumn) behindLeft 0
+unfolding table refusal _orElse_ wrongMap planRefusal filled kept ofBits ofInt add sub mul div eq lt le varClear varCombine varFinalize
+    entriesFrom splitAfter figureOf insertedAt nonfiniteAt answerAt validAt
+behind9-accepted = record { number-is = refl; left = leaves refl refl refl refl refl }
+
+-- lists that are as long
+pub room : SameRoom (fourLent 12) (lent 12 otherColumn)
+unfolding table
+room = record { outputs = refl; work = refl }
+
+-- a plan
+pub plans9 : SameRows 1 p9Left behindLeft 0 0
+plans9 =
+    map-law .plans (varianceBy p9 2) trace9 behind9 same9 (fourLent 12) p9Left (lent 12 otherColumn) behindLeft room 0 0 p9-accepted
+    behind9-accepted
+
+-- a host call: P9's trace as bytes, with either map
 abbrev bytes9 : List ℕ → Host Readings
 bytes9 map =
     record {
@@ -88,43 +119,113 @@ bytes9 map =
 
 pub same-bytes9 : SameHost Readings (bytes9 (5 ∷ [])) (bytes9 (253 ∷ 0 ∷ 255 ∷ []))
 unfolding table
-same-bytes9 =
-    (refl, record { readings = refl; mapped = refl; long = λ e. omega arith; long′ = λ e. omega arith; bits = bits9 })
+same-bytes9 = (
+  refl,
+  record { readings = refl; mapped = refl; long = λ w. omega (arith, w .1); long′ = λ w. omega (arith, w .1); bits = bits9 },
+)
 
--- ---- calls
--- P9 with minimum 2 and the longer map is accepted, and has the same figure
-pub behind9-accepted : Called (varianceBy p9 2) behind9 (fourLent 12) p9Left 0
+pub bytes9-accepted : CalledBytes (varianceBy p9 2) (bytes9 (5 ∷ [])) (reals (7 ∷ 7 ∷ 7 ∷ [])) (reals (2 ∷ 7 ∷ 4 ∷ [])) (fourLent 12)
+    p9Left 0
 unfolding table refusal _orElse_ wrongMap planRefusal filled kept ofBits ofInt add sub mul div eq lt le varClear varCombine varFinalize
     entriesFrom splitAfter figureOf insertedAt nonfiniteAt answerAt validAt
-behind9-accepted = record { number-is = refl; left = leaves refl refl refl refl refl }
+bytes9-accepted = record { number-is = refl; readings-are = refl; left = leaves refl refl refl refl refl }
 
--- as the law says, of lists with something else in them as well
-pub plan9 : SameAnswer 0 0 (SameColumns 1 (p9Left .outputs .answers) (p9Left .outputs .answers))
-plan9 =
-    map-law .plans (varianceBy p9 2) trace9 behind9 same9 (fourLent 12) p9Left (fourLent 12) p9Left (record { outputs = refl; work = refl })
-    0 0 p9-accepted behind9-accepted
+pub behind-bytes9-accepted : CalledBytes (varianceBy p9 2) (bytes9 (253 ∷ 0 ∷ 255 ∷ [])) (reals (8 ∷ 8 ∷ 8 ∷ 8 ∷ []))
+    (reals (2 ∷ 7 ∷ 4 ∷ 8 ∷ [])) (lent 12 otherColumn) behindLeft 0
+unfolding table refusal _orElse_ wrongMap planRefusal filled kept ofBits ofInt add sub mul div eq lt le varClear varCombine varFinalize
+    entriesFrom splitAfter figureOf insertedAt nonfiniteAt answerAt validAt
+behind-bytes9-accepted = record { number-is = refl; readings-are = refl; left = leaves refl refl refl refl refl }
 
--- the state of its two valid readings, by either map
-abbrev state9 : List Float
-state9 = reals (2 ∷ 3 ∷ 2 ∷ [])
+pub hosts9 : SameRows 1 p9Left behindLeft 0 0
+hosts9 =
+    map-law .hosts (varianceBy p9 2) _ _ same-bytes9 _ (reals (2 ∷ 7 ∷ 4 ∷ [])) _ (reals (2 ∷ 7 ∷ 4 ∷ 8 ∷ [])) refl (fourLent 12) p9Left
+    (lent 12 otherColumn) behindLeft room 0 0 bytes9-accepted behind-bytes9-accepted
 
-pub var9 : CallsVar trace9 (reals (7 ∷ 7 ∷ 7 ∷ [])) state9 0
+-- trailing windows of 3: the first two rows have one valid place
+abbrev fixedLeft : Float → ℕ → Lent
+fixedLeft x b = lent 12 (column (zero64 ∷ zero64 ∷ two64 ∷ x ∷ []) (0 ∷ 0 ∷ 1 ∷ b ∷ []))
+
+pub fixed9-accepted : CalledFixed false 3 1 (Variance 1) trace9 (fourLent 12) (fixedLeft one64 7) 0
+unfolding table refusal _orElse_ wrongMap planRefusal bounds fixedRefusal filled kept ofBits ofInt add sub mul div eq lt le varClear
+    varCombine varFinalize entriesFrom splitAfter figureOf insertedAt nonfiniteAt answerAt validAt
+fixed9-accepted = record { number-is = refl; plan-call = record { number-is = refl; left = leaves refl refl refl refl refl } }
+
+pub behind-fixed9-accepted : CalledFixed false 3 1 (Variance 1) behind9 (lent 12 otherColumn) (fixedLeft zero64 9) 0
+unfolding table refusal _orElse_ wrongMap planRefusal bounds fixedRefusal filled kept ofBits ofInt add sub mul div eq lt le varClear
+    varCombine varFinalize entriesFrom splitAfter figureOf insertedAt nonfiniteAt answerAt validAt
+behind-fixed9-accepted = record { number-is = refl; plan-call = record { number-is = refl; left = leaves refl refl refl refl refl } }
+
+pub fixed9 : SameRows 3 (fixedLeft one64 7) (fixedLeft zero64 9) 0 0
+unfolding table bounds
+fixed9 =
+    map-law .fixed false 3 1 (Variance 1) trace9 behind9 same9 (fourLent 12) (fixedLeft one64 7) (lent 12 otherColumn) (fixedLeft zero64 9)
+    room 0 0 fixed9-accepted behind-fixed9-accepted
+
+-- weights: a longer map is 8, as an exact one is, and no longer 3
+pub weights9-refused : CalledWeights false 2 1 (one64 ∷ one64 ∷ []) trace9 fourColumn fourColumn 8
+unfolding table refusal _orElse_ wrongMap weightsRefusal filled
+weights9-refused = record { number-is = refl; column-is = refl }
+
+pub behind-weights9-refused : CalledWeights false 2 1 (one64 ∷ one64 ∷ []) behind9 otherColumn otherColumn 8
+unfolding table refusal _orElse_ wrongMap weightsRefusal filled
+behind-weights9-refused = record { number-is = refl; column-is = refl }
+
+pub weights9 : SameAnswer 8 8 (SameColumns 3 (fourColumn ∷ []) (otherColumn ∷ []))
+unfolding table
+weights9 =
+    map-law .weights false 2 1 (one64 ∷ one64 ∷ []) trace9 behind9 same9 fourColumn fourColumn otherColumn otherColumn refl 8 8
+    weights9-refused behind-weights9-refused
+
+-- whole arrays: the state of the two valid readings, of lent states that held other members
+abbrev sevens : List Float
+sevens = reals (7 ∷ 7 ∷ 7 ∷ 7 ∷ [])
+
+abbrev eights : List Float
+eights = reals (8 ∷ 8 ∷ 8 ∷ 8 ∷ [])
+
+pub var9 : CallsVar trace9 sevens (reals (2 ∷ 3 ∷ 2 ∷ [])) 0
 unfolding answer refusal _orElse_ wrongMap validFrom chunks chunksOf inChunks validAt ofBits ofInt add sub mul div eq varNew varClear
     varCombine
 var9 = record { number = refl; state = refl }
 
-pub behind-var9 : CallsVar behind9 (reals (8 ∷ 8 ∷ 8 ∷ [])) state9 0
+pub behind-var9 : CallsVar behind9 eights (reals (2 ∷ 3 ∷ 2 ∷ [])) 0
 unfolding answer refusal _orElse_ wrongMap validFrom chunks chunksOf inChunks validAt ofBits ofInt add sub mul div eq varNew varClear
     varCombine
 behind-var9 = record { number = refl; state = refl }
 
-pub vars9 : SameAnswer 0 0 (state9 ≡ state9)
-vars9 = map-law .var trace9 behind9 same9 _ state9 _ state9 0 0 var9 behind-var9
+pub vars9 : SameAnswer 0 0 (reals (2 ∷ 3 ∷ 2 ∷ []) ≡ reals (2 ∷ 3 ∷ 2 ∷ []))
+vars9 = map-law .var trace9 behind9 same9 sevens _ eights _ 0 0 var9 behind-var9
 
--- with weights a longer map is 8, and no longer 3
-pub behind-weights9 : CalledWeights false 2 1 (one64 ∷ one64 ∷ []) behind9 fourColumn fourColumn 8
-unfolding table refusal _orElse_ wrongMap weightsRefusal filled
-behind-weights9 = record { number-is = refl; column-is = refl }
+-- a range: its last two places, of which one is valid
+pub range9 : CallsSkewRange trace9 1 2 sevens (reals (1 ∷ 4 ∷ 0 ∷ 0 ∷ [])) 0
+unfolding answer refusal _orElse_ wrongMap validFrom validAt ofBits ofInt add sub mul div eq skewNew
+range9 = record { number = refl; state = refl }
+
+pub behind-range9 : CallsSkewRange behind9 1 2 eights (reals (1 ∷ 4 ∷ 0 ∷ 0 ∷ [])) 0
+unfolding answer refusal _orElse_ wrongMap validFrom validAt ofBits ofInt add sub mul div eq skewNew
+behind-range9 = record { number = refl; state = refl }
+
+pub ranges9 : SameAnswer 0 0 (reals (1 ∷ 4 ∷ 0 ∷ 0 ∷ []) ≡ reals (1 ∷ 4 ∷ 0 ∷ 0 ∷ []))
+ranges9 = map-law .skew-range 1 2 trace9 behind9 same9 sevens _ eights _ 0 0 range9 behind-range9
+
+-- a pair, of which the second trace has no map
+abbrev second : Trace
+second = whole (2 ∷ 5 ∷ 6 ∷ [])
+
+pub cov9 : CallsCov trace9 second sevens (reals (2 ∷ 3 ∷ 4 ∷ 4 ∷ [])) 0
+unfolding answer refusal _orElse_ wrongMap validFrom chunks chunksOf inChunks validAt bothAt ofBits ofInt add sub mul div eq zip zipWith
+    covNew covCombine
+cov9 = record { number = refl; state = refl }
+
+pub behind-cov9 : CallsCov behind9 (padded second (255 ∷ [])) eights (reals (2 ∷ 3 ∷ 4 ∷ 4 ∷ [])) 0
+unfolding answer refusal _orElse_ wrongMap validFrom chunks chunksOf inChunks validAt bothAt ofBits ofInt add sub mul div eq zip zipWith
+    covNew covCombine
+behind-cov9 = record { number = refl; state = refl }
+
+pub covs9 : SameAnswer 0 0 (reals (2 ∷ 3 ∷ 4 ∷ 4 ∷ []) ≡ reals (2 ∷ 3 ∷ 4 ∷ 4 ∷ []))
+covs9 =
+    map-law .cov trace9 second behind9 (padded second (255 ∷ [])) same9 (map-law .behind second (255 ∷ []) (λ w. apart (w .0))) sevens _
+    eights _ 0 0 cov9 behind-cov9
 
 -- ---- what would be said too much: maps that are too short may have the same bits, as a place past a map's end reads as missing, and
 -- give another number

@@ -1,13 +1,13 @@
 -- Document 02, request 1: "Accept a longer map and ignore the bytes behind." Two calls whose maps have the same bits at the places of the
 -- trace give the same in every entry, whatever stands in the spare bits and in the bytes behind, and however many these are. Assumes
 -- nothing.
-use Prim.Native.Nat.{ℕ, _≤_, _<_, min}
+use Prim.Native.Nat.{ℕ, _<_, min}
 use mathlib.Core.Path.{_≡_}
-use mathlib.Core.Bool.{Bool, true}
+use mathlib.Core.Bool.{Bool}
 use mathlib.Core.List.{List, [], _∷_, _++_}
 use lib.ListN.{length}
 use lib.Ieee.{Float}
-use Rattle.trace.specs.Trace.{Trace, traceOf, bytesFor, validAt}
+use Rattle.trace.specs.Trace.{Trace, traceOf, validAt}
 use Rattle.plan.specs.Plan.{rows}
 use Rattle.window.specs.Given.{Kind, Readings, Given}
 use Rattle.window.specs.Outputs.{Column, Lent, shortestOutput, answersIn}
@@ -17,11 +17,12 @@ use Rattle.rolling.specs.Fixed.{fixedQuery, CalledFixed}
 use Rattle.weighted.specs.Weights.{CalledWeights}
 use Rattle.moments.specs.HostCall.{Host, decodedOf, ReadingLists, shortLists, CalledBytes}
 use Rattle.promises.specs.Calls.{CallsVar, CallsSkew, CallsKurtosis, CallsCov, CallsPearson, CallsSkewRange, CallsKurtosisRange}
+use Rattle.promises.specs.DemandOne.{MapOfWrongLength}
 
 -- ---- maps that say the same
--- a map, where one is lent, has "at least" so many bytes
+-- 3 does not apply: a map, where one is lent, has "at least" the bytes that it needs
 abbrev pub LongEnough : Trace → Type 0
-LongEnough t = t .mapped ≡ true → bytesFor (length (t .readings)) ≤ length (t .map)
+LongEnough t = ¬ MapOfWrongLength t
 
 -- two traces of the same readings, with maps that are long enough and have the same bit at every place of the trace
 pub record SameMaps (t t′ : Trace) : Type 0 where
@@ -43,22 +44,35 @@ SameGiven Readings t t′ = SameMaps t t′
 abbrev pub SameHost : (kind : Kind) → Host kind → Host kind → Type 0
 SameHost Readings h h′ = (h .bytes ≡ h′ .bytes) × SameMaps (decodedOf Readings h) (decodedOf Readings h′)
 
--- ---- what two such calls give
--- the same number, and where that is 0, `Same`
-pub record SameAnswer (r r′ : ℕ) (Same : Type 0) : Type 0 where
-  pub number : r ≡ r′
-  pub answer : r ≡ 0 → Same
-
--- lists that are as long: of what is lent, only the lengths count for the number
+-- ---- lists that are lent: for a number only their lengths count
+-- the shortest list of outputs and the work slice are as long in both calls
 pub record SameRoom (l l′ : Lent) : Type 0 where
   pub outputs : shortestOutput (l .outputs) ≡ shortestOutput (l′ .outputs)
   pub work : length (l .work) ≡ length (l′ .work)
 
--- the same answer in every row
+-- the lists of readings are long enough in both host calls or in neither
+abbrev pub SameReadingRoom : (kind : Kind) → Host kind → Host kind → ReadingLists kind → ReadingLists kind → Type 0
+SameReadingRoom kind h h′ r r′ = shortLists kind h r ≡ shortLists kind h′ r′
+
+-- the shorter list of a weighted call, which is lent no work slice
+abbrev pub SameColumnRoom : Column → Column → Type 0
+SameColumnRoom c c′ = min (length (c .doubles)) (length (c .bytes)) ≡ min (length (c′ .doubles)) (length (c′ .bytes))
+
+-- ---- what two such calls give
+-- The same number and, where that is 0, Same. Of what a refused call leaves, and of the readings that a host call decodes, demand 1 speaks.
+pub record SameAnswer (r r′ : ℕ) (Same : Type 0) : Type 0 where
+  pub number : r ≡ r′
+  pub answer : r ≡ 0 → Same
+
+-- the same answers in every row of two columns' lists
 abbrev pub SameColumns : ℕ → List Column → List Column → Type 0
 SameColumns rows cs cs′ = (k : ℕ) → k < rows → answersIn cs k ≡ answersIn cs′ k
 
--- so it is with a call that hands out a state, of one trace, whatever the lent state held before ..
+-- of windows: the number and every row's answers
+abbrev pub SameRows : ℕ → (l l′ : Lent) → ℕ → ℕ → Type 0
+SameRows rows l l′ r r′ = SameAnswer r r′ (SameColumns rows (l .outputs .answers) (l′ .outputs .answers))
+
+-- of a call that hands out a state, of one trace: the number and the state, whatever the lent state held before ..
 abbrev pub OfTrace : (Trace → List Float → List Float → ℕ → Type 0) → Type 0
 OfTrace Calls =
     (t t′ : Trace) → SameMaps t t′ → (before after before′ after′ : List Float) (r r′ : ℕ) → Calls t before after r
@@ -84,24 +98,19 @@ pub record MapLaw : Type 0 where
   pub kurtosis-range : (start len : ℕ) → OfTrace (λ t. CallsKurtosisRange t start len)
   -- plans, the trace as doubles
   pub plans : (q : Query) (t t′ : GivenTo q) → SameGiven (kindOf (q .statistic)) t t′ → (l₀ l l₀′ l′ : Lent) → SameRoom l₀ l₀′ → (r r′ : ℕ)
-      → Called q t l₀ l r → Called q t′ l₀′ l′ r′
-      → SameAnswer r r′ (SameColumns (rows (q .plan)) (l .outputs .answers) (l′ .outputs .answers))
+      → Called q t l₀ l r → Called q t′ l₀′ l′ r′ → SameRows (rows (q .plan)) l l′ r r′
   -- host calls, the trace as bytes
   pub hosts : (q : Query) (h h′ : Host (kindOf (q .statistic))) → SameHost (kindOf (q .statistic)) h h′
-      → (r₀ r r₀′ r′ : ReadingLists (kindOf (q .statistic)))
-      → shortLists (kindOf (q .statistic)) h r₀ ≡ shortLists (kindOf (q .statistic)) h′ r₀′
+      → (r₀ r r₀′ r′ : ReadingLists (kindOf (q .statistic))) → SameReadingRoom (kindOf (q .statistic)) h h′ r₀ r₀′
       → (l₀ l l₀′ l′ : Lent) → SameRoom l₀ l₀′ → (number number′ : ℕ) → CalledBytes q h r₀ r l₀ l number
-      → CalledBytes q h′ r₀′ r′ l₀′ l′ number′
-      → SameAnswer number number′ (SameColumns (rows (q .plan)) (l .outputs .answers) (l′ .outputs .answers))
+      → CalledBytes q h′ r₀′ r′ l₀′ l′ number′ → SameRows (rows (q .plan)) l l′ number number′
   -- fixed windows
   pub fixed : (center : Bool) (windowSize minPeriods : ℕ) (a : Statistic) (t t′ : Given (kindOf a)) → SameGiven (kindOf a) t t′
       → (l₀ l l₀′ l′ : Lent) → SameRoom l₀ l₀′ → (r r′ : ℕ) → CalledFixed center windowSize minPeriods a t l₀ l r
       → CalledFixed center windowSize minPeriods a t′ l₀′ l′ r′
-      → SameAnswer r r′
-      (SameColumns (rows (fixedQuery center windowSize minPeriods a t .plan)) (l .outputs .answers) (l′ .outputs .answers))
-  -- weights
+      → SameRows (rows (fixedQuery center windowSize minPeriods a t .plan)) l l′ r r′
+  -- weights: with a map the number is never 0, and without one nothing is said of maps but that none is looked at
   pub weights : (center : Bool) (windowSize minPeriods : ℕ) (weights : List Float) (t t′ : Trace) → SameMaps t t′
-      → (c₀ c c₀′ c′ : Column) → min (length (c₀ .doubles)) (length (c₀ .bytes)) ≡ min (length (c₀′ .doubles)) (length (c₀′ .bytes))
-      → (r r′ : ℕ)
-      → CalledWeights center windowSize minPeriods weights t c₀ c r → CalledWeights center windowSize minPeriods weights t′ c₀′ c′ r′
+      → (c₀ c c₀′ c′ : Column) → SameColumnRoom c₀ c₀′ → (r r′ : ℕ) → CalledWeights center windowSize minPeriods weights t c₀ c r
+      → CalledWeights center windowSize minPeriods weights t′ c₀′ c′ r′
       → SameAnswer r r′ (SameColumns (length (t .readings)) (c ∷ []) (c′ ∷ []))

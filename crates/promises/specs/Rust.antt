@@ -15,7 +15,7 @@ pub record Bitmap : Type 0 where
   pub bytes : List ℕ
   pub bits : ℕ
 
--- a trace's map as the Rust's `Bitmap`: "one bit a place", in all the bytes that are lent, of which so many bits count
+-- a trace's map as the Rust's `Bitmap`: "one bit a place", in all the bytes that are lent
 abbrev pub bitmapOf : Trace → Bitmap
 bitmapOf t = record { bytes = t .map; bits = length (t .readings) }
 

@@ -5,9 +5,7 @@ use mathlib.Core.Bool.{Bool, true, false}
 use mathlib.Core.List.{List, [], _∷_, _++_}
 use native.Mathlib.Omega.{arith}
 use lib.ListN.{length, List·getD-append}
-use borrow.Author.Tests.{le-ltb}
 use Rattle.trace.specs.Trace.{bytesFor, validAt, validFrom}
-use Rattle.trace.specs.Refusals.{wrongMap}
 
 -- entries from place p on, of which the same are valid
 pub valid-same : {A : Type 0} (v w : ℕ → Bool) (p : ℕ) (xs : List A) → ((i : ℕ) → p ≤ i → i < p + length xs → v i ≡ w i)
@@ -35,9 +33,3 @@ behind-unread true map behind n i h l =
     let k = h refl in
     rw (List·getD-append map behind 0 (i / 8) (omega arith))
 behind-unread false map behind n i h l = refl
-
--- a map that is long enough, or that is not lent, is not wrong
-pub long-enough : (n : ℕ) (has : Bool) (map : List ℕ) → (has ≡ true → bytesFor n ≤ length map) → wrongMap n has map ≡ false
-unfolding wrongMap
-long-enough n true map h = le-ltb _ _ (h refl)
-long-enough n false map h = refl

@@ -265,7 +265,7 @@ fn a_longer_map_answers_as_the_exact_one() {
     }
 }
 
-/// What the tests here compare depends on every bit that counts, also on the last.
+/// What the tests here compare depends on the bits that count, on the last one too.
 #[test]
 fn another_bit_gives_another_answer() {
     for n in READINGS.into_iter().skip(1) {

@@ -23,7 +23,10 @@ fn run(program: &Path, args: &[&str]) -> String {
 fn no_error_in_the_entries() {
     let this = std::env::current_exe().expect("this program");
     let said = run(&this, &["vectors::", "refusals::", "maps::", "--test-threads=1"]);
-    assert!(said.contains("test vectors::plans ... ok") && said.contains(" passed; 0 failed"));
+    for test in ["vectors::plans", "maps::a_longer_map_answers_as_the_exact_one"] {
+        assert!(said.contains(&format!("test {test} ... ok")), "{test}");
+    }
+    assert!(said.contains(" passed; 0 failed"));
 }
 
 #[test]

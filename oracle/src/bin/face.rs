@@ -274,11 +274,11 @@ fn states(seen: &mut Seen, r: &mut Rng, s: &str) {
         }
     }
 }
-/// 16,777,216 readings pass, one more is 1, whatever the map.
+/// 16,777,216 readings pass, one more is 1, also where the map is too short.
 fn limits(seen: &mut Seen, r: &mut Rng) {
     let x: Vec<f64> = (0..LIMIT + 1).map(|i| (i % 1000) as f64 - 400.0).collect();
     let ones = vec![0xFF; LIMIT / 8 + 64];
-    for (n, map) in [(LIMIT, None), (LIMIT, Some(&ones[..])), (LIMIT + 1, None), (LIMIT + 1, Some(&ones[..]))] {
+    for (n, map) in [(LIMIT, None), (LIMIT, Some(&ones[..])), (LIMIT + 1, None), (LIMIT + 1, Some(&ones[..LIMIT / 8]))] {
         let m = Lent::new(map, &ones, r);
         for which in 0..7 {
             arrays(seen, r, &Given { x: &x[..n], xm: &m, y: &x[..n], ym: &m, start: 1, length: LIMIT - 1 }, which);

@@ -201,14 +201,14 @@ fn any_plan(seen: &mut Seen, r: &mut Rng, f: PlanFn) {
     let (call, room) = (Call { trace: &bytes[shift..], ..case.call() }, case.room);
     plan_call(seen, r, f, call, room);
 }
-/// 16,777,216 readings pass and one more is 1, whatever the map; as many rows pass and one more is 4, whatever the rows.
+/// 16,777,216 readings pass and one more is 1, also where the map is too short; as many rows pass and one more is 4, whatever the rows.
 fn limits(seen: &mut Seen, r: &mut Rng, f: PlanFn) {
     let figures = [Figure::Var { ddof: 1 }, Figure::Skew { bias: false }, Figure::Kurt { fisher: true, bias: true }];
     let x: Vec<f64> = (0..LIMIT + 1).map(|i| (i % 1000) as f64 - 400.0).collect();
     let ones = vec![0xFF; LIMIT / 8 + 64];
     let far = [(0, 3), (2, 9), (LIMIT - 70, LIMIT - 60), (LIMIT - 65, LIMIT)];
     for figure in figures {
-        for (n, map) in [(LIMIT, None), (LIMIT, Some(&ones[..])), (LIMIT + 1, None), (LIMIT + 1, Some(&ones[..]))] {
+        for (n, map) in [(LIMIT, None), (LIMIT, Some(&ones[..])), (LIMIT + 1, None), (LIMIT + 1, Some(&ones[..LIMIT / 8]))] {
             let case = Case::new(figure, 1, &x[..n], map, &far);
             plan_call(seen, r, f, case.call(), case.room);
         }
@@ -289,7 +289,7 @@ fn windows_limits(seen: &mut Seen, r: &mut Rng, fixed: Option<WindowsFn>, weight
         make(fixed, case, room);
         let case = Case { size: usize::MAX, ..Case::new(figure, &x[..LIMIT], map, 4, 2, k == 0) };
         make(fixed, case, Room { work: figure.entry() * 4, ..room });
-        for map in [None, Some(&ones[..])] {
+        for map in [None, Some(&ones[..LIMIT / 8])] {
             let case = Case::new(figure, &x, map, 4, 2, false);
             let room = case.room;
             make(fixed, case.clone(), room);
@@ -303,7 +303,8 @@ fn windows_limits(seen: &mut Seen, r: &mut Rng, fixed: Option<WindowsFn>, weight
         let case = Case::weighted(&w, &x, 2, centre);
         let room = case.room;
         make(weighted, case, room);
-        make(weighted, Case { has_map: true, map: ones.clone(), ..Case::weighted(&[1.0, -1.0], &x, 2, centre) }, none);
+        let short = ones[..LIMIT / 8].to_vec();
+        make(weighted, Case { has_map: true, map: short, ..Case::weighted(&[1.0, -1.0], &x, 2, centre) }, none);
     }
 }
 
