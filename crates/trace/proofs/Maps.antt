@@ -1,9 +1,10 @@
 -- What is read of a map: the bits at the places of the trace, and no other. Assumes nothing.
-use Prim.Native.Nat.{ℕ, suc, _+_, _/_, _≤_, _<_}
-use mathlib.Core.Path.{_≡_, refl}
+use Prim.Native.Nat.{ℕ, suc, _+_, _/_, _%_, _^_, _≤_, _<_}
+use mathlib.Core.Path.{_≡_, refl, sym, ap}
 use mathlib.Core.Bool.{Bool, true, false}
 use mathlib.Core.List.{List, [], _∷_, _++_}
 use native.Mathlib.Omega.{arith}
+use lib.Dec.{eqb}
 use lib.ListN.{length, List·getD-append}
 use Rattle.trace.specs.Trace.{bytesFor, validAt, validFrom}
 
@@ -31,5 +32,5 @@ pub behind-unread : (has : Bool) (map behind : List ℕ) (n i : ℕ) → (has �
 unfolding validAt
 behind-unread true map behind n i h l =
     let k = h refl in
-    rw (List·getD-append map behind 0 (i / 8) (omega arith))
+    ap (λ (byte : ℕ). eqb (byte / 2 ^ (i % 8) % 2) 1) (sym (List·getD-append map behind 0 _ (omega arith)))
 behind-unread false map behind n i h l = refl
