@@ -21,8 +21,8 @@ pub fn lent(r: &mut Rng, mut map: Vec<u8>, n: usize) -> Vec<u8> {
     }
     map
 }
-/// Readings and their map, with so many bytes behind it, or for `None` a byte too short. A reading that is missing is not finite, so that it
-/// shows if its bit is not the one that is looked at.
+/// Readings and their map, with so many bytes behind it, or for `None` a byte too short. A reading that is missing is not finite, so
+/// that it shows if its bit is not the one that is looked at.
 pub fn example(r: &mut Rng, n: usize, behind: Option<usize>, sort: usize) -> (Vec<f64>, Vec<u8>) {
     let mut map: Vec<u8> = (0..n.div_ceil(8)).map(|_| (r.u64() | r.u64()) as u8).collect();
     let x = (0..n).map(|i| if valid(Some(&map), i) { r.reading(1) } else { r.bad() }).collect();

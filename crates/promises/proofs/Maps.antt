@@ -35,7 +35,8 @@ use Rattle.promises.specs.Maps.{LongEnough, SameMaps, padded, SameGiven,
 use Rattle.promises.specs.Maps.{SameColumns, OfTrace, OfPair, MapLaw}
 use Rattle.promises.proofs.SourceArrays.{pairNumber}
 use Rattle.promises.proofs.DemandThree.{demand-three}
-use Rattle.promises.proofs.DemandOne.{map-wrong, Hands, number-of, taken, var-hands, skew-hands, kurtosis-hands, cov-hands, pearson-hands}
+use Rattle.promises.proofs.DemandOne.{map-wrong}
+use Rattle.promises.proofs.DemandOne.{Hands, number-of, taken, var-hands, skew-hands, kurtosis-hands, cov-hands, pearson-hands}
 
 -- ---- maps that say the same
 right : (t : Trace) → LongEnough t → wrongMap (length (t .readings)) (t .mapped) (t .map) ≡ false
