@@ -1,6 +1,6 @@
 -- A loop that folds a list from the left: what is folded so far, carried on over what is left, is the whole fold. Over any
 -- list, and over the valid ones of a list. Assumes nothing.
-use Prim.Native.Nat.{ℕ, suc, _+_, _<_, _≤_}
+use Prim.Native.Nat.{ℕ, _+_, _<_, _≤_}
 use mathlib.Core.Path.{_≡_, refl, sym, ap, _∙_}
 use mathlib.Core.Bool.{Bool, true, false}
 use mathlib.Core.List.{List, [], _∷_, foldl}
