@@ -1,5 +1,5 @@
-// Plan calls of a host: one, of which all three demands speak, and two of the same plan, setting and figure, of which the third does
-// and the law of maps.
+// Plan calls of a host: one, of which all three demands speak, and two of the same plan, setting and figure, of which the third
+// and the law of maps speak.
 ghost use Rattle.rolling.specs.Moments.{Variance, Skewness, Kurtosis};
 ghost use Rattle.rolling.specs.Calls.{querying, lending};
 ghost use Rattle.moments.specs.HostCall.{hosting, decoding};

@@ -1,10 +1,12 @@
 -- What is known of an accepted call, by whichever entry: its number is 0, so no refusal applies, its plan is in order, and its
 -- lists hold every row's answers. Assumes nothing.
 use Prim.Native.Nat.{ℕ, _≤_, _<_}
-use mathlib.Core.Path.{_≡_, sym, ap, _∙_}
+use mathlib.Core.Path.{_≡_, refl, sym, ap, _∙_}
 use mathlib.Core.Bool.{Bool, true, false}
+use mathlib.Core.List.{List, [], _∷_}
 use lib.Dec.{lit≤}
 use lib.ListN.{length}
+use lib.Ieee.{Float}
 use borrow.Author.Tests.{ltb-false}
 use Rattle.trace.specs.Trace.{Trace, bytesFor}
 use Rattle.trace.specs.Refusals.{refusal, _orElse_, tooMany, wrongMap, traceRefusal}
@@ -13,10 +15,11 @@ use Rattle.plan.specs.Plan.{rows}
 use Rattle.plan.specs.Code.Accepted.{Planned}
 use Rattle.plan.proofs.Checks.{taken}
 use Rattle.window.specs.Given.{placesOf, givenRefusal}
-use Rattle.window.specs.Outputs.{Lent, answersIn, countsIn, answersAt, countsAt, shortestOutput}
+use Rattle.window.specs.Outputs.{Column, Lent, answersIn, countsIn, answersAt, countsAt, shortestOutput}
 use Rattle.window.proofs.Outputs.{answered-at, numbered-at}
 use Rattle.rolling.specs.Moments.{kindOf, workWidth}
 use Rattle.rolling.specs.Calls.{Query, GivenTo, yields, tallies, refusalOf, Left}
+use Rattle.weighted.specs.Weights.{weightedAt, CalledWeights}
 use Rattle.moments.specs.HostCall.{decodedOf, shortLists}
 use Rattle.promises.specs.Calls.{AcceptedCall, planCall, hostCall, fixedCall}
 
@@ -53,3 +56,11 @@ known q t l (planCall {l₀ = l₀} c) = known-of q t l₀ l false (c .left) (sy
 known q t l (hostCall {h = h} {r₀ = r₀} {l₀ = l₀} c) =
     known-of q (decodedOf (kindOf (q .statistic)) h) l₀ l (shortLists (kindOf (q .statistic)) h r₀) (c .left) (none-of _ _ (sym (c .number-is)) .1)
 known q t l (fixedCall {l₀ = l₀} c) = known-of q t l₀ l false (c .plan-call .left) (sym (c .plan-call .number-is))
+
+-- a weighted call's lists hold every row's answer
+pub weights-row : (center : Bool) (size minPeriods : ℕ) (weights : List Float) (t : Trace) (c₀ c : Column)
+    → CalledWeights center size minPeriods weights t c₀ c 0 → (k : ℕ) → k < length (t .readings)
+    → answersIn (c ∷ []) k ≡ answersAt (weightedAt center size minPeriods weights (t .readings) ∷ []) k
+weights-row center size minPeriods weights t c₀ c d k h =
+    ap (λ (x : Column). answersIn (x ∷ []) k) (d .column-is)
+    ∙ answered-at (length (t .readings)) k (weightedAt center size minPeriods weights (t .readings) ∷ []) (c₀ ∷ []) h refl

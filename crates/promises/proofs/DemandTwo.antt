@@ -6,17 +6,15 @@ use mathlib.Core.Bool.{Bool, true, false}
 use mathlib.Core.List.{List, [], _∷_}
 use native.Mathlib.Omega.{arith}
 use lib.Dec.{T, lit≤}
-use lib.ListN.{length, drop}
+use lib.ListN.{length}
 use lib.Ieee.{Float, nan, inf, fin, binary64, fits, eq}
 use borrow.Author.Tests.{le-leb}
 use Rattle.float.specs.Operators.{zero64}
 use Rattle.float.proofs.Counts.{zero-is}
-use Rattle.float.proofs.Tables.{table-at}
 use Rattle.root.specs.Root.{root}
 use Rattle.root.proofs.Rounding.{root-is-nearest}
 use Rattle.trace.specs.Trace.{Trace}
 use Rattle.trace.specs.Refusals.{traceRefusal}
-use Rattle.moment.specs.Figure.{doubleOf, byteOf}
 use Rattle.moment.specs.Var.{varClear, varCombine, varFinalize}
 use Rattle.moment.specs.Skew.{skewNew, skewClear, skewCombine, skewBiased, skewFinalize}
 use Rattle.moment.specs.Kurtosis.{kurtosisNew, kurtosisClear, kurtosisCombine}
@@ -29,13 +27,13 @@ use Rattle.plan.specs.Code.Accepted.{Planned}
 use Rattle.plan.proofs.FixedWindows.{bounds-rows}
 use Rattle.window.specs.Window.{Moment}
 use Rattle.window.specs.Given.{Readings, Given, seriesOf, placesOf, givenRefusal}
-use Rattle.window.specs.Outputs.{Column, Lent, Answer, ofFigure, answersIn, answersAt, filled}
+use Rattle.window.specs.Outputs.{Column, Lent, Answer, ofFigure, answersIn, answersAt}
 use Rattle.window.proofs.Outputs.{_then_}
 use Rattle.rolling.specs.Moments.{Statistic, Variance, Skewness, Kurtosis, variance, skewness, kurtosis, kindOf, momentOf, finalsOf}
 use Rattle.rolling.specs.Calls.{Query, GivenTo, figuresBy}
 use Rattle.rolling.specs.Fixed.{fixedQuery, CalledFixed}
 use Rattle.rolling.proofs.Calls.{few-places}
-use Rattle.weighted.specs.Weights.{totalOf, weightedAt, CalledWeights}
+use Rattle.weighted.specs.Weights.{totalOf, CalledWeights}
 use Rattle.weighted.proofs.WeightedRows.{weights-accepted}
 use Rattle.promises.specs.SourceStates.{VarState·clearZeroWeightNan, VarState·insertOne, VarState·combine, VarState·finalize}
 use Rattle.promises.specs.SourceStates.{SkewState·clearZeroWeightNan, SkewState·insertOne, SkewState·combine, SkewState·finalize}
@@ -57,7 +55,7 @@ use Rattle.promises.proofs.SourceRows.{Neutral, plan-row}
 use Rattle.promises.proofs.SourceFixed.{fixed-row}
 use Rattle.promises.proofs.SourceWeights.{weighted-row, weights-many}
 use Rattle.promises.proofs.DemandOne.{taken, var-hands, skew-hands, kurtosis-hands, cov-hands, pearson-hands}
-use Rattle.promises.proofs.Accepted.{known, map-long}
+use Rattle.promises.proofs.Accepted.{known, map-long, weights-row}
 
 zero-zero : eq zero64 zero64 ≡ true
 zero-zero = at-zero zero64 0 (lit≤ tt) zero-is
@@ -219,22 +217,17 @@ fixed rust center size minPeriods a t l₀ l fits c k h =
     plans rust q t l d k (rw (bounds-rows center size (placesOf (kindOf a) t)) h)
     ∙ fixed-sourced rust minPeriods center size fits a t (known q t l d .given-is) k h
 
--- a weighted call's lists hold every row's answer
+-- a weighted call's rows are the source's
 weighted : (rust : Rust) (center : Bool) (size minPeriods : ℕ) (weights : List Float) (t : Trace) (c₀ c : Column)
     → size < 2 ^ 64 → CalledWeights center size minPeriods weights t c₀ c 0 → (k : ℕ) → k < length (t .readings)
     → answersIn (c ∷ []) k ≡ ofFigure (rowOf (rollingVarWeights rust (t .readings) size minPeriods center weights) k) ∷ []
-unfolding filled
 weighted rust center size minPeriods weights t c₀ c fits d k h =
     let n = length (t .readings) in
     let a = weights-accepted size weights t c₀ (d .number-is) {total = totalOf weights} refl in
     let s = weights-many (traceRefusal t) (t .mapped) n size (length weights) (totalOf weights)
     (min (length (c₀ .doubles)) (length (c₀ .bytes))) (d .number-is) in
-    rw (
-      d .column-is,
-      table-at (λ (j : ℕ). doubleOf (weightedAt center size minPeriods weights (t .readings) j)) n k (drop n (c₀ .doubles)) nan h,
-      table-at (λ (j : ℕ). byteOf (weightedAt center size minPeriods weights (t .readings) j)) n k (drop n (c₀ .bytes)) 0 h,
-    )
-    (ap ofFigure (sym (weighted-row rust center size minPeriods weights (t .readings) fits (a .few) (a .some) s k h)) then refl)
+    weights-row center size minPeriods weights t c₀ c d k h
+    ∙ (ap ofFigure (sym (weighted-row rust center size minPeriods weights (t .readings) fits (a .few) (a .some) s k h)) then refl)
 
 -- the root of each sort of double
 correct-root : (x : Float) → T (fits binary64 x) → CorrectRoot x (root x)

@@ -15,14 +15,12 @@ use Rattle.moment.proofs.Pairs.{length-zip}
 use Rattle.moment.specs.Skew.{skewNew}
 use Rattle.moment.specs.Kurtosis.{kurtosisNew}
 use Rattle.moment.specs.Arrays.{answer, varWhole, covWhole, pearsonWhole, skewWhole, kurtosisWhole}
-use Rattle.moment.specs.declared.Figure.{Figure}
 use Rattle.plan.specs.Plan.{rows, rowStart, rowEnd}
 use Rattle.plan.specs.Bounds.{bounds}
 use Rattle.plan.specs.Refusals.{fixedRefusal}
 use Rattle.window.specs.Readings.{readingOf}
 use Rattle.window.specs.Given.{Kind, Readings, Given, placesOf, givenRefusal}
-use Rattle.window.specs.Outputs.{Column, Lent, answered, answersIn, answersAt, shortestOutput}
-use Rattle.window.proofs.Outputs.{answered-at}
+use Rattle.window.specs.Outputs.{Lent, answersAt, shortestOutput}
 use Rattle.rolling.specs.Moments.{Statistic, kindOf, workWidth}
 use Rattle.rolling.specs.Calls.{Query, query, GivenTo, refusalOf, Called}
 use Rattle.rolling.specs.Fixed.{fixedQuery, CalledFixed}
@@ -34,6 +32,7 @@ use Rattle.promises.specs.DemandThree.{Alike, Agree}
 use Rattle.promises.specs.Maps.{LongEnough, SameMaps, padded, SameGiven, SameHost, SameRoom, SameReadingRoom, SameAnswer}
 use Rattle.promises.specs.Maps.{SameColumns, OfTrace, OfPair, MapLaw}
 use Rattle.promises.proofs.SourceArrays.{pairNumber}
+use Rattle.promises.proofs.Accepted.{weights-row}
 use Rattle.promises.proofs.DemandThree.{demand-three}
 use Rattle.promises.proofs.DemandOne.{map-wrong}
 use Rattle.promises.proofs.DemandOne.{Hands, number-of, taken, var-hands, skew-hands, kurtosis-hands, cov-hands, pearson-hands}
@@ -194,10 +193,7 @@ fixed-number windowSize a t t′ s l l′ room =
     rw (given-number (kindOf a) t t′ s, given-alike (kindOf a) t t′ s .long, room .outputs, room .work)
 
 -- ---- weights
-module _ (center : Bool) (windowSize minPeriods : ℕ) (weights : List Float) where
-  abbrev rowsOf : List Float → List (ℕ → Figure)
-  rowsOf values = weightedAt center windowSize minPeriods weights values ∷ []
-
+module _ (windowSize : ℕ) (weights : List Float) where
   abbrev weightsNumber : Trace → ℕ → ℕ
   weightsNumber t outputs =
       weightsRefusal (traceRefusal t) (t .mapped) (length (t .readings)) windowSize (length weights) (totalOf weights) outputs
@@ -205,14 +201,6 @@ module _ (center : Bool) (windowSize minPeriods : ℕ) (weights : List Float) wh
   weights-number : (t t′ : Trace) → SameMaps t t′ → (outputs outputs′ : ℕ) → outputs ≡ outputs′
       → weightsNumber t outputs ≡ weightsNumber t′ outputs′
   weights-number t t′ s outputs outputs′ e = rw (trace-number s, s .mapped, s .readings, e)
-
-  -- a row of a call that is accepted
-  weights-row : (t : Trace) (c₀ c : Column) (r : ℕ) → CalledWeights center windowSize minPeriods weights t c₀ c r → r ≡ 0 → (k : ℕ)
-      → k < length (t .readings) → answersIn (c ∷ []) k ≡ answersAt (rowsOf (t .readings)) k
-  weights-row t c₀ c r call z k h =
-      ap (λ (x : Column). answersIn (x ∷ []) k) (call .column-is)
-      ∙ ap (λ (n : ℕ). answersIn (answered n (length (t .readings)) (rowsOf (t .readings)) (c₀ ∷ [])) k) z
-      ∙ answered-at (length (t .readings)) k (rowsOf (t .readings)) (c₀ ∷ []) h refl
 
 -- ---- the law
 pub map-law : MapLaw
@@ -257,14 +245,16 @@ map-law =
                 (fixedCall {l₀ = l₀′} (subst (λ (n : ℕ). CalledFixed center windowSize minPeriods a t′ l₀′ l′ n) (sym e ∙ z) c′)));
           };
       weights = λ center windowSize minPeriods weights t t′ s c₀ c c₀′ c′ room r r′ d d′.
-          let same = weights-number center windowSize minPeriods weights t t′ s _ _ room in
+          let same = weights-number windowSize weights t t′ s _ _ room in
           let e : r ≡ r′ = d .number-is ∙ same ∙ sym (d′ .number-is) in
           record {
             number = e;
             answer = λ z k h.
-                weights-row center windowSize minPeriods weights t c₀ c r d z k h
-                ∙ ap (λ (xs : List Float). answersAt (rowsOf center windowSize minPeriods weights xs) k) (s .readings)
-                ∙ sym (weights-row center windowSize minPeriods weights t′ c₀′ c′ r′ d′ (sym e ∙ z) k
+                weights-row center windowSize minPeriods weights t c₀ c
+                (subst (λ (n : ℕ). CalledWeights center windowSize minPeriods weights t c₀ c n) z d) k h
+                ∙ ap (λ (xs : List Float). answersAt (weightedAt center windowSize minPeriods weights xs ∷ []) k) (s .readings)
+                ∙ sym (weights-row center windowSize minPeriods weights t′ c₀′ c′
+                (subst (λ (n : ℕ). CalledWeights center windowSize minPeriods weights t′ c₀′ c′ n) (sym e ∙ z) d′) k
                 (subst (λ (xs : List Float). k < length xs) (s .readings) h));
           };
     }

@@ -32,10 +32,6 @@ pub record SameMaps (t t′ : Trace) : Type 0 where
   pub long′ : LongEnough t′
   pub bits : (i : ℕ) → i < length (t .readings) → validAt (t .mapped) (t .map) i ≡ validAt (t′ .mapped) (t′ .map) i
 
--- a trace with more bytes behind its map
-abbrev pub padded : Trace → List ℕ → Trace
-padded t behind = traceOf (t .readings) (t .mapped) (t .map ++ behind)
-
 -- the same, of what a call is given ..
 abbrev pub SameGiven : (kind : Kind) → Given kind → Given kind → Type 0
 SameGiven Readings t t′ = SameMaps t t′
@@ -43,6 +39,10 @@ SameGiven Readings t t′ = SameMaps t t′
 -- .. and of what the host lends
 abbrev pub SameHost : (kind : Kind) → Host kind → Host kind → Type 0
 SameHost Readings h h′ = (h .bytes ≡ h′ .bytes) × SameMaps (decodedOf Readings h) (decodedOf Readings h′)
+
+-- a trace with more bytes behind its map
+abbrev pub padded : Trace → List ℕ → Trace
+padded t behind = traceOf (t .readings) (t .mapped) (t .map ++ behind)
 
 -- ---- lists that are lent: for a number only their lengths count
 -- the shortest list of outputs and the work slice are as long in both calls
