@@ -379,9 +379,9 @@ impl CovMoment {
         until: usize,
     ) -> CovWindow
         requires { ⌜ length (now x) ≡ length (now y) ⌝ }
-        requires { ⌜ CanWork covStored (pairSeries «x_has_map» (now «x_map») (now x) «y_has_map» (now «y_map») (now y)) (length (now x)) rows
-            (now starts) (now ends) (min (length (now figures)) (length (now present))) first until (opening .window) (opening .«agg_back»)
-            (now work) ⌝ }
+        requires { ⌜ CanWork covStored (pairSeries «x_has_map» (now «x_map») (now x) «y_has_map» (now «y_map») (now y)) (length (now x))
+            rows (now starts) (now ends) (min (length (now figures)) (length (now present))) first until (opening .window)
+            (opening .«agg_back») (now work) ⌝ }
         ensures { λ q. ⌜ Works covStored (λ z. covFinalize z (self .ddof)) (pairSeriesIn «x_has_map» «x_map» x «y_has_map» «y_map» y)
             (length (entering x)) rows (entering starts) (entering ends) first until (entering work) (entering figures)
             (entering present) (q .window) (q .«agg_back») (leaving work) (leaving figures) (leaving present) ⌝ }

@@ -82,8 +82,8 @@ fn count_valid(
     valid
 }
 
-// The tally of places that leave a window with so many pairs that are not finite. Without any, no pair is looked at; without a map of either,
-// nothing is.
+// The tally of places that leave a window with so many pairs that are not finite. Without any, no pair is looked at; without a map of
+// either trace, nothing is.
 fn tally_leaving(
     x: &[f64],
     x_has_map: bool,

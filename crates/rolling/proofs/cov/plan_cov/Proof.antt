@@ -26,8 +26,11 @@ returns c =
 rows-requires : tie.Need-rows-requires
 rows-requires c κs =
     let g = c .before .before .before .before .before .before .before .before .before .before .before .before .before .before .before .before .before .args in
-    let t : TracePair = record { x = traceOf (g .x .now) (g .x-has-map) (g .x-map .now); y = traceOf (g .y .now) (g .y-has-map)
-    (g .y-map .now) } in
+    let t : TracePair = record {
+      x = traceOf (g .x .now) (g .x-has-map) (g .x-map .now);
+      y = traceOf (g .y .now) (g .y-has-map)
+          (g .y-map .now);
+    } in
     let e = c .before .before .before .before .before .before .before .pair-refusal .ensures in
     let a = c .before .before .before .before .before .plan-refusal .ensures .accepted (c .before .before .before .if1 .left) in
     (one-length t (sym e ∙ a .given-is), driven _ Pairs t _ _ e (c .before .before .before .before .before .before .shorter .ensures) a)

@@ -39,14 +39,19 @@ slice-aggregate-rows-2 c = search needs
 rows-requires : tie.Need-rows-requires
 rows-requires c κs =
     let g = c .before .before .before .before .before .before .before .before .before .before .before .before .before .before .before .before .before .before .args in
-    let t : TracePair = record { x = traceOf (g .x .now) (g .x-has-map) (g .x-map .now); y = traceOf (g .y .now) (g .y-has-map)
-    (g .y-map .now) } in
+    let t : TracePair = record {
+      x = traceOf (g .x .now) (g .x-has-map) (g .x-map .now);
+      y = traceOf (g .y .now) (g .y-has-map)
+          (g .y-map .now);
+    } in
     let e = c .before .before .before .before .before .before .before .before .before .before .pair-refusal .ensures in
     let a = reach-accepted _ _ _ _ (c .before .before .before .before .before .right-window .ensures .0)
     (c .before .before .before .before .before .before .before .before .fixed-refusal .ensures .accepted
-    (c .before .before .before .before .before .before .if1 .left) _) in
-    (one-length t (sym e ∙ a .given-is), driven _ Pairs t _ _ e
-    (c .before .before .before .before .before .before .before .before .before .shorter .ensures) a)
+    (c .before .before .before .before .before .before .if1 .left) _) in (
+      one-length t (sym e ∙ a .given-is),
+      driven _ Pairs t _ _ e
+          (c .before .before .before .before .before .before .before .before .before .shorter .ensures) a,
+    )
 
 same-length : tie.Need-same-length
 same-length c = search needs

@@ -38,9 +38,13 @@ loop-less c = search needs
 
 loop-again : tie.Need-loop-again Inv-loop μ-loop
 loop-again c =
-    let l = c .before .before .loop in
-    (omega arith, omega arith, omega (arith, bit-le (c .both .result)), rw (l .inv .3) (sym (count-more _ _ _ _ (l .inv .0) _
-    (c .both .ensures))))
+    let l = c .before .before .loop in (
+      omega arith,
+      omega arith,
+      omega (arith, bit-le (c .both .result)),
+      rw (l .inv .3) (sym (count-more _ _ _ _ (l .inv .0) _
+          (c .both .ensures))),
+    )
 
 returns : tie.Need-returns Inv-loop μ-loop
 returns c =

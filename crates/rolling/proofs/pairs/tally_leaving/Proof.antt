@@ -29,7 +29,7 @@ returns-2 c =
     record {
       valid-is = c .count-valid .ensures;
       nonfinite-is = sym (c .before .before .before .before .before .before .before .before .pre .none
-      (c .before .before .before .if1 .taken));
+          (c .before .before .before .if1 .taken));
     }
 
 tally-range-requires : tie.Need-tally-range-requires

@@ -62,9 +62,11 @@ write-requires c κs =
 add-row : tie.Need-add-row Inv-loop μ-loop
 add-row c =
     let h = c .before .before .before .before .before .before .before .before .before .before .before .before .before
-    .before .loop-test .taken in omega
-    (arith, c .before .before .before .before .before .before .before .before .before .before .before .before .before .before
-    .before .before .before .before .before .before .before .before .before .before .before .fits)
+    .before .loop-test .taken in omega (
+      arith,
+      c .before .before .before .before .before .before .before .before .before .before .before .before .before .before
+          .before .before .before .before .before .before .before .before .before .before .before .fits,
+    )
 
 loop-less : tie.Need-loop-less Inv-loop μ-loop
 loop-less c =

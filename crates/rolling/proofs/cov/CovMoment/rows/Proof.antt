@@ -24,9 +24,11 @@ block-requires c κs =
     let g = c .before .before .before .before .before .before .before .before .before .before .before .before .before .before .before .args in
     let p = c .before .before .before .before .before .before .before .before .before .before .before .before .before .before .before .pre in
     let u = c .before .before .before .how-many .ensures
-    ∙ many-rows (g .rows) (length (g .x .now)) (g .starts .now) (g .ends .now) in
-    (p .0, rows-can covStored _ _ _ _ _ (p .1) (c .before .before .before .before .before .empty-at .ensures)
-    (c .before .before .before .before .empty .ensures) u)
+    ∙ many-rows (g .rows) (length (g .x .now)) (g .starts .now) (g .ends .now) in (
+      p .0,
+      rows-can covStored _ _ _ _ _ (p .1) (c .before .before .before .before .before .empty-at .ensures)
+          (c .before .before .before .before .empty .ensures) u,
+    )
 
 same-length : tie.Need-same-length
 same-length c = search needs
