@@ -23,7 +23,7 @@ use Rattle.rolling.specs.Fixed.{fixedQuery, CalledFixed}
 use Rattle.rolling.specs.Code.Rows.{planBy, Driven}
 use Rattle.rolling.specs.declared.row.Rows.{Rows}
 
-neither : (a b : Bool) → (a || b) ≡ false → (a ≡ false) × (b ≡ false)
+pub neither : (a b : Bool) → (a || b) ≡ false → (a ≡ false) × (b ≡ false)
 neither true b e = absurd (true≢false e)
 neither false b e = (refl, e)
 
