@@ -1,9 +1,7 @@
 // Pairs of readings: which enter as they are, and the places of two traces that leave a window, tallied as `leaving` does it for one.
 ghost use mathlib.Core.Path.{_≡_};
-ghost use Prim.Native.Nat.{_≤_, _<_};
+ghost use Prim.Native.Nat.{_<_};
 ghost use Rattle.trace.specs.Slices.{entering};
-ghost use Rattle.trace.specs.Trace.{bothAt};
-ghost use Rattle.window.specs.Places.{chosenCount};
 ghost use Rattle.window.specs.Pairs.{finitePair, nonfinitePair, pairPlaces};
 ghost use Rattle.window.specs.Code.Stacks.{Tallied};
 ghost use Rattle.rolling.specs.Code.Rows.{Range, LeavingRange, Below, TalliesBelow, bothHave, pairPlacesIn};
@@ -62,28 +60,8 @@ fn tally_range(
     Tally { valid, nonfinite }
 }
 
-fn count_valid(
-    x_has_map: bool,
-    x_map: &[u8],
-    y_has_map: bool,
-    y_map: &[u8],
-    a: usize,
-    b: usize,
-) -> usize
-    requires { ⌜ a ≤ b ⌝ }
-    ensures { λ r. ⌜ r ≡ chosenCount (bothAt «x_has_map» (entering «x_map») «y_has_map» (entering «y_map»)) a b ⌝ }
-{
-    let mut valid: usize = 0;
-    let mut i = a;
-    while i < b {
-        valid += trace::both(x_has_map, x_map, y_has_map, y_map, i) as usize;
-        i += 1;
-    }
-    valid
-}
-
-// The tally of places that leave a window with so many pairs that are not finite. Without any, no pair is looked at; without a map of
-// either trace, nothing is.
+// The tally of places that leave a window with so many pairs that are not finite. Without any, and without a map of either trace, nothing
+// is looked at. One loop serves every other case: with a second one this is no longer inlined in the row loops.
 fn tally_leaving(
     x: &[f64],
     x_has_map: bool,
@@ -106,10 +84,6 @@ fn tally_leaving(
                 nonfinite: 0,
             };
         }
-        return Tally {
-            valid: count_valid(x_has_map, x_map, y_has_map, y_map, a, b),
-            nonfinite: 0,
-        };
     }
     tally_range(x, x_has_map, x_map, y, y_has_map, y_map, a, b)
 }
