@@ -8,15 +8,17 @@ ghost use lib.ListN.{length};
 ghost use Rattle.trace.specs.Slices.{entering, leaving};
 ghost use Rattle.moment.specs.Cov.{covEmpty, covNew, covCombine, covFinalize};
 ghost use Rattle.window.specs.Window.{orNan};
-ghost use Rattle.window.specs.Pairs.{pairing, pairSeries};
-ghost use Rattle.window.specs.Code.Stacks.{answerBy, topOf, Flippable, Flipped, Appendable, Appended};
+ghost use Rattle.window.specs.Pairs.{pairing, pairPlaces, pairSeries};
+ghost use Rattle.window.specs.Code.Stacks.{answerBy, topOf, Flippable, Flipped, Appendable, Appended, Tallied};
 ghost use Rattle.window.specs.Code.Stacks.{Trimmable, Trimmed, Extendable, Extended, Movable, Updated, Stepped};
 ghost use Rattle.rolling.specs.Moments.{Covariance};
 ghost use Rattle.rolling.specs.Calls.{querying, lending, Calls};
 ghost use Rattle.rolling.specs.Fixed.{CallsFixed};
 ghost use Rattle.rolling.specs.Code.Layouts.{covStored};
-ghost use Rattle.rolling.specs.Code.Rows.{bothHave, pairSeriesIn, drivenQuery, Leaves, Driven, CanWork, Works, Answerable};
+ghost use Rattle.rolling.specs.Code.Rows.{Range, LeavingRange, Below, TalliesBelow, bothHave, pairPlacesIn, pairSeriesIn};
+ghost use Rattle.rolling.specs.Code.Rows.{drivenQuery, Leaves, Driven, CanWork, Works, Answerable};
 use crate::leaving;
+use crate::leaving::Tally;
 use crate::pairs;
 use crate::row;
 use crate::row::Rows;
@@ -149,6 +151,93 @@ impl CovMoment {
         }
     }
 
+    // The tally of the places from a up to b. It holds a loop, so each moment has its own: shared, it stays a call in the row loop.
+    fn tally_range(
+        x: &[f64],
+        x_has_map: bool,
+        x_map: &[u8],
+        y: &[f64],
+        y_has_map: bool,
+        y_map: &[u8],
+        a: usize,
+        b: usize,
+    ) -> Tally
+        requires { ⌜ Range a b (bothHave (now x) (now y)) ⌝ }
+        ensures { λ r. ⌜ Tallied (pairPlacesIn «x_has_map» «x_map» x «y_has_map» «y_map» y) a b (r .valid) (r .nonfinite) ⌝ }
+    {
+        let mut valid: usize = 0;
+        let mut nonfinite: usize = 0;
+        let mut i = a;
+        while i < b {
+            valid += trace::both(x_has_map, x_map, y_has_map, y_map, i) as usize;
+            nonfinite += pairs::is_nonfinite(x, x_has_map, x_map, y, y_has_map, y_map, i) as usize;
+            i += 1;
+        }
+        Tally { valid, nonfinite }
+    }
+
+    // The tally of places that leave a window with so many pairs that are not finite. Without any, and without a map of either trace,
+    // nothing is looked at.
+    fn tally_leaving(
+        x: &[f64],
+        x_has_map: bool,
+        x_map: &[u8],
+        y: &[f64],
+        y_has_map: bool,
+        y_map: &[u8],
+        a: usize,
+        b: usize,
+        nonfinite: usize,
+    ) -> Tally
+        requires { ⌜ LeavingRange (pairPlaces «x_has_map» (now «x_map») (now x) «y_has_map» (now «y_map») (now y))
+            a b (bothHave (now x) (now y)) nonfinite ⌝ }
+        ensures { λ r. ⌜ Tallied (pairPlacesIn «x_has_map» «x_map» x «y_has_map» «y_map» y) a b (r .valid) (r .nonfinite) ⌝ }
+    {
+        if nonfinite == 0 {
+            if !trace::either(x_has_map, y_has_map) {
+                return Tally {
+                    valid: b - a,
+                    nonfinite: 0,
+                };
+            }
+        }
+        CovMoment::tally_range(x, x_has_map, x_map, y, y_has_map, y_map, a, b)
+    }
+
+    // The tally of the places below `start` that leave w. Nothing is counted of a window that ends there or before: it starts anew.
+    fn tally_below(
+        x: &[f64],
+        x_has_map: bool,
+        x_map: &[u8],
+        y: &[f64],
+        y_has_map: bool,
+        y_map: &[u8],
+        w: Window,
+        start: usize,
+    ) -> Tally
+        requires { ⌜ Below (pairPlaces «x_has_map» (now «x_map») (now x) «y_has_map» (now «y_map») (now y))
+            start (bothHave (now x) (now y)) w ⌝ }
+        ensures { λ r. ⌜ TalliesBelow (pairPlacesIn «x_has_map» «x_map» x «y_has_map» «y_map» y) w start (r .valid) (r .nonfinite) ⌝ }
+    {
+        if w.end <= start {
+            return Tally {
+                valid: 0,
+                nonfinite: 0,
+            };
+        }
+        CovMoment::tally_leaving(
+            x,
+            x_has_map,
+            x_map,
+            y,
+            y_has_map,
+            y_map,
+            w.start,
+            start,
+            w.nonfinite,
+        )
+    }
+
     // The window without the places below `start`.
     fn trim(
         work: &mut [f64],
@@ -169,7 +258,16 @@ impl CovMoment {
     {
         let window = w.window;
         let agg_back = w.agg_back;
-        let leaving = pairs::tally_below(x, x_has_map, x_map, y, y_has_map, y_map, window, start);
+        let leaving = CovMoment::tally_below(
+            x,
+            x_has_map,
+            x_map,
+            y,
+            y_has_map,
+            y_map,
+            window,
+            start,
+        );
         let trim = leaving::trimmed(window, start, leaving);
         let kept = trim.window;
         if trim.flips {

@@ -4,8 +4,8 @@ use borrow.Author.Tests.{not-true}
 use Rattle.window.proofs.Places.{count-all}
 use Rattle.window.proofs.Pairs.{unmapped-both}
 use borrow.Author.Needs.{needs}
-use Rattle.rolling.proofs.pairs.tally_leaving.Statement.{statement}
-use Rattle.rolling.proofs.pairs.tally_leaving.Tie as tie
+use Rattle.rolling.proofs.pearson.PearsonMoment.tally_leaving.Statement.{statement}
+use Rattle.rolling.proofs.pearson.PearsonMoment.tally_leaving.Tie as tie
 
 either-requires : tie.Need-either-requires
 either-requires c κs = search needs

@@ -8,8 +8,8 @@ use Rattle.window.specs.Pairs.{pairPlaces, nonfinitePair}
 use Rattle.window.proofs.Places.{entries-self, count-le, count-more}
 use Rattle.rolling.proofs.Rolling.{bit-le}
 use borrow.Author.Needs.{needs}
-use Rattle.rolling.proofs.pairs.tally_range.Statement.{statement}
-use Rattle.rolling.proofs.pairs.tally_range.Tie as tie
+use Rattle.rolling.proofs.cov.CovMoment.tally_range.Statement.{statement}
+use Rattle.rolling.proofs.cov.CovMoment.tally_range.Tie as tie
 
 abbrev Inv-loop : tie.InvT-loop
 Inv-loop x x-has-map x-map y y-has-map y-map a b valid₀ nonfinite₀ i₀ valid nonfinite i =

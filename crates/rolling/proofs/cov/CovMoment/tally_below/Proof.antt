@@ -1,8 +1,8 @@
 -- A window that starts anew has nothing to count; else by the range that leaves. Assumes nothing.
 use native.Mathlib.Omega.{arith}
 use Rattle.window.proofs.Moves.{trim-none}
-use Rattle.rolling.proofs.pairs.tally_below.Statement.{statement}
-use Rattle.rolling.proofs.pairs.tally_below.Tie as tie
+use Rattle.rolling.proofs.cov.CovMoment.tally_below.Statement.{statement}
+use Rattle.rolling.proofs.cov.CovMoment.tally_below.Tie as tie
 
 returns : tie.Need-returns
 returns c = λ h. absurd (omega (arith, h, c .if1 .taken))
