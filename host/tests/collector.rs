@@ -113,6 +113,21 @@ fn the_example_s_tables() {
     }
 }
 
+/// Every line of the README's tables is one that the program prints.
+#[test]
+fn the_readme_s_tables() {
+    let readme = fs::read_to_string(host().join("../README.md")).expect("the README").replace("host/examples/", "examples/");
+    let printed = ["weeks.txt", "fan_weeks.txt"].map(expected);
+    for (heading, table) in ["  valid   variance\n", "  valid  correlation\n"].iter().zip(printed) {
+        let block = readme.split("```").find(|block| block.starts_with("text\n") && block.contains(heading)).expect("a table");
+        let lines =
+            block.lines().skip(1).filter(|line| !line.starts_with("..") && !line.starts_with("$ ") && !line.starts_with("    "));
+        let lines: Vec<&str> = lines.collect();
+        assert!(lines.len() > 4);
+        lines.iter().for_each(|line| assert!(table.lines().any(|printed| printed == *line), "{line}"));
+    }
+}
+
 #[test]
 fn the_example_s_pictures() {
     let folder = Folder::new();
