@@ -23,6 +23,9 @@ const MISSING_FIGURE: &str = "#8c8c8c";
 const NOT_FINITE: &str = "#d01c1c";
 /// The first trace and the second.
 const TRACES: [&str; 2] = ["#1f5f99", "#2f9e6e"];
+/// Widths of lines. Of two traces the first is the wide one: where they lie on one another, it shows beside the second.
+const THIN: f64 = 1.3;
+const WIDE: f64 = 2.6;
 const FIGURE: &str = "#b4500f";
 /// Between a bar and 0.
 pub const BELOW: &str = "#f8e6d8";
@@ -59,6 +62,7 @@ struct Picture<'a> {
     /// What occurs, for the key.
     key: Vec<(Swatch, &'static str, String)>,
 }
+#[derive(Clone, Copy)]
 enum Swatch {
     Line,
     Band,
@@ -104,8 +108,8 @@ impl<'a> Picture<'a> {
     fn line(&mut self, (x1, y1): (f64, f64), (x2, y2): (f64, f64), stroke: &str) {
         self.push(format_args!("<line x1=\"{x1:.1}\" y1=\"{y1:.1}\" x2=\"{x2:.1}\" y2=\"{y2:.1}\" stroke=\"{stroke}\"/>"));
     }
-    fn drawn(&mut self, drawn: &Drawn, stroke: &str) {
-        for (path, width) in [(&drawn.line, 1.3), (&drawn.dots, 4.0)] {
+    fn drawn(&mut self, drawn: &Drawn, stroke: &str, width: f64) {
+        for (path, width) in [(&drawn.line, width), (&drawn.dots, width + 2.7)] {
             if !path.is_empty() {
                 self.push(format_args!(
                     "<path d=\"{path}\" fill=\"none\" stroke=\"{stroke}\" stroke-width=\"{width}\" stroke-linecap=\"round\" \
@@ -152,7 +156,7 @@ impl<'a> Picture<'a> {
         if report.traces.second.is_some() {
             let mut x = LEFT + 110.0;
             for (trace, color) in report.traces.all().zip(TRACES) {
-                x = self.swatch((x, self.trace.top - 12.5), (&Swatch::Line, color, &file_name(&trace.file)));
+                x = self.swatch((x, self.trace.top - 12.5), (Swatch::Line, color, &file_name(&trace.file)));
             }
         }
     }
@@ -215,13 +219,15 @@ impl<'a> Picture<'a> {
         for span in &not_finite {
             self.rect(*span, (top, bottom), "#fbdcdc");
         }
-        drawn.iter().zip(TRACES).for_each(|(drawn, color)| self.drawn(drawn, color));
+        let pair = traces.second.is_some();
+        let widths = [if pair { WIDE } else { THIN }, THIN];
+        drawn.iter().zip(TRACES).zip(widths).for_each(|((drawn, color), width)| self.drawn(drawn, color, width));
         for (from, to) in &not_finite {
             let half = ((to - from) / 2.0).max(1.0);
             let middle = (from + to) / 2.0;
             self.rect((middle - half, middle + half), (top, top + 9.0), NOT_FINITE);
         }
-        let (pair, unit) = (traces.second.is_some(), self.report.options.unit());
+        let unit = self.report.options.unit();
         // Two traces have their key beside the panel's title.
         self.in_key(!pair && drawn.iter().any(Drawn::is_any), Swatch::Line, TRACES[0], unit);
         self.in_key(!missing.is_empty(), Swatch::Band, MISSING, &format!("{unit} missing"));
@@ -242,7 +248,7 @@ impl<'a> Picture<'a> {
         } else {
             let points = self.points().map(|(x, figure)| (x, figure.filter(|x| x.is_finite()).map(|x| self.figure.y(x))));
             let drawn = Drawn::new(points, self.report.len() <= MOST_DOTS);
-            self.drawn(&drawn, FIGURE);
+            self.drawn(&drawn, FIGURE, THIN);
             let at = match self.report.rows {
                 Rows::Fixed(window) if !window.center => "figure, at its window's last place",
                 _ => "figure, at its window's middle",
@@ -302,11 +308,11 @@ impl<'a> Picture<'a> {
     fn keys(&mut self) {
         let (mut x, y) = (LEFT, HEIGHT - 22.0);
         for (swatch, color, text) in std::mem::take(&mut self.key) {
-            x = self.swatch((x, y), (&swatch, color, &text));
+            x = self.swatch((x, y), (swatch, color, &text));
         }
     }
     /// A sign and what it means. It gives where the next one stands.
-    fn swatch(&mut self, (x, y): (f64, f64), (swatch, color, text): (&Swatch, &str, &str)) -> f64 {
+    fn swatch(&mut self, (x, y): (f64, f64), (swatch, color, text): (Swatch, &str, &str)) -> f64 {
         let width = match swatch {
             Swatch::Line => 24.0,
             Swatch::Band => 14.0,

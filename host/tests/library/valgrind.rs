@@ -1,4 +1,5 @@
-//! The tests on stored answers, refusals, maps and pairs once more under valgrind, where it is on the PATH, and the collector on its example.
+//! The tests on stored answers, refusals, maps and pairs once more under valgrind, where it is on the PATH, and the collector on its
+//! examples.
 use std::path::Path;
 use std::process::Command;
 
