@@ -1,5 +1,6 @@
 //! Figures of two traces that are worked out by hand, by document 02's account, to the bit: which places are pairs, which rule the rows go
 //! by, what is missing, what is NaN, and in which order pairs go into a state.
+use crate::lists::{bits, bytes_of, Lengths};
 use moments::*;
 
 const NAN: u64 = 0x7FF8_0000_0000_0000;
@@ -129,6 +130,30 @@ fn a_pair_with_a_member_that_is_not_finite() {
     // where the other trace lacks the place there is no pair
     let hidden = asked.maps(Some(&[0b11011]), Some(&[0b11101]));
     assert_eq!(hidden.figures(Setting::cov(0)), [Some(0.0), Some(0.0), None, Some(0.0), Some(-4.0 / 2.0)]);
+}
+
+/// Both traces are decoded, a missing figure is +0.0 whatever its place held, and nothing else is written.
+#[test]
+fn lists_hold_readings_figures_and_present_bytes() {
+    let (x, y) = ([2.0, f64::from_bits(0xFFF0_0000_0000_0001), -0.0, 6.0], [1.0, 3.0, f64::NEG_INFINITY, 4.0]);
+    let (rows, missing) = (Plan::new(&[0, 0, 1, 3], &[0, 1, 3, 4]), Some(&[0b0111][..]));
+    let [x_bytes, y_bytes] = [bytes_of(&x), bytes_of(&y)];
+    let decoded = [bits(&x[..1]), vec![NAN], bits(&x[2..]), bits(&y)].concat();
+    for (setting, one_pair) in [(Setting::cov(0).min_periods(0), 0), (Setting::pearson_corr().min_periods(0), NAN)] {
+        let lent = Lengths { readings: [4; 2], work: setting.work(2), figures: 4, present: 4 };
+        let held = lent.run(([4; 2], setting.work(2), 4), |[x_readings, y_readings], lists| {
+            let x = Encoded { bytes: &x_bytes, readings: x_readings, map: None };
+            let y = Encoded { bytes: &y_bytes, readings: y_readings, map: missing };
+            plan_pair_into(x, y, rows, setting, lists)
+        });
+        let answers = vec![0, one_pair, NAN, 0, 0, 1, 1, 0];
+        assert_eq!(held, Ok([decoded.clone(), answers].concat()));
+        let lent = Lengths { readings: [0; 2], ..lent };
+        let held = lent.run(([0; 2], setting.work(2), 4), |_, lists| {
+            rolling_pair_into(&x, None, &y, Some(&[0b1000]), Window::trailing(2), setting, lists)
+        });
+        assert_eq!(held, Ok(vec![0, 0, 0, one_pair, 0, 0, 0, 1]));
+    }
 }
 
 #[test]
