@@ -11,7 +11,10 @@ A fan mixes the air, so that both move together. It fails in week 12 and is mend
 the top shelf gets warm and goes its own way. All of it is whole numbers, as in make_year.py.
 """
 import datetime
+import sys
 
+# What is taken from the script beside this one leaves no compiled copy in the folder.
+sys.dont_write_bytecode = True
 from make_year import noise, trace, wave, weeks, write
 
 HOURS = 20 * 168

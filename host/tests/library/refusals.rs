@@ -59,7 +59,7 @@ impl PlanCall {
         Ok(())
     }
 }
-/// A list of readings that is too short, and one of so many figures or present bytes.
+/// A list that is too short.
 fn short(list: List, length: usize, needed: usize) -> Refusal {
     Refusal::ListTooShort { list, length, needed }
 }
