@@ -68,37 +68,41 @@ GAPS = [
     (hour(9, 8, 0), 30, ""),
     (hour(12, 24, 17), 40, "NA"),
 ]
-DEAD = (hour(11, 4, 10), 50)
+DEAD = {hour(11, 4, 10) + since: {3: "inf", 17: "-inf", 18: "inf"}.get(since, "nan") for since in range(50)}
 
 
-def field(place, hundredths, draw):
+def field(place, hundredths, lost, gaps, dead):
     """A temperature as it is written, or why there is none."""
-    for start, length, text in GAPS:
+    for start, length, text in gaps:
         if start <= place < start + length:
             return text
-    start, length = DEAD
-    if start <= place < start + length:
-        return {3: "inf", 17: "-inf", 18: "inf"}.get(place - start, "nan")
+    if place in dead:
+        return dead[place]
     # Now and then a logger loses an hour.
-    lost = next(draw)
+    lost = next(lost)
     if lost < 150:
         return "" if lost % 2 else "NA"
     sign, size = ("-" if hundredths < 0 else ""), abs(hundredths)
     return f"{sign}{size // 100}.{size % 100:02d}"
 
 
-def year():
-    draw, lost = noise(2025), noise(7)
+def trace(start, temperatures, lost, gaps, dead):
+    """The lines of a trace, hour by hour."""
     yield "time,temperature"
-    for place in range(HOURS):
-        time = START + datetime.timedelta(hours=place)
-        yield f"{time:%Y-%m-%dT%H:%M},{field(place, temperature(place, draw), lost)}"
+    for place, hundredths in enumerate(temperatures):
+        time = start + datetime.timedelta(hours=place)
+        yield f"{time:%Y-%m-%dT%H:%M},{field(place, hundredths, lost, gaps, dead)}"
 
 
-def weeks():
+def year():
+    draw = noise(2025)
+    return trace(START, (temperature(place, draw) for place in range(HOURS)), noise(7), GAPS, DEAD)
+
+
+def weeks(hours):
     yield "label,start,end"
-    for number, start in enumerate(range(0, HOURS, 168), 1):
-        yield f"week {number},{start},{min(start + 168, HOURS)}"
+    for number, start in enumerate(range(0, hours, 168), 1):
+        yield f"week {number},{start},{min(start + 168, hours)}"
 
 
 def quarters():
@@ -109,12 +113,13 @@ def quarters():
     yield f"the whole year,0,{HOURS}"
 
 
-def main():
+def write(files):
+    """Each file's lines, to the folder that is named or that of this script."""
     folder = sys.argv[1] if len(sys.argv) > 1 else os.path.dirname(os.path.abspath(__file__))
-    for name, lines in (("year.csv", year()), ("weeks.csv", weeks()), ("quarters_refused.csv", quarters())):
+    for name, lines in files.items():
         with open(os.path.join(folder, name), "w", encoding="ascii", newline="\n") as file:
             file.writelines(line + "\n" for line in lines)
 
 
 if __name__ == "__main__":
-    main()
+    write({"year.csv": year(), "weeks.csv": weeks(HOURS), "quarters_refused.csv": quarters()})

@@ -8,7 +8,7 @@
 //!
 //! An entry here that is unsafe takes pointers. Each must be aligned and not null, and as many places behind it as its length says must be
 //! readable, of a `*mut` list writable too and in no other list of the call. That is all: the entries have no other precondition.
-//! Where `has_map` is false the map is not looked at.
+//! Where `has_map` (`x_has_map`, `y_has_map`) is false, that map is not looked at.
 use crate::{CovState, KurtosisState, PearsonState, SkewState, VarState};
 
 /// An entry that makes a state of a trace: the trace, whether there is a map, the map, the state.
@@ -99,6 +99,63 @@ unsafe extern "C" {
         present: *mut u8,
         present_len: usize,
     ) -> u32;
+    /// Covariance of a plan's windows over two traces.
+    pub fn moments_plan_cov(
+        x: *const u8,
+        x_len: usize,
+        x_readings: *mut f64,
+        x_readings_len: usize,
+        x_has_map: bool,
+        x_map: *const u8,
+        x_map_len: usize,
+        y: *const u8,
+        y_len: usize,
+        y_readings: *mut f64,
+        y_readings_len: usize,
+        y_has_map: bool,
+        y_map: *const u8,
+        y_map_len: usize,
+        starts: *const u32,
+        starts_len: usize,
+        ends: *const u32,
+        ends_len: usize,
+        min_periods: usize,
+        ddof: u8,
+        work: *mut f64,
+        work_len: usize,
+        figures: *mut f64,
+        figures_len: usize,
+        present: *mut u8,
+        present_len: usize,
+    ) -> u32;
+    /// Correlation of a plan's windows over two traces.
+    pub fn moments_plan_pearson_corr(
+        x: *const u8,
+        x_len: usize,
+        x_readings: *mut f64,
+        x_readings_len: usize,
+        x_has_map: bool,
+        x_map: *const u8,
+        x_map_len: usize,
+        y: *const u8,
+        y_len: usize,
+        y_readings: *mut f64,
+        y_readings_len: usize,
+        y_has_map: bool,
+        y_map: *const u8,
+        y_map_len: usize,
+        starts: *const u32,
+        starts_len: usize,
+        ends: *const u32,
+        ends_len: usize,
+        min_periods: usize,
+        work: *mut f64,
+        work_len: usize,
+        figures: *mut f64,
+        figures_len: usize,
+        present: *mut u8,
+        present_len: usize,
+    ) -> u32;
 
     /// Variance of fixed windows.
     pub fn moments_rolling_var(
@@ -148,6 +205,51 @@ unsafe extern "C" {
         center: bool,
         fisher: bool,
         bias: bool,
+        work: *mut f64,
+        work_len: usize,
+        figures: *mut f64,
+        figures_len: usize,
+        present: *mut u8,
+        present_len: usize,
+    ) -> u32;
+    /// Covariance of fixed windows over two traces.
+    pub fn moments_rolling_cov(
+        x: *const f64,
+        x_len: usize,
+        x_has_map: bool,
+        x_map: *const u8,
+        x_map_len: usize,
+        y: *const f64,
+        y_len: usize,
+        y_has_map: bool,
+        y_map: *const u8,
+        y_map_len: usize,
+        window_size: usize,
+        min_periods: usize,
+        center: bool,
+        ddof: u8,
+        work: *mut f64,
+        work_len: usize,
+        figures: *mut f64,
+        figures_len: usize,
+        present: *mut u8,
+        present_len: usize,
+    ) -> u32;
+    /// Correlation of fixed windows over two traces.
+    pub fn moments_rolling_pearson_corr(
+        x: *const f64,
+        x_len: usize,
+        x_has_map: bool,
+        x_map: *const u8,
+        x_map_len: usize,
+        y: *const f64,
+        y_len: usize,
+        y_has_map: bool,
+        y_map: *const u8,
+        y_map_len: usize,
+        window_size: usize,
+        min_periods: usize,
+        center: bool,
         work: *mut f64,
         work_len: usize,
         figures: *mut f64,

@@ -92,6 +92,9 @@ const VALID: usize = 6;
 const FIGURE: usize = 7;
 const MARK: usize = 8;
 
+/// The two traces of the other example.
+const FAN: [&str; 2] = ["examples/floor.csv", "examples/top_shelf.csv"];
+
 #[test]
 fn the_example_s_tables() {
     for (args, file) in [
@@ -101,10 +104,27 @@ fn the_example_s_tables() {
             &["examples/year.csv", "--plan", "examples/weeks.csv", "--figure", "kurtosis", "--unbiased", "--minimum", "130"],
             "weeks_kurtosis.txt",
         ),
+        (&[FAN[0], FAN[1], "--figure", "correlation", "--plan", "examples/fan_weeks.csv"], "fan_weeks.txt"),
+        (&[FAN[0], FAN[1], "--figure", "covariance", "--plan", "examples/fan_weeks.csv", "--csv"], "fan_weeks.csv"),
     ] {
         let output = run_in(host(), args, b"");
         assert_eq!((output.status.code(), said(&output)), (Some(0), String::new()));
         assert_eq!(String::from_utf8_lossy(&output.stdout), expected(file), "{file}");
+    }
+}
+
+/// Every line of the README's tables is one that the program prints.
+#[test]
+fn the_readme_s_tables() {
+    let readme = fs::read_to_string(host().join("../README.md")).expect("the README").replace("host/examples/", "examples/");
+    let printed = ["weeks.txt", "fan_weeks.txt"].map(expected);
+    for (heading, table) in ["  valid   variance\n", "  valid  correlation\n"].iter().zip(printed) {
+        let block = readme.split("```").find(|block| block.starts_with("text\n") && block.contains(heading)).expect("a table");
+        let lines =
+            block.lines().skip(1).filter(|line| !line.starts_with("..") && !line.starts_with("$ ") && !line.starts_with("    "));
+        let lines: Vec<&str> = lines.collect();
+        assert!(lines.len() > 4);
+        lines.iter().for_each(|line| assert!(table.lines().any(|printed| printed == *line), "{line}"));
     }
 }
 
@@ -131,14 +151,48 @@ fn the_example_s_pictures() {
 }
 
 #[test]
-fn the_example_is_what_its_script_writes() {
+fn the_pictures_of_two_traces() {
     let folder = Folder::new();
-    let made = Command::new("python3").arg("-B").arg(host().join("examples/make_year.py")).arg(&folder.0).status();
-    assert!(made.expect("python3").success());
-    let names: Vec<String> = folder.holds().into_iter().map(|(name, _)| name).collect();
-    assert_eq!(names, ["quarters_refused.csv", "weeks.csv", "year.csv"]);
-    for (name, bytes) in folder.holds() {
-        assert!(bytes == fs::read(host().join("examples").join(&name)).expect("an example"), "{name} differs");
+    let svg = folder.0.join("out.svg");
+    let settings: [(&[&str], &[&str]); 3] = [
+        (
+            &["--figure", "correlation", "--plan", "examples/fan_weeks.csv"],
+            &["Correlation, minimum 1", ">-1.0<", ">1.0<", "fan_weeks.csv: 20 rows"],
+        ),
+        (&["--figure", "correlation", "--window", "168"], &["trailing, of 168 places", ">-1.0<", ">1.0<"]),
+        (
+            &["--figure", "covariance", "--window", "24", "--centered"],
+            &["Covariance, ddof 1, minimum 1", "centred, of 24 places"],
+        ),
+    ];
+    for (settings, texts) in settings {
+        let args = [&FAN[..], &["--svg", svg.to_str().expect("a name"), "--csv"], settings].concat();
+        assert_eq!(run_in(host(), &args, b"").status.code(), Some(0));
+        let picture = fs::read_to_string(&svg).expect("a picture");
+        assert_eq!(xml::wrong_with(&picture), None);
+        let both = [">floor.csv<", ">top_shelf.csv<", "3360 pairs, 252 missing, 9 not finite", "pair missing", "pair not finite"];
+        let figures = ["figure missing", "figure not finite", "2025-03-03", ">3000<"];
+        let texts = texts.iter().chain(&both).chain(&figures);
+        texts.for_each(|text| assert!(picture.contains(text), "{settings:?} lacks {text}"));
+        assert!(picture.len() < 200_000, "{} bytes", picture.len());
+    }
+}
+
+#[test]
+fn the_examples_are_what_their_scripts_write() {
+    let scripts = [
+        ("make_year.py", ["quarters_refused.csv", "weeks.csv", "year.csv"]),
+        ("make_fan.py", ["fan_weeks.csv", "floor.csv", "top_shelf.csv"]),
+    ];
+    for (script, files) in scripts {
+        let folder = Folder::new();
+        let made = Command::new("python3").arg("-B").arg(host().join("examples").join(script)).arg(&folder.0).status();
+        assert!(made.expect("python3").success());
+        let names: Vec<String> = folder.holds().into_iter().map(|(name, _)| name).collect();
+        assert_eq!(names, files);
+        for (name, bytes) in folder.holds() {
+            assert!(bytes == fs::read(host().join("examples").join(&name)).expect("an example"), "{name} differs");
+        }
     }
 }
 
@@ -149,12 +203,18 @@ fn the_example_of_a_refused_plan() {
     assert_eq!((output.status.code(), said(&output).as_str(), output.stdout.len()), (Some(2), message, 0));
 }
 
+/// A trace of the examples, its text and what it holds.
+fn example(name: &str) -> (String, Vec<f64>, Option<Vec<u8>>) {
+    let text = fs::read_to_string(host().join(name)).expect("the example");
+    let readings = text.lines().skip(1).map(|line| line.split_once(',').expect("two fields").1);
+    let (trace, map) = moments::trace_of(readings.map(|field| field.parse().ok()));
+    (text, trace, map)
+}
+
 /// Figures, bounds and counts of fixed windows are those of the library.
 #[test]
 fn fixed_windows_agree_with_the_library() {
-    let text = fs::read_to_string(host().join("examples/year.csv")).expect("the example");
-    let readings = text.lines().skip(1).map(|line| line.split_once(',').expect("two fields").1);
-    let (trace, map) = moments::trace_of(readings.map(|field| field.parse().ok()));
+    let (text, trace, map) = example("examples/year.csv");
     let setting = moments::Setting::skew(true).min_periods(5);
     for (window, args) in [
         (moments::Window::trailing(30), &["--window", "30"][..]),
@@ -177,6 +237,90 @@ fn fixed_windows_agree_with_the_library() {
         let by_plan = folder.table("t.csv --plan p.csv --csv --figure skewness --minimum 5");
         assert_eq!(column(&by_plan, FIGURE), column(&csv, FIGURE));
     }
+}
+
+/// The figures of two traces and their counts of pairs are those of the library.
+#[test]
+fn figures_of_two_traces_agree_with_the_library() {
+    let [(_, x, x_map), (_, y, y_map)] = FAN.map(example);
+    let (x_map, y_map) = (x_map.as_deref(), y_map.as_deref());
+    let csv = |args: &[&str]| {
+        let args = [&FAN[..], &["--csv"], args].concat();
+        String::from_utf8(run_in(host(), &args, b"").stdout).expect("UTF-8")
+    };
+    let shown = |answers: Result<Vec<Option<f64>>, moments::Refusal>| -> Vec<String> {
+        let answers = answers.expect("figures").into_iter();
+        answers.map(|answer| answer.map_or("-".to_string(), |figure| format!("{figure:?}"))).collect()
+    };
+    let (window, corr, cov) = (moments::Window::centered(31), moments::Setting::pearson_corr(), moments::Setting::cov(0));
+    let fixed = csv(&["--window", "31", "--centered", "--figure", "correlation", "--minimum", "5"]);
+    let wanted = moments::rolling_pair(&x, x_map, &y, y_map, window, corr.min_periods(5));
+    assert_eq!(column(&fixed, FIGURE), shown(wanted));
+    for row in rows(&fixed) {
+        let [start, end, valid] = [2, 3, VALID].map(|at| row[at].parse::<usize>().expect("a number"));
+        let pair = |place: &usize| moments::is_valid(x_map, *place) && moments::is_valid(y_map, *place);
+        assert_eq!(valid, (start..end).filter(pair).count(), "{row:?}");
+    }
+    let by_plan = csv(&["--plan", "examples/fan_weeks.csv", "--figure", "covariance", "--ddof", "0"]);
+    let starts: Vec<u32> = (0..20).map(|week| week * 168).collect();
+    let ends: Vec<u32> = starts.iter().map(|start| start + 168).collect();
+    let wanted = moments::plan_pair(&x, x_map, &y, y_map, moments::Plan::new(&starts, &ends), cov);
+    assert_eq!(column(&by_plan, FIGURE), shown(wanted));
+}
+
+#[test]
+fn two_traces_and_what_is_wrong_with_them() {
+    let folder = Folder::with(&[
+        ("t.csv", b"time,temperature\na,1\nb,2\nc,4\n"),
+        ("u.csv", b"a,2\nb,4\nc,3\n"),
+        ("short.csv", b"a,2\nb,4\n"),
+        ("bad.csv", b"a,2\nb,warm\nc,3\n"),
+        ("p.csv", b"label,start,end\nx,0,2\ny,1,3\n"),
+        ("q.csv", b"0,2\n1,4\n"),
+        ("old.txt", b"old table"),
+        ("old.svg", b"old picture"),
+    ]);
+    let csv = folder.table("t.csv u.csv --figure covariance --plan p.csv --csv");
+    assert_eq!(csv, "row,label,start,end,from,to,valid,figure,mark\n0,x,0,2,a,b,2,1.0,\n1,y,1,3,b,c,2,-1.0,\n");
+    assert_eq!(column(&folder.table("t.csv u.csv --figure covariance --plan p.csv --csv --ddof 0"), FIGURE), ["0.5", "-0.5"]);
+    assert_eq!(column(&folder.table("u.csv t.csv --figure correlation --window 2 --csv"), FIGURE), ["NaN", "1.0", "-1.0"]);
+    assert_eq!(
+        column(&folder.table("t.csv t.csv --figure correlation --window 2 --csv --minimum 2"), FIGURE),
+        ["-", "1.0", "1.0"]
+    );
+    let text = folder.table("t.csv u.csv --figure correlation --plan p.csv");
+    assert!(text.starts_with("correlation, minimum 1\nfirst    t.csv: 3 readings, "), "{text}");
+    assert!(text.contains("\nrow  label  start    end  from  to  valid  correlation\n"), "{text}");
+    // either trace from standard input
+    for (args, wanted) in [(["t.csv", "-"], "1.0"), (["-", "t.csv"], "1.0")] {
+        let args = [&args[..], &["--figure", "covariance", "--plan", "p.csv", "--csv"]].concat();
+        let output = run_in(&folder.0, &args, b"a,2\nb,4\nc,3\n");
+        assert_eq!(column(&String::from_utf8_lossy(&output.stdout), FIGURE)[0], wanted, "{}", said(&output));
+    }
+    let cases = [
+        (
+            "t.csv short.csv",
+            "p.csv",
+            "short.csv: the second trace has 2 readings, the first 3, but two traces must be of one length (the first is t.csv)",
+        ),
+        (
+            "short.csv t.csv",
+            "p.csv",
+            "t.csv: the second trace has 3 readings, the first 2, but two traces must be of one length (the first is short.csv)",
+        ),
+        ("t.csv bad.csv", "p.csv", "bad.csv:2: \"warm\" is no number"),
+        ("bad.csv t.csv", "p.csv", "bad.csv:2: \"warm\" is no number"),
+        ("t.csv u.csv", "q.csv", "q.csv:2: row 1 ends at 4, but with 3 readings a row can end at 3 at most"),
+    ];
+    for (traces, plan, message) in cases {
+        for figure in ["covariance", "correlation"] {
+            for targets in ["", "--output old.txt --svg old.svg", "--output new.txt --svg new.svg --csv"] {
+                assert_eq!(folder.message(&format!("{traces} --figure {figure} --plan {plan} {targets}")), message);
+            }
+        }
+    }
+    assert!(folder.message("t.csv none.csv --figure covariance --plan p.csv").starts_with("none.csv: cannot be opened: "));
+    assert_eq!(folder.message("t.csv short.csv --figure covariance --window 2"), cases[0].2);
 }
 
 #[test]
@@ -238,14 +382,14 @@ fn refusals_in_words() {
         Folder::with(&[("t.csv", b"a,1\nb,\nc,3\n"), ("whole.csv", b"time,temperature\na,1\nb,2\nc,3\n"), ("old.txt", b"old")]);
     let plans: [(&str, &str); 6] = [
         ("0,1\n2,1\n", "p.csv:2: row 1 starts at 2, after its end at 1"),
-        ("start,end\n0,1\n0,4\n", "p.csv:3: row 1 ends at 4, but the trace has 3 readings, so a row can end at 3 at most"),
+        ("start,end\n0,1\n0,4\n", "p.csv:3: row 1 ends at 4, but with 3 readings a row can end at 3 at most"),
         ("start,end\n1,2\n0,2\n", "p.csv:3: row 1 starts at 0, before row 0, which starts at 1: starts must not fall"),
         ("0,3\n1,2\n", "p.csv:2: row 1 ends at 2, before row 0, which ends at 3: ends must not fall"),
         (
             "label,start,end\na,1,2\n\"b, \"\"c\"\"\",0,1\n",
             "p.csv:3: row 1, from 0 to 1, goes back behind row 0, from 1 to 2: starts and ends must not fall (label \"b, \"c\"\")",
         ),
-        ("label,start,end\n,0,9\n", "p.csv:2: row 0 ends at 9, but the trace has 3 readings, so a row can end at 3 at most (label \"\")"),
+        ("label,start,end\n,0,9\n", "p.csv:2: row 0 ends at 9, but with 3 readings a row can end at 3 at most (label \"\")"),
     ];
     for (plan, message) in plans {
         folder.write("p.csv", plan.as_bytes());
@@ -401,6 +545,14 @@ fn wrong_command_lines_get_a_hint() {
         ("t.csv --plan p.csv --svg p.csv", "--svg names the file of the plan"),
         ("t.csv --plan p.csv --output p.csv", "--output names the file of the plan"),
         ("t.csv --plan p.csv --svg t.csv", "--svg names the file of the trace"),
+        ("t.csv p.csv --window 1 --figure correlation --output t.csv", "--output names the file of the first trace"),
+        ("t.csv p.csv --window 1 --figure correlation --svg ./p.csv", "--svg names the file of the second trace"),
+        ("t.csv --plan p.csv --figure correlation", "the correlation is of two traces, but one is named"),
+        ("t.csv p.csv t.csv --window 1 --figure covariance", "the covariance is of two traces, but \"t.csv\" is named too"),
+        (
+            "t.csv p.csv --window 1",
+            "the variance is of one trace, but \"p.csv\" is named too; --figure covariance and correlation are of two",
+        ),
     ];
     for (line, wrong) in cases {
         assert_eq!(folder.message(line), format!("collector: {wrong}\n`collector --help` has the options"), "{line}");
@@ -488,9 +640,12 @@ fn too_many_readings_or_rows() {
     for (count, code) in [(moments::MOST, 0), (moments::MOST + 1, 2), (moments::MOST + 5, 2)] {
         let output = run_in(&folder.0, &["-", "--window", "0", "--csv"], &lines(count));
         assert_eq!(output.status.code(), Some(code), "{}", said(&output));
-        let message = format!("standard input: a trace has {count} readings, but 16777216 is the most that is taken\n");
+        let message = format!("standard input: the trace has {count} readings, but 16777216 is the most that is taken\n");
         assert_eq!(said(&output), if code == 0 { String::new() } else { message });
     }
+    let output = run_in(&folder.0, &["t.csv", "-", "--figure", "covariance", "--window", "0"], &lines(moments::MOST + 5));
+    let message = "standard input: the second trace has 16777221 readings, but 16777216 is the most that is taken\n";
+    assert_eq!((output.status.code(), said(&output).as_str()), (Some(2), message));
     folder.write("p.csv", &lines(moments::MOST + 2));
     assert_eq!(folder.message("t.csv --plan p.csv"), "p.csv: the plan has 16777218 rows, but 16777216 is the most that is taken");
 }
@@ -513,7 +668,12 @@ fn any_bytes_end_with_a_status() {
             };
             folder.write(name, &bytes);
         }
-        let output = folder.run(["t.csv --plan p.csv --svg o.svg", "t.csv --window 2 --svg o.svg --csv"][run % 2]);
+        let lines = [
+            "t.csv --plan p.csv --svg o.svg",
+            "t.csv --window 2 --svg o.svg --csv",
+            "t.csv t.csv --window 2 --figure correlation --svg o.svg",
+        ];
+        let output = folder.run(lines[run % lines.len()]);
         assert!(matches!(output.status.code(), Some(0 | 2)), "run {run}: {:?} {}", output.status, said(&output));
     }
 }

@@ -1,9 +1,12 @@
 //! 16,777,216 readings, and as many rows, are taken; one more is refused, and nothing is written.
-use crate::lists::{Guarded, Rng};
+use crate::lists::Lengths;
 use moments::*;
 
 fn over(readings: usize) -> Refusal {
-    Refusal::TooManyReadings { readings }
+    over_of(Which::Only, readings)
+}
+fn over_of(trace: Which, readings: usize) -> Refusal {
+    Refusal::TooManyReadings { trace, readings }
 }
 /// 0 and 1 in turn, one more than are taken.
 fn one_more() -> Vec<f64> {
@@ -15,16 +18,15 @@ const FIGURES: [(Setting, f64); 3] = [
     (Setting { figure: Figure::Skew { bias: true }, min_periods: 1 }, 0.0),
     (Setting { figure: Figure::Kurtosis { fisher: true, bias: true }, min_periods: 1 }, -2.0),
 ];
+/// Each figure of a window of 0 and 1 in both traces.
+const PAIR_FIGURES: [(Setting<PairFigure>, f64); 2] = [
+    (Setting { figure: PairFigure::Cov { ddof: 0 }, min_periods: 2 }, 0.25),
+    (Setting { figure: PairFigure::PearsonCorr, min_periods: 2 }, 1.0),
+];
 /// The call on lists of any bits, none of which may change.
-fn kept(call: impl FnOnce(&mut [f64], Lists) -> Result<(), Refusal>) -> Result<(), Refusal> {
-    let mut rng = Rng(13);
-    let mut lists = [3, 24, 2].map(|length| Guarded::<f64>::any(&mut rng, length));
-    let mut present = Guarded::<u8>::any(&mut rng, 2);
-    let [readings, work, figures] = &mut lists;
-    let result = call(readings.lend(), Lists { work: work.lend(), figures: figures.lend(), present: present.lend() });
-    lists.iter().for_each(|list| list.check("a list", 0));
-    present.check("present", 0);
-    result
+fn kept(call: impl FnOnce([&mut [f64]; 2], Lists) -> Result<(), Refusal>) -> Result<(), Refusal> {
+    let lent = Lengths { readings: [3, 4], work: 24, figures: 2, present: 2 };
+    lent.run(([0; 2], 0, 0), call).map(|held| panic!("accepted: {held:?}"))
 }
 
 #[test]
@@ -43,9 +45,9 @@ fn readings_of_arrays() {
     assert_eq!(var(&trace, None).map(drop), one_more);
     assert_eq!(skew(&trace, map).map(drop), one_more);
     assert_eq!(kurtosis(&trace, None).map(drop), one_more);
-    assert_eq!(cov(&trace, map, &trace, None).map(drop), one_more);
-    assert_eq!(cov(&trace, map, most, None).map(drop), one_more);
-    assert_eq!(pearson_corr(most, None, &trace, map).map(drop), one_more);
+    assert_eq!(cov(&trace, map, &trace, None).map(drop), Err(over_of(Which::First, MOST + 1)));
+    assert_eq!(cov(&trace, map, most, None).map(drop), Err(over_of(Which::First, MOST + 1)));
+    assert_eq!(pearson_corr(most, None, &trace, map).map(drop), Err(over_of(Which::Second, MOST + 1)));
     assert_eq!(skew_range(&trace, None, 0, 1).map(drop), one_more);
     assert_eq!(kurtosis_range(&trace, map, usize::MAX, 1).map(drop), one_more);
 }
@@ -70,12 +72,60 @@ fn readings_of_fixed_windows() {
 }
 
 #[test]
+fn readings_of_fixed_windows_over_two_traces() {
+    let trace = one_more();
+    let (most, window, map) = (&trace[..MOST], Window::trailing(2), vec![0xFF; MOST / 8]);
+    for (setting, wanted) in PAIR_FIGURES {
+        let answers = rolling_pair(most, None, most, Some(&map), window, setting).expect("as many as are taken");
+        assert_eq!((answers.len(), answers[0], answers[MOST - 1]), (MOST, None, Some(wanted)));
+        drop(answers);
+        // before 2 and 3, of either trace
+        let too_many = [(&trace[..], most, Which::First), (most, &trace, Which::Second), (&trace, &trace, Which::First)];
+        for (x, y, which) in too_many {
+            let one_more = Err(over_of(which, MOST + 1));
+            assert_eq!(rolling_pair(x, Some(&[]), y, Some(&[]), window, setting).map(drop), one_more);
+            assert_eq!(kept(|_, lists| rolling_pair_into(x, Some(&[]), y, None, window, setting, lists)), one_more);
+        }
+    }
+}
+
+#[test]
+fn readings_of_plans_over_two_traces() {
+    let trace = one_more();
+    let most = &trace[..MOST];
+    let rows = Plan::new(&[0, MOST as u32 - 2], &[2, MOST as u32]);
+    let bytes = vec![0; 8 * MOST + 9];
+    for (setting, wanted) in PAIR_FIGURES {
+        assert_eq!(plan_pair(most, None, most, None, rows, setting), Ok(vec![Some(wanted); 2]));
+        assert_eq!(plan_pair(most, None, &trace, None, rows, setting), Err(over_of(Which::Second, MOST + 1)));
+        // 14 of either comes first, then 1 of either, before 2 and all that is wrong with the plan
+        let lengths = [
+            (8 * MOST + 8, 9, Refusal::TraceBytes { trace: Which::Second, bytes: 9 }),
+            (8 * MOST + 9, 8 * MOST + 8, Refusal::TraceBytes { trace: Which::First, bytes: 8 * MOST + 9 }),
+            (8 * MOST + 8, 8, over_of(Which::First, MOST + 1)),
+            (0, 8 * MOST + 8, over_of(Which::Second, MOST + 1)),
+        ];
+        for (first, second, refusal) in lengths {
+            let result = kept(|[x_readings, y_readings], lists| {
+                let x = Encoded { bytes: &bytes[..first], readings: x_readings, map: Some(&[]) };
+                let y = Encoded { bytes: &bytes[..second], readings: y_readings, map: None };
+                plan_pair_into(x, y, Plan::new(&[3], &[2]), setting, lists)
+            });
+            assert_eq!(result, Err(refusal));
+        }
+    }
+    // a window of all of them, by the figure that needs most work
+    let all = Plan::new(&[0], &[MOST as u32]);
+    assert_eq!(plan_pair(most, None, most, None, all, Setting::pearson_corr()), Ok(vec![Some(1.0)]));
+}
+
+#[test]
 fn readings_of_plans() {
     let trace = one_more();
     let rows = Plan::new(&[0, MOST as u32 - 2], &[2, MOST as u32]);
     let bytes = vec![0; 8 * MOST + 8];
     for (setting, wanted) in FIGURES {
-        let result = kept(|readings, lists| plan_into(&bytes, readings, None, Plan::new(&[3], &[2]), setting, lists));
+        let result = kept(|[readings, _], lists| plan_into(&bytes, readings, None, Plan::new(&[3], &[2]), setting, lists));
         assert_eq!(result, Err(over(MOST + 1)));
         assert_eq!(plan(&trace[..MOST], None, rows, setting), Ok(vec![Some(wanted); 2]));
         assert_eq!(plan(&trace, None, Plan::new(&[3], &[2]), setting), Err(over(MOST + 1)));
@@ -98,6 +148,12 @@ fn rows_of_plans() {
     for (setting, _) in FIGURES {
         let rows = Plan::new(&starts, &ends);
         assert_eq!(plan(&[0.0, 1.0], None, rows, setting), Err(both));
-        assert_eq!(kept(|readings, lists| plan_into(&[0; 16], readings, None, rows, setting, lists)), Err(both));
+        assert_eq!(kept(|[readings, _], lists| plan_into(&[0; 16], readings, None, rows, setting, lists)), Err(both));
+    }
+    for (setting, wanted) in PAIR_FIGURES {
+        let (traces, all, more) = ([[0.0, 1.0]; 2], Plan::new(&starts[..MOST], &ends[..MOST]), Plan::new(&starts, &ends));
+        let answers = plan_pair(&traces[0], None, &traces[1], None, all, setting).expect("as many as are taken");
+        assert_eq!((answers.len(), answers[0], answers[MOST - 1]), (MOST, Some(wanted), Some(wanted)));
+        assert_eq!(plan_pair(&traces[0], None, &traces[1], None, more, setting), Err(both));
     }
 }

@@ -75,10 +75,10 @@ impl<T: Bits> Guarded<T> {
     }
 }
 
-/// Lengths of the lists that a call on windows is lent.
+/// Lengths of the lists that a call on windows is lent, of readings one for each trace.
 #[derive(Clone, PartialEq)]
 pub struct Lengths {
-    pub readings: usize,
+    pub readings: [usize; 2],
     pub work: usize,
     pub figures: usize,
     pub present: usize,
@@ -88,21 +88,22 @@ impl Lengths {
     /// what readings, figures and present bytes then hold.
     pub fn run<E>(
         &self,
-        (readings, work, rows): (usize, usize, usize),
-        call: impl FnOnce(&mut [f64], Lists) -> Result<(), E>,
+        (readings, work, rows): ([usize; 2], usize, usize),
+        call: impl FnOnce([&mut [f64]; 2], Lists) -> Result<(), E>,
     ) -> Result<Vec<u64>, E> {
-        let mut rng = Rng(7);
-        let mut lists = [self.readings, self.work, self.figures].map(|length| Guarded::<f64>::any(&mut rng, length));
+        let (mut rng, [first, second]) = (Rng(7), self.readings);
+        let mut lists = [first, second, self.work, self.figures].map(|length| Guarded::<f64>::any(&mut rng, length));
         let mut present = Guarded::<u8>::any(&mut rng, self.present);
-        let [decoded, scratch, figures] = &mut lists;
+        let [x, y, scratch, figures] = &mut lists;
         let lent = Lists { work: scratch.lend(), figures: figures.lend(), present: present.lend() };
-        let result = call(decoded.lend(), lent);
-        let free = if result.is_ok() { [readings, work, rows] } else { [0; 3] };
-        for ((list, name), free) in lists.iter().zip(["readings", "work", "figures"]).zip(free) {
+        let result = call([x.lend(), y.lend()], lent);
+        let free = if result.is_ok() { [readings[0], readings[1], work, rows] } else { [0; 4] };
+        for ((list, name), free) in lists.iter().zip(["readings", "second readings", "work", "figures"]).zip(free) {
             list.check(name, free);
         }
-        present.check("present", free[2]);
-        result.map(|()| [bits(lists[0].held()), bits(lists[2].held()), bits(present.held())].concat())
+        present.check("present", free[3]);
+        let [x, y, _, figures] = &lists;
+        result.map(|()| [bits(x.held()), bits(y.held()), bits(figures.held()), bits(present.held())].concat())
     }
 }
 
@@ -120,6 +121,10 @@ pub fn accepted(number: u32) -> Result<(), u32> {
     } else {
         Err(number)
     }
+}
+/// A trace as a plan call takes it.
+pub fn bytes_of(trace: &[f64]) -> Vec<u8> {
+    trace.iter().flat_map(|x| x.to_le_bytes()).collect()
 }
 /// A trace and its map as an entry takes them.
 pub fn raw(trace: &[f64], has_map: bool, map: &[u8]) -> (*const f64, usize, bool, *const u8, usize) {

@@ -1,6 +1,6 @@
 //! Maps of every length in every entry that is lent one. A map that is longer than its trace needs is taken, and what stands behind the
 //! last reading's bit does not matter; with weights it is refused as any map is. A shorter one is refused, and nothing is written.
-use crate::lists::{accepted, bits, raw, state_of, Guarded, Lengths, Rng};
+use crate::lists::{accepted, bits, bytes_of, raw, state_of, Guarded, Lengths, Rng};
 use moments::abi::{self, OfPair, OfRange, OfTrace};
 use moments::*;
 
@@ -9,6 +9,7 @@ const MOST_BEHIND: usize = 64;
 const READINGS: [usize; 9] = [0, 1, 7, 8, 9, 63, 64, 65, 130];
 const FIGURES: [Figure; 3] =
     [Figure::Var { ddof: 0 }, Figure::Skew { bias: true }, Figure::Kurtosis { fisher: true, bias: true }];
+const PAIR_FIGURES: [PairFigure; 2] = [PairFigure::Cov { ddof: 0 }, PairFigure::PearsonCorr];
 /// What spare bits and the bytes behind may be: zeros, ones, noise.
 const FILLS: [fn(&mut Rng) -> u8; 3] = [|_| 0, |_| 0xFF, |rng| rng.word() as u8];
 
@@ -18,6 +19,8 @@ type Call<E> = Box<dyn Fn(&[f64], &[u8]) -> Answer<E>>;
 /// An entry on a trace and the map that is tried, by its declaration and by its safe function.
 struct Entry {
     name: String,
+    /// Whose map it is, of both the first's.
+    whose: Which,
     declared: Call<u32>,
     safe: Call<Refusal>,
 }
@@ -47,7 +50,7 @@ fn of_trace<const N: usize, S: Into<[f64; N]> + 'static>(name: &str, entry: OfTr
         state_of(|s| unsafe { entry(t, n, has_map, m, mn, s) })
     };
     let safe = move |trace: &[f64], map: &[u8]| safe(trace, Some(map)).map(words);
-    Entry { name: name.into(), declared: Box::new(declared), safe: Box::new(safe) }
+    Entry { name: name.into(), whose: Which::Only, declared: Box::new(declared), safe: Box::new(safe) }
 }
 fn of_range<const N: usize, S: Into<[f64; N]> + 'static>(name: &str, entry: OfRange<N>, safe: SafeRange<S>) -> Entry {
     // the last place is in it
@@ -61,38 +64,67 @@ fn of_range<const N: usize, S: Into<[f64; N]> + 'static>(name: &str, entry: OfRa
         let (start, length) = range(trace.len());
         safe(trace, Some(map), start, length).map(words)
     };
-    Entry { name: name.into(), declared: Box::new(declared), safe: Box::new(safe) }
+    Entry { name: name.into(), whose: Which::Only, declared: Box::new(declared), safe: Box::new(safe) }
 }
-/// The map that is tried is the first, the second or both; the other one is longer than is needed.
-fn of_pair<const N: usize, S: Into<[f64; N]> + 'static>(name: &str, entry: OfPair<N>, safe: SafePair<S>, tried: usize) -> Entry {
-    fn maps<'a>(tried: usize, map: &'a [u8], other: &'a [u8]) -> [&'a [u8]; 2] {
-        [[map, other], [other, map], [map, map]][tried]
+
+// ---- pairs ----
+/// Which map of two is tried; the other one is longer than is needed.
+#[derive(Clone, Copy, Debug)]
+enum Tried {
+    FirstMap,
+    SecondMap,
+    BothMaps,
+}
+const TRIED: [Tried; 3] = [Tried::FirstMap, Tried::SecondMap, Tried::BothMaps];
+impl Tried {
+    fn whose(self) -> Which {
+        match self {
+            Tried::FirstMap | Tried::BothMaps => Which::First,
+            Tried::SecondMap => Which::Second,
+        }
     }
-    let second = |n: usize| (0..n).map(|i| 2.0 - (i * i % 17) as f64).collect::<Vec<f64>>();
-    // of more readings than one, the first is missing
-    let longer = |n: usize| [vec![0xFF - u8::from(n > 1)], vec![0xFF; n.div_ceil(8) + 3]].concat();
-    let declared = move |trace: &[f64], map: &[u8]| {
-        let (y, other) = (second(trace.len()), longer(trace.len()));
-        let [x_map, y_map] = maps(tried, map, &other);
-        let ((x, n, _, xm, xn), (y, _, _, ym, yn)) = (raw(trace, true, x_map), raw(&y, true, y_map));
+    /// Gives the call the first trace and its map, and the second and its map.
+    fn with<T>(self, trace: &[f64], map: &[u8], call: impl FnOnce(&[f64], &[u8], &[f64], &[u8]) -> T) -> T {
+        let n = trace.len();
+        let second: Vec<f64> = (0..n).map(|i| 2.0 - (i * i % 17) as f64).collect();
+        // of more readings than one, the first is missing
+        let longer = [vec![0xFF - u8::from(n > 1)], vec![0xFF; n.div_ceil(8) + 3]].concat();
+        let [x_map, y_map] = match self {
+            Tried::FirstMap => [map, &longer],
+            Tried::SecondMap => [&longer, map],
+            Tried::BothMaps => [map, map],
+        };
+        call(trace, x_map, &second, y_map)
+    }
+}
+/// A call on two traces with their maps.
+type PairCall<E> = Box<dyn Fn(&[f64], &[u8], &[f64], &[u8]) -> Answer<E>>;
+fn of_two(name: &str, tried: Tried, declared: PairCall<u32>, safe: PairCall<Refusal>) -> Entry {
+    Entry {
+        name: format!("{name}, {tried:?}"),
+        whose: tried.whose(),
+        declared: Box::new(move |trace: &[f64], map: &[u8]| tried.with(trace, map, &declared)),
+        safe: Box::new(move |trace: &[f64], map: &[u8]| tried.with(trace, map, &safe)),
+    }
+}
+fn of_pair<const N: usize, S: Into<[f64; N]> + 'static>(name: &str, entry: OfPair<N>, safe: SafePair<S>, tried: Tried) -> Entry {
+    let declared = move |x: &[f64], x_map: &[u8], y: &[f64], y_map: &[u8]| {
+        let ((x, n, _, xm, xn), (y, _, _, ym, yn)) = (raw(x, true, x_map), raw(y, true, y_map));
         // SAFETY: pointers and lengths are the slices'.
         state_of(|s| unsafe { entry(x, n, true, xm, xn, y, n, true, ym, yn, s) })
     };
-    let safe = move |trace: &[f64], map: &[u8]| {
-        let other = longer(trace.len());
-        let [x_map, y_map] = maps(tried, map, &other);
-        safe(trace, Some(x_map), &second(trace.len()), Some(y_map)).map(words)
-    };
-    let which = ["first map", "second map", "both maps"][tried];
-    Entry { name: format!("{name}, {which}"), declared: Box::new(declared), safe: Box::new(safe) }
+    let safe = move |x: &[f64], x_map: &[u8], y: &[f64], y_map: &[u8]| safe(x, Some(x_map), y, Some(y_map)).map(words);
+    of_two(name, tried, Box::new(declared), Box::new(safe))
 }
 
 // ---- windows ----
 /// Runs the call on lists that are two places longer than is needed.
-fn with_lists<E>(needed: (usize, usize, usize), call: impl FnOnce(&mut [f64], Lists) -> Result<(), E>) -> Answer<E> {
+fn with_lists<E>(needed: Needed, call: impl FnOnce([&mut [f64]; 2], Lists) -> Result<(), E>) -> Answer<E> {
     let (readings, work, rows) = needed;
-    Lengths { readings: readings + 2, work: work + 2, figures: rows + 2, present: rows + 2 }.run(needed, call)
+    Lengths { readings: readings.map(|n| n + 2), work: work + 2, figures: rows + 2, present: rows + 2 }.run(needed, call)
 }
+/// Readings of each trace that is decoded, doubles of work, rows.
+type Needed = ([usize; 2], usize, usize);
 /// Four rows, in three of which the last place is.
 fn rows(n: usize) -> [[u32; 4]; 2] {
     [[0, n / 4, n / 2, n], [n / 2, n, n, n]].map(|bounds| bounds.map(|place| place as u32))
@@ -100,12 +132,12 @@ fn rows(n: usize) -> [[u32; 4]; 2] {
 fn of_plan(figure: Figure) -> Entry {
     let setting = Setting { figure, min_periods: 1 };
     let given = move |trace: &[f64]| {
-        let (bytes, rows) = (trace.iter().flat_map(|x| x.to_le_bytes()).collect::<Vec<u8>>(), rows(trace.len()));
-        (bytes, rows, (trace.len(), setting.work(Plan::new(&rows[0], &rows[1]).widest()), rows[0].len()))
+        let rows = rows(trace.len());
+        (bytes_of(trace), rows, ([trace.len(), 0], setting.work(Plan::new(&rows[0], &rows[1]).widest()), rows[0].len()))
     };
     let declared = move |trace: &[f64], map: &[u8]| {
         let (bytes, [starts, ends], needed) = given(trace);
-        with_lists(needed, |readings, Lists { work, figures, present }| {
+        with_lists(needed, |[readings, _], Lists { work, figures, present }| {
             let (t, tn, r, rn) = (bytes.as_ptr(), bytes.len(), readings.as_mut_ptr(), readings.len());
             let (m, mn, s, e) = (map.as_ptr(), map.len(), starts.as_ptr(), ends.as_ptr());
             let (w, wn, f, fl) = (work.as_mut_ptr(), work.len(), figures.as_mut_ptr(), figures.len());
@@ -129,13 +161,50 @@ fn of_plan(figure: Figure) -> Entry {
     let safe = move |trace: &[f64], map: &[u8]| {
         let (bytes, [starts, ends], needed) = given(trace);
         let plan = Plan::new(&starts, &ends);
-        with_lists(needed, |readings, lists| plan_into(&bytes, readings, Some(map), plan, setting, lists))
+        with_lists(needed, |[readings, _], lists| plan_into(&bytes, readings, Some(map), plan, setting, lists))
     };
-    Entry { name: format!("plan {figure:?}"), declared: Box::new(declared), safe: Box::new(safe) }
+    Entry { name: format!("plan {figure:?}"), whose: Which::Only, declared: Box::new(declared), safe: Box::new(safe) }
+}
+fn of_pair_plan(figure: PairFigure, tried: Tried) -> Entry {
+    let setting = Setting { figure, min_periods: 1 };
+    let needed = move |n: usize, [starts, ends]: [[u32; 4]; 2]| ([n; 2], setting.work(Plan::new(&starts, &ends).widest()), 4);
+    let declared = move |x: &[f64], x_map: &[u8], y: &[f64], y_map: &[u8]| {
+        let (n, x, y, bounds) = (x.len(), bytes_of(x), bytes_of(y), rows(x.len()));
+        with_lists(needed(n, bounds), |[x_readings, y_readings], Lists { work, figures, present }| {
+            let (a, an, ar, arn) = (x.as_ptr(), x.len(), x_readings.as_mut_ptr(), x_readings.len());
+            let (b, bn, br, brn) = (y.as_ptr(), y.len(), y_readings.as_mut_ptr(), y_readings.len());
+            let (am, amn, bm, bmn) = (x_map.as_ptr(), x_map.len(), y_map.as_ptr(), y_map.len());
+            let (s, e) = (bounds[0].as_ptr(), bounds[1].as_ptr());
+            let (w, wn, f, fl) = (work.as_mut_ptr(), work.len(), figures.as_mut_ptr(), figures.len());
+            let (p, pn) = (present.as_mut_ptr(), present.len());
+            // SAFETY: pointers and lengths are the slices' and the arrays'.
+            #[rustfmt::skip]
+            let number = unsafe {
+                match figure {
+                    PairFigure::Cov { ddof } => abi::moments_plan_cov(
+                        a, an, ar, arn, true, am, amn, b, bn, br, brn, true, bm, bmn, s, 4, e, 4, 1, ddof, w, wn, f, fl, p, pn,
+                    ),
+                    PairFigure::PearsonCorr => abi::moments_plan_pearson_corr(
+                        a, an, ar, arn, true, am, amn, b, bn, br, brn, true, bm, bmn, s, 4, e, 4, 1, w, wn, f, fl, p, pn,
+                    ),
+                }
+            };
+            accepted(number)
+        })
+    };
+    let safe = move |x: &[f64], x_map: &[u8], y: &[f64], y_map: &[u8]| {
+        let (n, x, y, bounds) = (x.len(), bytes_of(x), bytes_of(y), rows(x.len()));
+        with_lists(needed(n, bounds), |[x_readings, y_readings], lists| {
+            let x = Encoded { bytes: &x, readings: x_readings, map: Some(x_map) };
+            let y = Encoded { bytes: &y, readings: y_readings, map: Some(y_map) };
+            plan_pair_into(x, y, Plan::new(&bounds[0], &bounds[1]), setting, lists)
+        })
+    };
+    of_two(&format!("plan {figure:?}"), tried, Box::new(declared), Box::new(safe))
 }
 fn of_fixed(figure: Figure, window: Window) -> Entry {
     let setting = Setting { figure, min_periods: 1 };
-    let needed = move |n: usize| (0, setting.work(window.size.min(n)), n);
+    let needed = move |n: usize| ([0; 2], setting.work(window.size.min(n)), n);
     let declared = move |trace: &[f64], map: &[u8]| {
         let ((t, n, has_map, m, mn), Window { size, center }) = (raw(trace, true, map), window);
         with_lists(needed(n), |_, Lists { work, figures, present }| {
@@ -160,24 +229,54 @@ fn of_fixed(figure: Figure, window: Window) -> Entry {
     let safe = move |trace: &[f64], map: &[u8]| {
         with_lists(needed(trace.len()), |_, lists| rolling_into(trace, Some(map), window, setting, lists))
     };
-    Entry { name: format!("{window:?} {figure:?}"), declared: Box::new(declared), safe: Box::new(safe) }
+    Entry { name: format!("{window:?} {figure:?}"), whose: Which::Only, declared: Box::new(declared), safe: Box::new(safe) }
+}
+fn of_pair_fixed(figure: PairFigure, window: Window, tried: Tried) -> Entry {
+    let setting = Setting { figure, min_periods: 1 };
+    let needed = move |n: usize| ([0; 2], setting.work(window.size.min(n)), n);
+    let declared = move |x: &[f64], x_map: &[u8], y: &[f64], y_map: &[u8]| {
+        let ((a, n, _, am, amn), (b, bn, _, bm, bmn)) = (raw(x, true, x_map), raw(y, true, y_map));
+        let Window { size, center } = window;
+        with_lists(needed(n), |_, Lists { work, figures, present }| {
+            let (w, wn, f, fl) = (work.as_mut_ptr(), work.len(), figures.as_mut_ptr(), figures.len());
+            let (p, pn) = (present.as_mut_ptr(), present.len());
+            // SAFETY: pointers and lengths are the slices'.
+            #[rustfmt::skip]
+            let number = unsafe {
+                match figure {
+                    PairFigure::Cov { ddof } => abi::moments_rolling_cov(
+                        a, n, true, am, amn, b, bn, true, bm, bmn, size, 1, center, ddof, w, wn, f, fl, p, pn,
+                    ),
+                    PairFigure::PearsonCorr => abi::moments_rolling_pearson_corr(
+                        a, n, true, am, amn, b, bn, true, bm, bmn, size, 1, center, w, wn, f, fl, p, pn,
+                    ),
+                }
+            };
+            accepted(number)
+        })
+    };
+    let safe = move |x: &[f64], x_map: &[u8], y: &[f64], y_map: &[u8]| {
+        let lent = needed(x.len());
+        with_lists(lent, |_, lists| rolling_pair_into(x, Some(x_map), y, Some(y_map), window, setting, lists))
+    };
+    of_two(&format!("{window:?} {figure:?}"), tried, Box::new(declared), Box::new(safe))
 }
 const WEIGHTS: [f64; 3] = [1.0, 2.0, 0.5];
 fn of_weights() -> Entry {
     let declared = |trace: &[f64], map: &[u8]| {
         let ((t, n, has_map, m, mn), (w, wn)) = (raw(trace, true, map), (WEIGHTS.as_ptr(), WEIGHTS.len()));
-        with_lists((0, 0, n), |_, Lists { figures, present, .. }| {
+        with_lists(([0; 2], 0, n), |_, Lists { figures, present, .. }| {
             let (f, fl, p, pn) = (figures.as_mut_ptr(), figures.len(), present.as_mut_ptr(), present.len());
             // SAFETY: pointers and lengths are the slices'.
             accepted(unsafe { abi::moments_rolling_var_weights(t, n, has_map, m, mn, wn, 1, false, w, wn, f, fl, p, pn) })
         })
     };
     let safe = |trace: &[f64], map: &[u8]| {
-        with_lists((0, 0, trace.len()), |_, Lists { figures, present, .. }| {
+        with_lists(([0; 2], 0, trace.len()), |_, Lists { figures, present, .. }| {
             rolling_var_weights_into(trace, Some(map), Window::trailing(WEIGHTS.len()), 1, &WEIGHTS, figures, present)
         })
     };
-    Entry { name: "weights".into(), declared: Box::new(declared), safe: Box::new(safe) }
+    Entry { name: "weights".into(), whose: Which::Only, declared: Box::new(declared), safe: Box::new(safe) }
 }
 
 /// Every entry that answers where there is a map.
@@ -189,9 +288,12 @@ fn entries() -> Vec<Entry> {
         of_range("skew_range", abi::moments_skew_range, skew_range),
         of_range("kurtosis_range", abi::moments_kurtosis_range, kurtosis_range),
     ];
-    for tried in 0..3 {
+    for tried in TRIED {
         entries.push(of_pair("cov", abi::moments_cov, cov, tried));
         entries.push(of_pair("pearson_corr", abi::moments_pearson_corr, pearson_corr, tried));
+        for (figure, window) in PAIR_FIGURES.into_iter().zip([Window::trailing(5), Window::centered(4)]) {
+            entries.extend([of_pair_plan(figure, tried), of_pair_fixed(figure, window, tried)]);
+        }
     }
     for (figure, window) in FIGURES.into_iter().zip([Window::trailing(5), Window::centered(4), Window::trailing(3)]) {
         entries.extend([of_plan(figure), of_fixed(figure, window)]);
@@ -244,7 +346,7 @@ fn every_entry_that_is_lent_a_map_is_tried() {
     let declarations = include_str!("../../src/abi.rs").split("pub fn ").skip(1).filter_map(|text| text.split_once('('));
     let lent_a_map = declarations.filter(|(_, rest)| rest.split(';').next().is_some_and(|head| head.contains("map_len: usize")));
     let names: Vec<&str> = lent_a_map.map(|(name, _)| name).collect();
-    assert_eq!(names.len(), 14);
+    assert_eq!(names.len(), 18);
     for name in names {
         let called = ["(", ","].map(|after| include_str!("maps.rs").contains(&format!("abi::{name}{after}")));
         assert!(called.contains(&true), "{name}");
@@ -296,7 +398,7 @@ fn a_shorter_map_is_refused_and_all_is_kept() {
         let before = bits(&trace);
         for entry in entries().into_iter().chain([of_weights()]) {
             for bytes in 0..exact.len() {
-                let refusal = Refusal::MapLength { bytes, readings: n };
+                let refusal = Refusal::MapLength { trace: entry.whose, bytes, readings: n };
                 assert_eq!(entry.ask(&mut rng, &trace, &exact[..bytes]), Err(refusal), "{}", entry.name);
             }
         }
@@ -335,6 +437,15 @@ fn answers_are_those_of_the_exact_map() {
                 let answers = ask(map);
                 assert!(answers.iter().all(Result::is_ok));
                 assert_eq!(answers, ask(exact));
+            }
+            for setting in PAIR_FIGURES.map(|figure| Setting { figure, min_periods: 2 }) {
+                let ask = |map: &[u8], other: Option<&[u8]>| -> [Result<Vec<_>, Refusal>; 2] {
+                    let by_plan = plan_pair(trace, Some(map), trace, other, Plan::new(&starts, &ends), setting);
+                    [by_plan, rolling_pair(trace, other, trace, Some(map), Window::trailing(5), setting)].map(words)
+                };
+                let answers = ask(map, None);
+                assert!(answers.iter().all(Result::is_ok));
+                assert_eq!(answers, ask(exact, Some(map)));
             }
             let weighted = rolling_var_weights(trace, Some(map), Window::trailing(3), 1, &WEIGHTS);
             assert_eq!(weighted, Err(Refusal::WeightsWithMap));

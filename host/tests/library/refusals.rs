@@ -1,6 +1,6 @@
 //! Every refusal of every entry, alone and before those of higher numbers, with lists that hold any bits: the refusal says what is
 //! wrong and nothing is written. Then what is accepted at the edge: empty slices, odd addresses, maps that are not lent, NaNs.
-use crate::lists::{raw, state_of, Lengths, Rng};
+use crate::lists::{bytes_of, raw, state_of, Lengths, Rng};
 use moments::*;
 
 const NAN: u64 = 0x7FF8_0000_0000_0000;
@@ -8,6 +8,10 @@ const SETTINGS: [Setting; 3] = [
     Setting { figure: Figure::Var { ddof: 1 }, min_periods: 1 },
     Setting { figure: Figure::Skew { bias: false }, min_periods: 0 },
     Setting { figure: Figure::Kurtosis { fisher: true, bias: true }, min_periods: 2 },
+];
+const PAIR_SETTINGS: [Setting<PairFigure>; 2] = [
+    Setting { figure: PairFigure::Cov { ddof: 1 }, min_periods: 1 },
+    Setting { figure: PairFigure::PearsonCorr, min_periods: 2 },
 ];
 
 /// A fault of a call, with the refusal it comes to.
@@ -44,16 +48,20 @@ impl PlanCall {
     /// Nine readings, rows (0, 4), (2, 6), (3, 9), lists that are two places longer than is needed.
     fn new(setting: Setting) -> Self {
         let trace = (0..9).flat_map(|i| (f64::from(i) * 1.5).to_le_bytes()).collect();
-        let lent = Lengths { readings: 11, work: setting.work(6) + 2, figures: 5, present: 5 };
+        let lent = Lengths { readings: [11, 0], work: setting.work(6) + 2, figures: 5, present: 5 };
         PlanCall { setting, trace, map: Some(vec![0b1011_0111, 0b1]), starts: vec![0, 2, 3], ends: vec![4, 6, 9], lent }
     }
     fn run(&self) -> Result<(), Refusal> {
         let plan = Plan::new(&self.starts, &self.ends);
-        self.lent.run((self.trace.len() / 8, self.setting.work(6), self.starts.len()), |readings, lists| {
+        self.lent.run(([self.trace.len() / 8, 0], self.setting.work(6), self.starts.len()), |[readings, _], lists| {
             plan_into(&self.trace, readings, self.map.as_deref(), plan, self.setting, lists)
         })?;
         Ok(())
     }
+}
+/// A list that is too short.
+fn short(list: List, length: usize, needed: usize) -> Refusal {
+    Refusal::ListTooShort { list, length, needed }
 }
 
 #[test]
@@ -62,18 +70,15 @@ fn plans_are_refused_by_the_first_number_that_applies() {
         let needed = setting.work(6);
         let row = Refusal::BelowRowBefore { row: 2, bounds: (1, 9), before: (2, 6) };
         let faults: [Fault<PlanCall>; 10] = [
-            (|c| c.trace.truncate(71), Refusal::TraceBytes { bytes: 71 }),
-            (|c| c.map = Some(vec![0xFF; 1]), Refusal::MapLength { bytes: 1, readings: 9 }),
+            (|c| c.trace.truncate(71), Refusal::TraceBytes { trace: Which::Only, bytes: 71 }),
+            (|c| c.map = Some(vec![0xFF; 1]), Refusal::MapLength { trace: Which::Only, bytes: 1, readings: 9 }),
             (|c| _ = c.starts.pop(), Refusal::PlanLengths { starts: 2, ends: 3 }),
             (|c| c.starts[1] = 7, Refusal::StartAfterEnd { row: 1, start: 7, end: 6 }),
             (|c| c.ends[2] = 10, Refusal::EndPastTrace { row: 2, end: 10, readings: 9 }),
             (|c| c.starts[2] = 1, row),
-            (|c| c.lent.figures = 2, Refusal::ListTooShort { list: List::Figures, length: 2, needed: 3 }),
-            (|c| (c.lent.figures, c.lent.present) = (3, 0), Refusal::ListTooShort { list: List::Present, length: 0, needed: 3 }),
-            (
-                |c| (c.lent.figures, c.lent.present, c.lent.readings) = (3, 3, 8),
-                Refusal::ListTooShort { list: List::Readings, length: 8, needed: 9 },
-            ),
+            (|c| c.lent.figures = 2, short(List::Figures, 2, 3)),
+            (|c| (c.lent.figures, c.lent.present) = (3, 0), short(List::Present, 0, 3)),
+            (|c| (c.lent.figures, c.lent.present, c.lent.readings) = (3, 3, [8, 0]), short(List::Readings(Which::Only), 8, 9)),
             (|c| c.lent.work = c.setting.work(6) - 1, Refusal::WorkTooShort { length: needed - 1, needed }),
         ];
         try_each(&PlanCall::new(setting), &faults, PlanCall::run);
@@ -84,6 +89,74 @@ fn plans_are_refused_by_the_first_number_that_applies() {
             (|c| c.starts[2] = u32::MAX, Refusal::StartAfterEnd { row: 2, start: u32::MAX, end: 9 }),
         ];
         try_each(&PlanCall::new(setting), &rows, PlanCall::run);
+    }
+}
+
+/// Two traces in place of one.
+#[derive(Clone, PartialEq)]
+struct PairPlanCall {
+    setting: Setting<PairFigure>,
+    traces: [Vec<u8>; 2],
+    maps: [Option<Vec<u8>>; 2],
+    starts: Vec<u32>,
+    ends: Vec<u32>,
+    lent: Lengths,
+}
+impl PairPlanCall {
+    fn new(setting: Setting<PairFigure>) -> Self {
+        let PlanCall { trace, map, starts, ends, lent, .. } = PlanCall::new(SETTINGS[0]);
+        let second = (0..9).flat_map(|i| (f64::from(i * i) - 7.0).to_le_bytes()).collect();
+        let lent = Lengths { readings: [11; 2], work: setting.work(6) + 2, ..lent };
+        PairPlanCall { setting, traces: [trace, second], maps: [map, Some(vec![0xFF, 1, 0])], starts, ends, lent }
+    }
+    fn run(&self) -> Result<(), Refusal> {
+        let (plan, [first, second], [x_map, y_map]) = (Plan::new(&self.starts, &self.ends), &self.traces, &self.maps);
+        let readings = [first, second].map(|trace| trace.len() / 8);
+        self.lent.run((readings, self.setting.work(6), self.starts.len()), |[x_readings, y_readings], lists| {
+            let x = Encoded { bytes: first, readings: x_readings, map: x_map.as_deref() };
+            let y = Encoded { bytes: second, readings: y_readings, map: y_map.as_deref() };
+            plan_pair_into(x, y, plan, self.setting, lists)
+        })?;
+        Ok(())
+    }
+}
+
+#[test]
+fn plans_of_two_traces_are_refused_by_the_first_number_that_applies() {
+    for setting in PAIR_SETTINGS {
+        let needed = setting.work(6);
+        let map = |trace, bytes| Refusal::MapLength { trace, bytes, readings: 9 };
+        let faults: [Fault<PairPlanCall>; 14] = [
+            (|c| c.traces[0].truncate(71), Refusal::TraceBytes { trace: Which::First, bytes: 71 }),
+            (|c| c.traces[1].resize(65, 0), Refusal::TraceBytes { trace: Which::Second, bytes: 65 }),
+            (|c| c.traces[1].truncate(64), Refusal::LengthsDiffer { first: 9, second: 8 }),
+            (|c| c.maps[0] = Some(vec![0xFF; 1]), map(Which::First, 1)),
+            (|c| c.maps[1] = Some(vec![]), map(Which::Second, 0)),
+            (|c| _ = c.ends.pop(), Refusal::PlanLengths { starts: 3, ends: 2 }),
+            (|c| c.starts[1] = 7, Refusal::StartAfterEnd { row: 1, start: 7, end: 6 }),
+            (|c| c.ends[2] = 10, Refusal::EndPastTrace { row: 2, end: 10, readings: 9 }),
+            (|c| c.starts[2] = 1, Refusal::BelowRowBefore { row: 2, bounds: (1, 9), before: (2, 6) }),
+            (|c| c.lent.figures = 2, short(List::Figures, 2, 3)),
+            (|c| (c.lent.figures, c.lent.present) = (3, 0), short(List::Present, 0, 3)),
+            (|c| (c.lent.present, c.lent.readings) = (3, [8, 11]), short(List::Readings(Which::First), 8, 9)),
+            (|c| c.lent.readings = [9, 8], short(List::Readings(Which::Second), 8, 9)),
+            (|c| c.lent.work = c.setting.work(6) - 1, Refusal::WorkTooShort { length: needed - 1, needed }),
+        ];
+        try_each(&PairPlanCall::new(setting), &faults, PairPlanCall::run);
+        // with either map alone, with none, and with the first trace the shorter one
+        let others: [Fault<PairPlanCall>; 3] = [
+            (|c| c.traces[0].truncate(64), Refusal::LengthsDiffer { first: 8, second: 9 }),
+            (|c| c.maps = [None, Some(vec![1])], map(Which::Second, 1)),
+            (|c| c.maps = [Some(vec![]), None], map(Which::First, 0)),
+        ];
+        try_each(&PairPlanCall::new(setting), &others, PairPlanCall::run);
+        // rows are tested one after the other, not number by number
+        let rows: [Fault<PairPlanCall>; 3] = [
+            (|c| c.ends[0] = 10, Refusal::EndPastTrace { row: 0, end: 10, readings: 9 }),
+            (|c| c.ends[1] = 3, Refusal::BelowRowBefore { row: 1, bounds: (2, 3), before: (0, 4) }),
+            (|c| c.starts[2] = u32::MAX, Refusal::StartAfterEnd { row: 2, start: u32::MAX, end: 9 }),
+        ];
+        try_each(&PairPlanCall { maps: [None, None], ..PairPlanCall::new(setting) }, &rows, PairPlanCall::run);
     }
 }
 
@@ -104,19 +177,42 @@ impl WindowCall {
             trace: (0..9).map(|i| f64::from(i) * -2.5).collect(),
             map: None,
             weights: vec![1.0, 2.0, 0.5],
-            lent: Lengths { readings: 0, work: setting.work(3) + 2, figures: 11, present: 11 },
+            lent: Lengths { readings: [0; 2], work: setting.work(3) + 2, figures: 11, present: 11 },
         }
     }
     fn run(&self) -> Result<(), Refusal> {
-        self.lent.run((0, self.setting.work(3), 9), |_, lists| {
+        self.lent.run(([0; 2], self.setting.work(3), 9), |_, lists| {
             rolling_into(&self.trace, self.map.as_deref(), self.window, self.setting, lists)
         })?;
         Ok(())
     }
     fn run_weights(&self) -> Result<(), Refusal> {
         let (map, min) = (self.map.as_deref(), self.setting.min_periods);
-        self.lent.run((0, 0, 9), |_, lists| {
+        self.lent.run(([0; 2], 0, 9), |_, lists| {
             rolling_var_weights_into(&self.trace, map, self.window, min, &self.weights, lists.figures, lists.present)
+        })?;
+        Ok(())
+    }
+}
+#[derive(Clone, PartialEq)]
+struct PairWindowCall {
+    setting: Setting<PairFigure>,
+    window: Window,
+    traces: [Vec<f64>; 2],
+    maps: [Option<Vec<u8>>; 2],
+    lent: Lengths,
+}
+impl PairWindowCall {
+    fn new(setting: Setting<PairFigure>) -> Self {
+        let WindowCall { window, trace, lent, .. } = WindowCall::new(SETTINGS[0]);
+        let second = trace.iter().map(|x| 3.0 - x * x).collect();
+        let lent = Lengths { work: setting.work(3) + 2, ..lent };
+        PairWindowCall { setting, window, traces: [trace, second], maps: [None, None], lent }
+    }
+    fn run(&self) -> Result<(), Refusal> {
+        let ([x, y], [x_map, y_map]) = (&self.traces, &self.maps);
+        self.lent.run(([0; 2], self.setting.work(3), 9), |_, lists| {
+            rolling_pair_into(x, x_map.as_deref(), y, y_map.as_deref(), self.window, self.setting, lists)
         })?;
         Ok(())
     }
@@ -129,7 +225,7 @@ fn fixed_windows_are_refused_by_the_first_number_that_applies() {
     for setting in SETTINGS {
         let needed = setting.work(3);
         let faults: [Fault<WindowCall>; 4] = [
-            (|c| c.map = Some(vec![1]), Refusal::MapLength { bytes: 1, readings: 9 }),
+            (|c| c.map = Some(vec![1]), Refusal::MapLength { trace: Which::Only, bytes: 1, readings: 9 }),
             (|c| c.lent.figures = 8, SHORT_FIGURES),
             (|c| c.lent.present = 8, SHORT_PRESENT),
             (|c| c.lent.work = c.setting.work(3) - 1, Refusal::WorkTooShort { length: needed - 1, needed }),
@@ -139,9 +235,31 @@ fn fixed_windows_are_refused_by_the_first_number_that_applies() {
 }
 
 #[test]
+fn fixed_windows_of_two_traces_are_refused_by_the_first_number_that_applies() {
+    for setting in PAIR_SETTINGS {
+        let needed = setting.work(3);
+        let map = |trace, bytes| Refusal::MapLength { trace, bytes, readings: 9 };
+        let faults: [Fault<PairWindowCall>; 6] = [
+            (|c| _ = c.traces[1].pop(), Refusal::LengthsDiffer { first: 9, second: 8 }),
+            (|c| c.maps[0] = Some(vec![1]), map(Which::First, 1)),
+            (|c| c.maps[1] = Some(vec![1]), map(Which::Second, 1)),
+            (|c| c.lent.figures = 8, SHORT_FIGURES),
+            (|c| c.lent.present = 8, SHORT_PRESENT),
+            (|c| c.lent.work = c.setting.work(3) - 1, Refusal::WorkTooShort { length: needed - 1, needed }),
+        ];
+        try_each(&PairWindowCall::new(setting), &faults, PairWindowCall::run);
+        let others: [Fault<PairWindowCall>; 2] = [
+            (|c| _ = c.traces[0].pop(), Refusal::LengthsDiffer { first: 8, second: 9 }),
+            (|c| c.maps = [Some(vec![0xFF; 2]), Some(vec![])], map(Which::Second, 0)),
+        ];
+        try_each(&PairWindowCall::new(setting), &others, PairWindowCall::run);
+    }
+}
+
+#[test]
 fn weights_are_refused_by_the_first_number_that_applies() {
     let faults: [Fault<WindowCall>; 6] = [
-        (|c| c.map = Some(vec![]), Refusal::MapLength { bytes: 0, readings: 9 }),
+        (|c| c.map = Some(vec![]), Refusal::MapLength { trace: Which::Only, bytes: 0, readings: 9 }),
         (|c| c.map = Some(vec![0xFF; 2]), Refusal::WeightsWithMap),
         (|c| c.weights = vec![2.0, -2.0, -0.0], Refusal::WeightsSumToZero),
         (|c| c.window.size = 4, Refusal::WeightCount { weights: 3, window_size: 4 }),
@@ -179,16 +297,16 @@ fn states_of_arrays_are_refused_and_kept() {
             kept(wrong, |s| abi::moments_skew_range(t, n, has_map, m, mn, 2, usize::MAX, s));
             kept(wrong, |s| abi::moments_kurtosis_range(t, n, has_map, m, mn, usize::MAX, 2, s));
         }
-        let refusal = Refusal::MapLength { bytes, readings: 3 };
+        let refusal = |trace| Refusal::MapLength { trace, bytes, readings: 3 };
         if number != 0 {
-            let map = Some(&map[..]);
-            assert_eq!(var(&trace, map), Err(refusal));
-            assert_eq!(skew(&trace, map), Err(refusal));
-            assert_eq!(kurtosis(&trace, map), Err(refusal));
-            assert_eq!(cov(&trace, None, &trace, map), Err(refusal));
-            assert_eq!(pearson_corr(&trace, map, &trace, None), Err(refusal));
-            assert_eq!(skew_range(&trace, map, 9, 9), Err(refusal));
-            assert_eq!(kurtosis_range(&trace, map, 9, 9), Err(refusal));
+            let (map, only) = (Some(&map[..]), refusal(Which::Only));
+            assert_eq!(var(&trace, map), Err(only));
+            assert_eq!(skew(&trace, map), Err(only));
+            assert_eq!(kurtosis(&trace, map), Err(only));
+            assert_eq!(cov(&trace, None, &trace, map), Err(refusal(Which::Second)));
+            assert_eq!(pearson_corr(&trace, map, &trace, None), Err(refusal(Which::First)));
+            assert_eq!(skew_range(&trace, map, 9, 9), Err(only));
+            assert_eq!(kurtosis_range(&trace, map, 9, 9), Err(only));
         }
     }
     let differ = Err(Refusal::LengthsDiffer { first: 3, second: 2 });
@@ -203,19 +321,34 @@ fn states_of_arrays_are_refused_and_kept() {
 fn each_refusal_is_a_sentence() {
     let said = [
         (
-            Refusal::TooManyReadings { readings: 16_777_217 },
+            Refusal::TooManyReadings { trace: Which::Only, readings: 16_777_217 },
             1,
-            "a trace has 16777217 readings, but 16777216 is the most that is taken",
+            "the trace has 16777217 readings, but 16777216 is the most that is taken",
         ),
         (
-            Refusal::LengthsDiffer { first: 5, second: 6 },
+            Refusal::TooManyReadings { trace: Which::First, readings: 16_777_218 },
+            1,
+            "the first trace has 16777218 readings, but 16777216 is the most that is taken",
+        ),
+        (
+            Refusal::LengthsDiffer { first: 8, second: 9 },
             2,
-            "the two traces differ in length: the first has 5 readings, the second 6",
+            "the second trace has 9 readings, the first 8, but two traces must be of one length",
         ),
         (
-            Refusal::MapLength { bytes: 1, readings: 9 },
+            Refusal::LengthsDiffer { first: 2, second: 1 },
+            2,
+            "the second trace has 1 reading, the first 2, but two traces must be of one length",
+        ),
+        (
+            Refusal::MapLength { trace: Which::Only, bytes: 0, readings: 1 },
             3,
-            "a map of 9 readings has 1 byte, but needs at least 2: one bit a reading, eight bits a byte",
+            "the trace's map has 0 bytes, but 1 reading needs at least 1: one bit a reading, eight bits a byte",
+        ),
+        (
+            Refusal::MapLength { trace: Which::Second, bytes: 1, readings: 9 },
+            3,
+            "the second trace's map has 1 byte, but 9 readings need at least 2: one bit a reading, eight bits a byte",
         ),
         (Refusal::PlanLengths { starts: 1, ends: 2 }, 4, "the plan has 1 start and 2 ends, but every row needs both"),
         (
@@ -227,7 +360,7 @@ fn each_refusal_is_a_sentence() {
         (
             Refusal::EndPastTrace { row: 52, end: 8904, readings: 8760 },
             6,
-            "row 52 ends at 8904, but the trace has 8760 readings, so a row can end at 8760 at most",
+            "row 52 ends at 8904, but with 8760 readings a row can end at 8760 at most",
         ),
         (
             Refusal::BelowRowBefore { row: 2, bounds: (10, 30), before: (12, 25) },
@@ -252,18 +385,28 @@ fn each_refusal_is_a_sentence() {
             11,
             "the range of 1 place from 7 reaches past the end of the trace, which has 7 readings",
         ),
+        (short(List::Present, 1, 3), 12, "the lent list of present bytes has 1 place, but needs 3, one for each row"),
         (
-            Refusal::ListTooShort { list: List::Present, length: 1, needed: 3 },
-            12,
-            "the lent list of present bytes has 1 place, but needs 3, one for each row",
-        ),
-        (
-            Refusal::ListTooShort { list: List::Readings, length: 0, needed: 1 },
+            short(List::Readings(Which::Only), 0, 1),
             12,
             "the lent list of readings has 0 places, but needs 1, one for each reading",
         ),
+        (
+            short(List::Readings(Which::Second), 8, 9),
+            12,
+            "the lent list of the second trace's readings has 8 places, but needs 9, one for each reading",
+        ),
         (Refusal::WorkTooShort { length: 1, needed: 24 }, 13, "the lent work slice has 1 double, but the widest window needs 24"),
-        (Refusal::TraceBytes { bytes: 71 }, 14, "the trace has 71 bytes, which is no multiple of 8: a reading has 8"),
+        (
+            Refusal::TraceBytes { trace: Which::Only, bytes: 71 },
+            14,
+            "the trace has 71 bytes, which is no multiple of 8: a reading has 8",
+        ),
+        (
+            Refusal::TraceBytes { trace: Which::First, bytes: 1 },
+            14,
+            "the first trace has 1 byte, which is no multiple of 8: a reading has 8",
+        ),
     ];
     for (refusal, number, text) in said {
         assert_eq!((refusal.number(), refusal.to_string().as_str()), (number, text));
@@ -286,6 +429,13 @@ fn empty_slices_are_answered() {
                 }
             }
         }
+        for (setting, other) in PAIR_SETTINGS.into_iter().flat_map(|setting| [(setting, None), (setting, map)]) {
+            assert_eq!(plan_pair(&[], map, &[], other, Plan::default(), setting).as_deref(), Ok(&none[..]));
+            assert_eq!(plan_pair(&[], other, &[], map, Plan::new(&[0], &[0]), setting.min_periods(0)), Ok(vec![None]));
+            for window in [0, 1, usize::MAX].into_iter().flat_map(|size| [Window::trailing(size), Window::centered(size)]) {
+                assert_eq!(rolling_pair(&[], map, &[], other, window, setting).as_deref(), Ok(&none[..]));
+            }
+        }
         assert_eq!(var(&[], map), Ok(VarState::default()));
         assert_eq!(skew(&[], map), Ok(SkewState::default()));
         assert_eq!(kurtosis(&[], map), Ok(KurtosisState::default()));
@@ -297,7 +447,7 @@ fn empty_slices_are_answered() {
     assert_eq!(rolling_var_weights(&[], None, Window::trailing(1), 0, &[1.0]).as_deref(), Ok(&none[..]));
     assert_eq!(rolling_var_weights(&[], None, Window::trailing(0), 0, &[]), Err(Refusal::WeightsSumToZero));
     // no map is another thing than one of no bytes
-    assert_eq!(var(&[1.0], Some(&[])), Err(Refusal::MapLength { bytes: 0, readings: 1 }));
+    assert_eq!(var(&[1.0], Some(&[])), Err(Refusal::MapLength { trace: Which::Only, bytes: 0, readings: 1 }));
     // an empty window has no figure
     assert_eq!(rolling(&[1.0, 2.0], None, Window::trailing(0), Setting::var(0)), Ok(vec![None, None]));
 }
@@ -306,11 +456,19 @@ fn empty_slices_are_answered() {
 fn bytes_are_taken_from_any_address() {
     let (trace, rows) = ([2.0f64, 4.0, 6.0, 8.0], Plan::new(&[0, 1, 3], &[2, 3, 4]));
     for shift in 0..8 {
-        let bytes: Vec<u8> = std::iter::repeat_n(0xA5, shift).chain(trace.iter().flat_map(|x| x.to_le_bytes())).collect();
+        let bytes = [vec![0xA5; shift], bytes_of(&trace)].concat();
         let (mut readings, mut work, mut figures, mut present) = ([0.0; 4], [0.0; 8], [9.0; 3], [9; 3]);
         let lists = Lists { work: &mut work, figures: &mut figures, present: &mut present };
         assert_eq!(plan_into(&bytes[shift..], &mut readings, None, rows, Setting::var(1), lists), Ok(()));
         assert_eq!((readings, figures, present), (trace, [2.0, 2.0, 0.0], [1, 1, 0]));
+        // the second trace stands at another one
+        let (mut x_readings, mut y_readings, mut work) = ([0.0; 4], [0.0; 4], [0.0; 12]);
+        let lists = Lists { work: &mut work, figures: &mut figures, present: &mut present };
+        let x = Encoded { bytes: &bytes[shift..], readings: &mut x_readings, map: None };
+        let second = [vec![0xA5; 7 - shift], bytes_of(&trace)].concat();
+        let y = Encoded { bytes: &second[7 - shift..], readings: &mut y_readings, map: None };
+        assert_eq!(plan_pair_into(x, y, rows, Setting::cov(1), lists), Ok(()));
+        assert_eq!((x_readings, y_readings, figures, present), (trace, trace, [2.0, 2.0, 0.0], [1, 1, 0]));
     }
 }
 
@@ -318,14 +476,21 @@ fn bytes_are_taken_from_any_address() {
 fn a_map_that_is_not_lent_is_not_looked_at() {
     let (trace, garbage) = ([2.0, 7.0, 4.0, -1.0], [0u8; 3]);
     let (t, n, has_map, m, mn) = raw(&trace, false, &garbage);
-    let bytes: Vec<u8> = trace.iter().flat_map(|x| x.to_le_bytes()).collect();
+    let bytes = bytes_of(&trace);
     let (starts, ends, weights) = ([0u32, 1], [3u32, 4], [1.0, 1.0]);
     let (b, bn, s, e, w) = (bytes.as_ptr(), bytes.len(), starts.as_ptr(), ends.as_ptr(), weights.as_ptr());
     let rows = Plan::new(&starts, &ends);
     /// Both answers, of a call that writes figures and present bytes.
     fn same(wanted: Result<Vec<Option<f64>>, Refusal>, call: impl FnOnce(*mut f64, *mut f64, *mut f64, *mut u8) -> u32) {
-        let (mut readings, mut work, mut figures, mut present) = ([0.0; 4], [0.0; 24], [0.0; 4], [0u8; 4]);
-        assert_eq!(call(readings.as_mut_ptr(), work.as_mut_ptr(), figures.as_mut_ptr(), present.as_mut_ptr()), 0);
+        same_pair(wanted, |readings, _, work, figures, present| call(readings, work, figures, present))
+    }
+    fn same_pair(
+        wanted: Result<Vec<Option<f64>>, Refusal>,
+        call: impl FnOnce(*mut f64, *mut f64, *mut f64, *mut f64, *mut u8) -> u32,
+    ) {
+        let ([mut first, mut second], mut work, mut figures, mut present) = ([[0.0; 4]; 2], [0.0; 24], [0.0; 4], [0u8; 4]);
+        let (r, q) = (first.as_mut_ptr(), second.as_mut_ptr());
+        assert_eq!(call(r, q, work.as_mut_ptr(), figures.as_mut_ptr(), present.as_mut_ptr()), 0);
         for (row, answer) in wanted.expect("accepted").iter().enumerate() {
             assert_eq!((figures[row].to_bits(), present[row]), answer.map_or((0, 0), |x| (x.to_bits(), 1)));
         }
@@ -360,6 +525,21 @@ fn a_map_that_is_not_lent_is_not_looked_at() {
         same(rolling_var_weights(&trace, None, window, 1, &weights), |_, _, f, p| {
             abi::moments_rolling_var_weights(t, n, has_map, m, mn, 2, 1, false, w, 2, f, 4, p, 4)
         });
+        // one trace with a map, and the other's not looked at
+        let (ones, on) = (&[0b1011u8][..], 1);
+        let (o, pair) = (ones.as_ptr(), Some(ones));
+        same_pair(plan_pair(&trace, None, &trace, pair, rows, Setting::cov(1)), |r, q, x, f, p| {
+            abi::moments_plan_cov(b, bn, r, 4, false, m, mn, b, bn, q, 4, true, o, on, s, 2, e, 2, 1, 1, x, 24, f, 4, p, 4)
+        });
+        same_pair(plan_pair(&trace, pair, &trace, None, rows, Setting::pearson_corr()), |r, q, x, f, p| {
+            abi::moments_plan_pearson_corr(b, bn, r, 4, true, o, on, b, bn, q, 4, false, m, mn, s, 2, e, 2, 1, x, 24, f, 4, p, 4)
+        });
+        same_pair(rolling_pair(&trace, pair, &trace, None, window, Setting::cov(0)), |_, _, x, f, p| {
+            abi::moments_rolling_cov(t, n, true, o, on, t, n, false, m, mn, 2, 1, false, 0, x, 24, f, 4, p, 4)
+        });
+        same_pair(rolling_pair(&trace, None, &trace, None, window, Setting::pearson_corr()), |_, _, x, f, p| {
+            abi::moments_rolling_pearson_corr(t, n, false, m, mn, t, n, false, m, mn, 2, 1, false, x, 24, f, 4, p, 4)
+        });
         same_state(var(&trace, None), |s| abi::moments_var(t, n, has_map, m, mn, s));
         same_state(skew(&trace, None), |s| abi::moments_skew(t, n, has_map, m, mn, s));
         same_state(kurtosis(&trace, None), |s| abi::moments_kurtosis(t, n, has_map, m, mn, s));
@@ -384,6 +564,14 @@ fn a_nan_figure_has_one_pattern() {
             assert_eq!(words(&answers), words(&by_plan));
             assert_eq!(words(&answers)[1..3], [Some(NAN); 2]);
             assert!(answers[3..].iter().all(|x| x.is_some_and(f64::is_finite)), "a reading that has left the window");
+        }
+        for setting in PAIR_SETTINGS {
+            let finite = [2.0, 5.0, 4.0, 1.0, 3.0];
+            for (x, y) in [(trace, finite), (finite, trace), (trace, trace)] {
+                let answers = rolling_pair(&x, None, &y, None, Window::trailing(2), setting).expect("accepted");
+                assert_eq!(answers[1..3].iter().map(|x| x.map(f64::to_bits)).collect::<Vec<_>>(), [Some(NAN); 2]);
+                assert!(answers[3..].iter().all(|x| x.is_some_and(f64::is_finite)), "a pair that has left the window");
+            }
         }
         let weighted = rolling_var_weights(&trace, None, Window::trailing(2), 1, &[1.0, 1.0]).expect("accepted");
         assert_eq!(weighted[1..3].iter().map(|x| x.map(f64::to_bits)).collect::<Vec<_>>(), [Some(NAN); 2]);
@@ -429,7 +617,12 @@ fn any_input_is_answered_or_refused_by_a_known_number() {
         let rows_of =
             |result: Result<Vec<Option<f64>>, Refusal>, rows: usize| result.map(|answers| assert_eq!(answers.len(), rows));
         let (start, length) = (wild(&mut rng), wild(&mut rng));
+        let (asked, other) =
+            (PAIR_SETTINGS[below(&mut rng, 2)].min_periods(wild(&mut rng)), (rng.word() % 2 == 0).then_some(&[0xFF][..]));
+        let second = if rng.word() % 4 == 0 { &trace[n / 2..] } else { &trace[..] };
         for result in [
+            rows_of(plan_pair(&trace, map, second, other, Plan::new(&starts, &ends), asked), rows),
+            rows_of(rolling_pair(second, other, &trace, map, window, asked), n),
             rows_of(plan(&trace, map, Plan::new(&starts, &ends), setting), rows),
             rows_of(rolling(&trace, map, window, setting), n),
             rows_of(rolling_var_weights(&trace, map, window, setting.min_periods, &weights), n),
