@@ -21,6 +21,7 @@ pub mod TwoTraces
 pub mod Maps
 pub mod Examples
 pub mod Witnesses
+pub mod PairWitnesses
 pub mod Refused
 pub mod Padded
 pub mod Table

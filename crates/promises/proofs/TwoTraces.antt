@@ -18,12 +18,13 @@ use Rattle.moment.specs.Pearson.{pearsonEmpty, pearsonNew, pearsonCombine, pear
 use Rattle.moment.proofs.Weights.{CombineCounts, covWeight, pearsonWeight, cov-combine-count, pearson-combine-count, at-zero}
 use Rattle.moment.proofs.Figures.{cov-missing}
 use Rattle.plan.specs.Plan.{Plan, rows}
+use Rattle.plan.specs.Code.Accepted.{Planned}
 use Rattle.window.specs.Window.{Moment, rising, falling}
-use Rattle.window.specs.Given.{Pairs, Given}
-use Rattle.window.specs.Outputs.{Lent}
+use Rattle.window.specs.Given.{Pairs, Given, seriesOf, placesOf, givenRefusal}
+use Rattle.window.specs.Outputs.{Lent, answersIn, answersAt}
 use Rattle.rolling.specs.Moments.{Statistic, Variance, Skewness, Kurtosis, Covariance, Correlation, kindOf}
 use Rattle.rolling.specs.Moments.{pairMoment, covariance, correlation, correlationFinalize}
-use Rattle.rolling.specs.Calls.{query}
+use Rattle.rolling.specs.Calls.{query, figuresBy}
 use Rattle.rolling.proofs.Calls.{few-places}
 use Rattle.promises.specs.Calls.{AcceptedCall}
 use Rattle.promises.specs.DemandThree.{IsSetting}
@@ -94,6 +95,18 @@ correlation-by-weight =
     }
 
 -- ---- the statement
+figure-in : (M : Moment (Float × Float)) (final : M .State → Figure) (few : ℕ) → ByWeight M final few → (t : Given Pairs)
+    → givenRefusal Pairs t ≡ 0 → (p : Plan) (minPeriods widest : ℕ) → Planned (placesOf Pairs t) widest p → (l : Lent) (k : ℕ) → k < rows p
+    → answersIn (l .outputs .answers) k ≡ answersAt (figuresBy M (final ∷ []) (seriesOf Pairs t) minPeriods p) k
+    → PairFigureIn t p minPeriods few k l
+figure-in M final few by t g p minPeriods widest plan l k h stands =
+    record {
+      answer = _;
+      others = [];
+      stands = stands;
+      row = figure-row Pairs M final few by t p minPeriods widest plan (few-places Pairs t g) k h;
+    }
+
 where-pairs : (a : Statistic) → IsSetting a → (t : Given (kindOf a)) (p : Plan) (minPeriods : ℕ) (l : Lent)
     → AcceptedCall (query p minPeriods a) t l
     → (k : ℕ) → k < rows p → WherePairs a t p minPeriods k l
@@ -102,22 +115,12 @@ where-pairs (Skewness bias) set t p minPeriods l c k h = tt
 where-pairs (Kurtosis fisher bias) set t p minPeriods l c k h = tt
 where-pairs (Covariance ddof) byte t p minPeriods l c k h =
     let a = known (query p minPeriods (Covariance ddof)) t l c in
-    record {
-      answer = _;
-      others = [];
-      stands = a .answers k h;
-      row = figure-row Pairs covariance (λ s. covFinalize s ddof) ddof (cov-by-weight ddof byte) t p minPeriods (a .widest) (a .plan)
-          (few-places Pairs t (a .given-is)) k h;
-    }
+    figure-in covariance (λ s. covFinalize s ddof) ddof (cov-by-weight ddof byte) t (a .given-is) p minPeriods (a .widest) (a .plan) l k h
+    (a .answers k h)
 where-pairs Correlation set t p minPeriods l c k h =
     let a = known (query p minPeriods Correlation) t l c in
-    record {
-      answer = _;
-      others = [];
-      stands = a .answers k h;
-      row = figure-row Pairs correlation correlationFinalize 0 correlation-by-weight t p minPeriods (a .widest) (a .plan)
-          (few-places Pairs t (a .given-is)) k h;
-    }
+    figure-in correlation correlationFinalize 0 correlation-by-weight t (a .given-is) p minPeriods (a .widest) (a .plan) l k h
+    (a .answers k h)
 
 pub pair-statement : PairStatement
 pair-statement =

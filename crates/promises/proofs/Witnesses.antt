@@ -240,7 +240,7 @@ last-bit-open all = apart (all (λ i. cond (eqb i 2) false (validAt true (5 ∷ 
 
 -- ---- demand 3, of two calls
 -- the first answer's double, by its bits, and its byte
-abbrev firstBits : List Answer → ℕ
+abbrev pub firstBits : List Answer → ℕ
 firstBits [] = 0
 firstBits (a ∷ l) = toBits binary64 (a .double)
 
@@ -542,7 +542,7 @@ finite-row (suc (suc zero), s, e, v, f) = apart (sym f)
 finite-row (suc (suc (suc i)), s, e, v, f) = absurd (omega arith)
 
 -- an answer of its parts
-abbrev answer : Float → ℕ → Answer
+abbrev pub answer : Float → ℕ → Answer
 answer double byte = record { double = double; byte = byte }
 
 -- `VarianceRow`, computed: missing since the valid count is ddof, P7's row 2
