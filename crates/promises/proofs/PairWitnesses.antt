@@ -224,11 +224,11 @@ unfolding table refusal _orElse_ wrongMap planRefusal bounds fixedRefusal filled
 first-map-accepted = record { number-is = refl; plan-call = record { number-is = refl; left = leaves refl refl refl refl refl } }
 
 -- without a map row 1 is there
-pub no-map-accepted : CalledFixed false 2 2 (Covariance 0) (both (whole (1 ∷ 3 ∷ 5 ∷ [])) (whole (2 ∷ 6 ∷ 4 ∷ []))) (fourLent 12)
+pub neither-map-accepted : CalledFixed false 2 2 (Covariance 0) (both (whole (1 ∷ 3 ∷ 5 ∷ [])) (whole (2 ∷ 6 ∷ 4 ∷ []))) (fourLent 12)
     (fourLeft 12 (zero64 ∷ two64 ∷ ofBits binary64 0xBFF0000000000000 ∷ one64 ∷ []) (0 ∷ 1 ∷ 1 ∷ 7 ∷ [])) 0
 unfolding table refusal _orElse_ wrongMap planRefusal bounds fixedRefusal filled kept ofBits ofInt add sub mul div eq le covNew covCombine
     covFinalize entriesFrom splitAfter figureOf insertedPair nonfinitePair answerAt validAt bothAt
-no-map-accepted = record { number-is = refl; plan-call = record { number-is = refl; left = leaves refl refl refl refl refl } }
+neither-map-accepted = record { number-is = refl; plan-call = record { number-is = refl; left = leaves refl refl refl refl refl } }
 
 -- a place that each trace has and the other misses is valid in neither
 pub valid-in-both : validCount (seriesOf Pairs (both (mapped (1 ∷ 3 ∷ 5 ∷ []) 3) (mapped (2 ∷ 6 ∷ 4 ∷ []) 6)) .places) 0 3 ≡ 1
@@ -246,9 +246,9 @@ pub nan-call : AcceptedCall (covarianceBy badPlan 1 1) nanFirst nanLeft
 unfolding table ofBits ofInt
 nan-call = hostCall nan-accepted
 
-pub trailing-call : AcceptedCall (covarianceBy (planOf (0 ∷ 0 ∷ 1 ∷ []) (1 ∷ 2 ∷ 3 ∷ [])) 2 0) secondMap trailingLeft
+pub trailing-pair-call : AcceptedCall (covarianceBy (planOf (0 ∷ 0 ∷ 1 ∷ []) (1 ∷ 2 ∷ 3 ∷ [])) 2 0) secondMap trailingLeft
 unfolding table bounds
-trailing-call = fixedCall second-map-accepted
+trailing-pair-call = fixedCall second-map-accepted
 
 -- ---- the statement, of two calls
 -- 2, 4, 6, 8 and 9, 5, 7, 9: other than `pair7` at place 0, in the second trace only
@@ -281,15 +281,15 @@ disagree-pairs all =
     omega arith
 
 -- so row 1's answers are the same ..
-pub same-pairs : answersIn (cov7Left .outputs .answers) 1 ≡ answersIn (other7Left .outputs .answers) 1
-same-pairs =
+pub same-pair-rows : answersIn (cov7Left .outputs .answers) 1 ≡ answersIn (other7Left .outputs .answers) 1
+same-pair-rows =
     pair-statement .two (covarianceBy p7 1 1) tt pair7 other7 cov7Left other7Left alike-pairs cov7-call (planCall other7-accepted) 1
     (omega arith) agree-pairs
 
 -- .. and row 0's are not
-pub differ-pairs : answersIn (cov7Left .outputs .answers) 0 ≡ answersIn (other7Left .outputs .answers) 0 → ⊥
+pub differ-pair-rows : answersIn (cov7Left .outputs .answers) 0 ≡ answersIn (other7Left .outputs .answers) 0 → ⊥
 unfolding ofBits toBits ofInt
-differ-pairs same =
+differ-pair-rows same =
     let bits : _≡_ {A = ℕ} 0x4010000000000000 0xC010000000000000 = ap firstBits same in
     omega arith
 
@@ -302,8 +302,8 @@ Claim Enough =
     → answersIn (l .outputs .answers) k ≡ answersIn (l′ .outputs .answers) k
 
 -- the statement itself makes it with this
-pub enough : Claim (λ p t t′ k. Alike Pairs t t′ × Agree Pairs t t′ (rowStart p k) (rowEnd p k))
-enough p minPeriods t t′ l l′ c c′ k h e =
+pub enough-of-pairs : Claim (λ p t t′ k. Alike Pairs t t′ × Agree Pairs t t′ (rowStart p k) (rowEnd p k))
+enough-of-pairs p minPeriods t t′ l l′ c c′ k h e =
     pair-statement .two (covarianceBy p minPeriods 1) tt t t′ l l′ (e .0) c c′ k h (e .1)
 
 -- pairs that agree in their first members only
@@ -314,7 +314,7 @@ pub second-member-counts :
     × ((i : ℕ) → rowStart p k ≤ i → i < rowEnd p k → readingOf (t .x .readings) i ≡ readingOf (t′ .x .readings) i))
     → ⊥
 second-member-counts all =
-    differ-pairs
+    differ-pair-rows
     (all p7 1 pair7 other7 cov7Left other7Left cov7-call (planCall other7-accepted) 0 (omega arith) (alike-pairs, λ i s e. refl))
 
 -- Minimum 3, rows (0,0), (0,2), (1,4), over 0, 0, 0, 1 and 0, 0, 1, 0, the second with a map of ones or with none: row 1 moves the window
@@ -367,12 +367,12 @@ either-map-counts all =
     omega arith
 
 -- `Alike` is said of neither: a map in the second trace and none, and places that one second trace misses
-pub not-alike-maps : Alike Pairs noMaps ones → ⊥
-not-alike-maps a = apart (a .mapped)
+pub not-alike-pair-maps : Alike Pairs noMaps ones → ⊥
+not-alike-pair-maps a = apart (a .mapped)
 
-pub not-alike-places : Alike Pairs ones (both (ones .x) (mapped (0 ∷ 0 ∷ 1 ∷ 0 ∷ []) 13)) → ⊥
+pub not-alike-pair-places : Alike Pairs ones (both (ones .x) (mapped (0 ∷ 0 ∷ 1 ∷ 0 ∷ []) 13)) → ⊥
 unfolding validAt bothAt
-not-alike-places a = apart (sym (a .places 1 (omega arith)))
+not-alike-pair-places a = apart (sym (a .places 1 (omega arith)))
 
 -- ---- the statement, of one call
 -- `SomeNotFinite`: the first member, the second, and neither
@@ -468,8 +468,8 @@ inf-yielded =
     }
 
 -- and the statement said of a covariance, whose ddof is a byte, and of a correlation
-pub nan-row : PairFigureIn nanFirst badPlan 1 1 0 nanLeft
-nan-row = pair-statement .one (covarianceBy badPlan 1 1) tt nanFirst nanLeft (omega arith) nan-call 0 (omega arith) .figure
+pub nan-pair-row : PairFigureIn nanFirst badPlan 1 1 0 nanLeft
+nan-pair-row = pair-statement .one (covarianceBy badPlan 1 1) tt nanFirst nanLeft (omega arith) nan-call 0 (omega arith) .figure
 
 pub one-pair-row : PairFigureIn pair7 p7 1 0 2 corr7Left
 one-pair-row = pair-statement .one (correlationBy p7 1) tt pair7 corr7Left tt corr7-call 2 (omega arith) .figure
