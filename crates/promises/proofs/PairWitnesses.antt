@@ -36,7 +36,7 @@ use Rattle.promises.specs.Calls.{covList, pearsonList, AcceptedCall, pla
 use Rattle.promises.specs.DemandOne.{planChecks, hostChecks, fixedChecks, rowsChecks, FirstApplies, Answered, HostLeft}
 use Rattle.promises.specs.DemandThree.{Alike, Agree, SomeNotFinite}
 use Rattle.promises.specs.TwoTraces.{PairFigureIn, PairYielded}
-use Rattle.promises.specs.Maps.{padded, SameGiven, SameRows}
+use Rattle.promises.specs.Maps.{padded, SameGiven, SameHost, SameRows}
 use Rattle.promises.specs.Table.{p7}
 use Rattle.promises.proofs.DemandOne.{demand-one}
 use Rattle.promises.proofs.TwoTraces.{pair-statement}
@@ -577,3 +577,44 @@ unfolding table bounds
 second-maps =
     map-law .fixed false 2 2 (Covariance 0) secondMap behindSecond same-second (fourLent 12) trailingLeft (fourLent 12) trailingLeft
     (record { outputs = refl; work = refl }) 0 0 second-map-accepted behind-second-accepted
+
+-- a host call, the second trace with a map of ones or with more ones and a byte behind
+abbrev hostMap : List ℕ → Host Pairs
+hostMap map = record { x = nanBytes .x; y = record { bytes = nanBytes .y .bytes; mapped = true; map = map } }
+
+bits7 : (i : ℕ) → i < 3 → validAt true (7 ∷ []) i ≡ validAt true (255 ∷ 9 ∷ []) i
+unfolding validAt
+bits7 zero h = refl
+bits7 (suc zero) h = refl
+bits7 (suc (suc zero)) h = refl
+bits7 (suc (suc (suc i))) h = absurd (omega arith)
+
+pub same-hosts : SameHost Pairs (hostMap (7 ∷ [])) (hostMap (255 ∷ 9 ∷ []))
+unfolding table
+same-hosts = (
+  (refl, record { readings = refl; mapped = refl; long = λ w. apart (w .0); long′ = λ w. apart (w .0); bits = λ i h. refl }),
+  (
+    refl,
+    record { readings = refl; mapped = refl; long = λ w. omega (arith, w .1); long′ = λ w. omega (arith, w .1); bits = bits7 },
+  ),
+)
+
+abbrev decodedBoth : List Float × List Float
+decodedBoth = (nan ∷ reals (2 ∷ 4 ∷ []), reals (5 ∷ 2 ∷ 6 ∷ []))
+
+pub host-map-accepted : CalledBytes (covarianceBy badPlan 1 1) (hostMap (7 ∷ [])) (reals (7 ∷ 7 ∷ 7 ∷ []), reals (8 ∷ 8 ∷ 8 ∷ []))
+    decodedBoth (fourLent 12) nanLeft 0
+unfolding table refusal _orElse_ wrongMap planRefusal filled kept ofBits ofInt add sub mul div eq le covNew covCombine covFinalize
+    entriesFrom splitAfter figureOf insertedPair nonfinitePair answerAt validAt bothAt
+host-map-accepted = record { number-is = refl; readings-are = refl; left = leaves refl refl refl refl refl }
+
+pub host-behind-accepted : CalledBytes (covarianceBy badPlan 1 1) (hostMap (255 ∷ 9 ∷ [])) decodedBoth decodedBoth (fourLent 12) nanLeft 0
+unfolding table refusal _orElse_ wrongMap planRefusal filled kept ofBits ofInt add sub mul div eq le covNew covCombine covFinalize
+    entriesFrom splitAfter figureOf insertedPair nonfinitePair answerAt validAt bothAt
+host-behind-accepted = record { number-is = refl; readings-are = refl; left = leaves refl refl refl refl refl }
+
+pub host-maps : SameRows 2 nanLeft nanLeft 0 0
+unfolding table
+host-maps =
+    map-law .hosts (covarianceBy badPlan 1 1) (hostMap (7 ∷ [])) (hostMap (255 ∷ 9 ∷ [])) same-hosts _ decodedBoth _ decodedBoth refl
+    (fourLent 12) nanLeft (fourLent 12) nanLeft (record { outputs = refl; work = refl }) 0 0 host-map-accepted host-behind-accepted
