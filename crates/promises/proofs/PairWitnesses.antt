@@ -121,6 +121,13 @@ unfolding table refusal _orElse_ wrongMap planRefusal filled kept ofBits ofInt a
     pearsonFinalize entriesFrom splitAfter figureOf insertedPair nonfinitePair answerAt validAt bothAt
 corr7-accepted = record { number-is = refl; left = leaves refl refl refl refl refl }
 
+-- nor is it clipped: of 0, 0, 1 and 0, 0, 5 it is rounded to the double after 1
+pub above-one-accepted : Called (correlationBy (planOf (0 ∷ []) (3 ∷ [])) 1) (both (whole (0 ∷ 0 ∷ 1 ∷ [])) (whole (0 ∷ 0 ∷ 5 ∷ [])))
+    (fourLent 24) (fourLeft 24 (ofBits binary64 0x3FF0000000000001 ∷ reals (1 ∷ 1 ∷ 1 ∷ [])) (1 ∷ 7 ∷ 7 ∷ 7 ∷ [])) 0
+unfolding table refusal _orElse_ wrongMap planRefusal filled kept ofBits ofInt add sub mul div eq lt root pearsonNew pearsonCombine
+    pearsonFinalize entriesFrom splitAfter figureOf insertedPair nonfinitePair answerAt validAt bothAt
+above-one-accepted = record { number-is = refl; left = leaves refl refl refl refl refl }
+
 -- "the minimum applies to both": a minimum of 3 is above every row's count
 pub cov7-minimum : Called (covarianceBy p7 3 0) pair7 (fourLent 12) (fourLeft 12 (reals (0 ∷ 0 ∷ 0 ∷ 1 ∷ [])) (0 ∷ 0 ∷ 0 ∷ 7 ∷ [])) 0
 unfolding table refusal _orElse_ wrongMap planRefusal filled kept ofBits ofInt add sub mul div eq le covNew covCombine covFinalize
