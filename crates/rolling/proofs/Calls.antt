@@ -23,13 +23,13 @@ use Rattle.rolling.specs.Fixed.{fixedQuery, CalledFixed}
 use Rattle.rolling.specs.Code.Rows.{planBy, Driven}
 use Rattle.rolling.specs.declared.row.Rows.{Rows}
 
-neither : (a b : Bool) → (a || b) ≡ false → (a ≡ false) × (b ≡ false)
+pub neither : (a b : Bool) → (a || b) ≡ false → (a ≡ false) × (b ≡ false)
 neither true b e = absurd (true≢false e)
 neither false b e = (refl, e)
 
 -- two traces that are not refused have one length
-pub same-length : (t : Given Pairs) → givenRefusal Pairs t ≡ 0 → length (t .x .readings) ≡ length (t .y .readings)
-same-length t z = pair-fits _ _ _ _ _ _ _ refl z
+pub one-length : (t : Given Pairs) → givenRefusal Pairs t ≡ 0 → length (t .x .readings) ≡ length (t .y .readings)
+one-length t z = pair-fits _ _ _ _ _ _ _ refl z
 
 -- what is given has no more places than a plan may have rows
 pub few-places : (kind : Kind) (t : Given kind) → givenRefusal kind t ≡ 0 → placesOf kind t ≤ 16777216

@@ -22,7 +22,7 @@ use Rattle.window.specs.declared.Window.{Window}
 use Rattle.window.proofs.Rows.{stand-start}
 use Rattle.window.proofs.Steps.{Working, work-starts, work-done, work-listed, work-movable, work-fits, work-next, work-answer}
 use Rattle.window.proofs.Outputs.{fills-none, fills-next, fills-all}
-use Rattle.rolling.specs.Code.Rows.{planBy, RowIn, RowBounds, Driven, rowAnswer, CanWork, HasWorked, Works}
+use Rattle.rolling.specs.Code.Rows.{bothHave, planBy, RowIn, RowBounds, Driven, rowAnswer, CanWork, HasWorked, Works}
 use Rattle.rolling.specs.declared.row.Rows.{Rows}
 
 -- as many rows as `how_many` answers
@@ -125,6 +125,14 @@ module _ {A : Type 0} (M : Stored Float A) (final : M .moment .State → Figure)
                   figures-are = fills-next (λ j. doubleOf (Answer j)) first k figures₀ figures figures' (doubleOf f) (v .figures-are) (ap doubleOf a) (o .figures-are);
                   present-are = fills-next (λ j. byteOf (Answer j)) first k present₀ present present' (byteOf f) (v .present-are) (ap byteOf a) (o .present-are);
                 }
+
+-- two lists of readings of one length have as many places as one of them
+pub within-both : {A : Type 0} (M : Stored Float A) (t : Series A) (xs ys : List Float) → length xs ≡ length ys
+    → {s e widest : ℕ} {w : Window} {agg : M .moment .State} {work : List Float}
+    → Movable M t s e (length xs) widest w agg work → Movable M t s e (bothHave xs ys) widest w agg work
+within-both M t xs ys same {s} {e} {widest} {w} {agg} {work} m =
+    let h : length xs ≡ bothHave xs ys = omega arith in
+    subst (λ (n : ℕ). Movable M t s e n widest w agg work) h m
 
 -- ---- all rows
 module _ {A : Type 0} (M : Stored Float A) (t : Series A) (n : ℕ) (r : Rows) (starts ends : List ℕ) {outputs : ℕ} {work₀ : List Float}

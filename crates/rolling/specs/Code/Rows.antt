@@ -1,5 +1,5 @@
 -- What the row loops of every moment say of a call's rows: where they may begin, and what they leave. Assumes nothing.
-use Prim.Native.Nat.{ℕ, _+_, _*_, _^_, _≤_, _<_}
+use Prim.Native.Nat.{ℕ, _+_, _*_, _^_, _≤_, _<_, min}
 use mathlib.Core.Path.{_≡_}
 use mathlib.Core.Bool.{Bool}
 use mathlib.Core.List.{List}
@@ -38,6 +38,10 @@ pairSeriesIn has map xs has' map' ys = pairSeries has (entering map) (entering x
 
 abbrev pub pairPlacesIn : Bool → Slice ℕ → Slice Float → Bool → Slice ℕ → Slice Float → Places
 pairPlacesIn has map xs has' map' ys = pairPlaces has (entering map) (entering xs) has' (entering map') (entering ys)
+
+-- how many places two lists of readings both have
+abbrev pub bothHave : List Float → List Float → ℕ
+bothHave xs ys = min (length xs) (length ys)
 
 -- a range of n places
 pub record Range (a b n : ℕ) : Type 0 where
@@ -97,10 +101,6 @@ pub record Driven (r : Rows) (n : ℕ) (starts ends : List ℕ) (outputs width w
   pub outputs-fit : rows (planBy r n starts ends) ≤ outputs
   pub work-fits : width * r .widest ≤ work
   pub few : n ≤ 16777216
-
--- what an accepted call on two traces of so many readings tells beside: they have the same length
-abbrev pub SameLength : List Float → List Float → Type 0
-SameLength xs ys = length xs ≡ length ys
 
 -- row k's answer, over n places
 abbrev pub rowAnswer : {A : Type 0} → (M : Stored Float A) → (M .moment .State → Figure) → Series A → ℕ → Rows → List ℕ → List ℕ → ℕ → Figure
