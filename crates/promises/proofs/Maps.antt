@@ -24,7 +24,6 @@ use Rattle.window.specs.Outputs.{Lent, answersAt, shortestOutput}
 use Rattle.rolling.specs.Moments.{Statistic, kindOf, workWidth}
 use Rattle.rolling.specs.Calls.{Query, query, GivenTo, refusalOf, Called}
 use Rattle.rolling.specs.Fixed.{fixedQuery, CalledFixed}
-use Rattle.rolling.proofs.Calls.{same-length}
 use Rattle.weighted.specs.Weights.{totalOf, weightedAt, weightsRefusal, CalledWeights}
 use Rattle.moments.specs.HostCall.{Host, decodedOf, oddBytes, ReadingLists, shortLists, CalledBytes}
 use Rattle.moments.specs.Results.{StateResult}
@@ -146,7 +145,7 @@ given-alike : (kind : Kind) (t t′ : Given kind) → SameGiven kind t t′ → 
 unfolding bothAt
 given-alike Readings t t′ s z = record { long = given-long Readings t t′ s; places = s .bits; mapped = s .mapped }
 given-alike Pairs t t′ s z =
-    let l = same-length t z in
+    let l : length (t .x .readings) ≡ length (t .y .readings) = pair-fits _ _ _ _ _ _ _ refl z in
     record {
       long = given-long Pairs t t′ s;
       places = λ i h. rw (s .0 .bits i h, s .1 .bits i (omega arith));
