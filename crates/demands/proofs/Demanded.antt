@@ -3,6 +3,7 @@ use Prim.Native.Nat.{ℕ, _^_, _<_}
 use mathlib.Core.Path.{_≡_, sym, _∙_, subst}
 use mathlib.Core.Bool.{Bool, true}
 use mathlib.Core.List.{List}
+use mathlib.Core.Logic.{_⊎_, inl, inr, ⊎-elim}
 use lib.Dec.{T}
 use lib.Ieee.{Float, nan, binary64, fits}
 use Rattle.trace.specs.Trace.{Trace}
@@ -27,22 +28,39 @@ use Rattle.promises.specs.DemandTwo.{CorrectRoot}
 use Rattle.plan.specs.Bounds.{bounds}
 use Rattle.window.specs.Given.{Given}
 use Rattle.window.specs.Outputs.{Column, Lent}
-use Rattle.rolling.specs.Moments.{Statistic, kindOf}
+use Rattle.rolling.specs.Moments.{Statistic, Variance, Skewness, Kurtosis, Covariance, Correlation, kindOf}
 use Rattle.rolling.specs.Calls.{Query, query, GivenTo, Called}
 use Rattle.rolling.specs.Fixed.{fixedQuery, CalledFixed}
 use Rattle.weighted.specs.Weights.{CalledWeights}
 use Rattle.moments.specs.HostCall.{Host, decodedOf, ReadingLists, CalledBytes}
 use Rattle.moments.specs.Results.{FigureResult}
-use Rattle.promises.specs.DemandThree.{IsSetting}
+use Rattle.promises.specs.DemandThree.{Alike, SameAnswers, IsSetting}
 use Rattle.promises.specs.Calls.{CallsVar, CallsSkew, CallsKurtosis, CallsCov, CallsPearson, CallsSkewRange, CallsKurtosisRange}
-use Rattle.promises.specs.Calls.{AcceptedCall, planCall, hostCall, fixedCall}
+use Rattle.promises.specs.Calls.{OfOneTrace, OfTwoTraces, AcceptedCall, planCall, hostCall, fixedCall}
 use Rattle.promises.proofs.DemandOne.{demand-one}
 use Rattle.promises.proofs.DemandTwo.{demand-two}
 use Rattle.promises.proofs.DemandThree.{demand-three}
+use Rattle.promises.proofs.TwoTraces.{pair-statement}
 use Rattle.promises.proofs.Maps.{map-law}
 use Rattle.demands.specs.Meets.{MeetsHost, MeetTwoHosts, MeetsPlan, MeetTwoPlans, MeetsFixed, MeetTwoFixed, MeetsWeights}
 use Rattle.demands.specs.Meets.{MeetTwoWeights, MeetsState, MeetsFigure, MeetsRoot, MeetTwoMaps, MeetTwoPairs}
 use Rattle.demands.specs.Meets.{MeetsArray, ofVar, ofSkew, ofKurtosis, ofCov, ofPearson, ofSkewRange, ofKurtosisRange}
+
+-- ---- two calls
+-- a figure is of one trace or of two
+of-traces : (a : Statistic) → OfOneTrace a ⊎ OfTwoTraces a
+of-traces (Variance ddof) = inl tt
+of-traces (Skewness bias) = inl tt
+of-traces (Kurtosis fisher bias) = inl tt
+of-traces (Covariance ddof) = inr tt
+of-traces Correlation = inr tt
+
+-- so demand 3 or the statement for pairs of traces speaks of both
+same-answers : (q : Query) (t t′ : GivenTo q) (l l′ : Lent) → Alike (kindOf (q .statistic)) t t′ → AcceptedCall q t l
+    → AcceptedCall q t′ l′ → SameAnswers q t t′ l l′
+same-answers q t t′ l l′ alike c c′ =
+    ⊎-elim (λ one. demand-three .two q one t t′ l l′ alike c c′) (λ pairs. pair-statement .two q pairs t t′ l l′ alike c c′)
+    (of-traces (q .statistic))
 
 -- ---- host calls
 host-accepted : {q : Query} {h : Host (kindOf (q .statistic))} {r₀ r : ReadingLists (kindOf (q .statistic))} {l₀ l : Lent} {number : ℕ}
@@ -54,8 +72,9 @@ pub host-meets : {q : Query} {h : Host (kindOf (q .statistic))} {r₀ r : Readin
 host-meets {q} {h} {r₀} {r} {l₀} {l} {number} c set =
     record {
       one = demand-one .hosts q h r₀ r l₀ l number c;
-      two = λ e rust. demand-two .plans rust q (decodedOf (kindOf (q .statistic)) h) l (host-accepted c e);
-      three = λ e. demand-three .one q (decodedOf (kindOf (q .statistic)) h) l set (host-accepted c e);
+      two = λ e rust one. demand-two .plans rust q one (decodedOf (kindOf (q .statistic)) h) l (host-accepted c e);
+      three = λ e one. demand-three .one q one (decodedOf (kindOf (q .statistic)) h) l set (host-accepted c e);
+      pairs = λ e two. pair-statement .one q two (decodedOf (kindOf (q .statistic)) h) l set (host-accepted c e);
     }
 
 pub two-hosts-meet : {q : Query} {h h′ : Host (kindOf (q .statistic))} {r₀ r r₀′ r′ : ReadingLists (kindOf (q .statistic))}
@@ -66,7 +85,7 @@ two-hosts-meet {q} {h} {h′} {r₀} {r} {r₀′} {r′} {l₀} {l} {l₀′} {
       first = host-meets c set;
       second = host-meets c′ set;
       both = λ alike e e′.
-          demand-three .two q (decodedOf (kindOf (q .statistic)) h) (decodedOf (kindOf (q .statistic)) h′) l l′ alike (host-accepted c e)
+          same-answers q (decodedOf (kindOf (q .statistic)) h) (decodedOf (kindOf (q .statistic)) h′) l l′ alike (host-accepted c e)
           (host-accepted c′ e′);
       maps = λ s short room. map-law .hosts q h h′ s r₀ r r₀′ r′ short l₀ l l₀′ l′ room number number′ c c′;
     }
@@ -80,8 +99,9 @@ pub plan-meets : {q : Query} {t : GivenTo q} {l₀ l : Lent} {number : ℕ} → 
 plan-meets {q} {t} {l₀} {l} {number} c set =
     record {
       one = demand-one .plans q t l₀ l number c;
-      two = λ e rust. demand-two .plans rust q t l (plan-accepted c e);
-      three = λ e. demand-three .one q t l set (plan-accepted c e);
+      two = λ e rust one. demand-two .plans rust q one t l (plan-accepted c e);
+      three = λ e one. demand-three .one q one t l set (plan-accepted c e);
+      pairs = λ e two. pair-statement .one q two t l set (plan-accepted c e);
     }
 
 pub two-plans-meet : {q : Query} {t t′ : GivenTo q} {l₀ l l₀′ l′ : Lent} {number number′ : ℕ} → Called q t l₀ l number
@@ -90,7 +110,7 @@ two-plans-meet {q} {t} {t′} {l₀} {l} {l₀′} {l′} {number} {number′} c
     record {
       first = plan-meets c set;
       second = plan-meets c′ set;
-      both = λ alike e e′. demand-three .two q t t′ l l′ alike (plan-accepted c e) (plan-accepted c′ e′);
+      both = λ alike e e′. same-answers q t t′ l l′ alike (plan-accepted c e) (plan-accepted c′ e′);
       maps = λ s room. map-law .plans q t t′ s l₀ l l₀′ l′ room number number′ c c′;
     }
 
@@ -106,8 +126,9 @@ module _ {center : Bool} {size minPeriods : ℕ} {a : Statistic} where
   fixed-meets {t} {l₀} {l} {number} c small set =
       record {
         one = demand-one .fixed center size minPeriods a t l₀ l number c;
-        two = λ e rust. demand-two .fixed rust center size minPeriods a t l₀ l small (fixed-zero c e);
-        three = λ e. demand-three .one (fixedQuery center size minPeriods a t) t l set (fixedCall (fixed-zero c e));
+        two = λ e rust one. demand-two .fixed rust center size minPeriods a one t l₀ l small (fixed-zero c e);
+        three = λ e one. demand-three .one (fixedQuery center size minPeriods a t) one t l set (fixedCall (fixed-zero c e));
+        pairs = λ e two. pair-statement .one (fixedQuery center size minPeriods a t) two t l set (fixedCall (fixed-zero c e));
       }
 
   -- equal lengths have the same bounds
@@ -120,7 +141,7 @@ module _ {center : Bool} {size minPeriods : ℕ} {a : Statistic} where
         first = fixed-meets c small set;
         second = fixed-meets c′ small set;
         both = λ alike e e′.
-            demand-three .two (fixedQuery center size minPeriods a t) t t′ l l′ alike (fixedCall (fixed-zero c e))
+            same-answers (fixedQuery center size minPeriods a t) t t′ l l′ alike (fixedCall (fixed-zero c e))
             (subst (λ (n : ℕ). AcceptedCall (query (bounds center size n) minPeriods a) t′ l′) (sym (alike .long))
             (fixedCall (fixed-zero c′ e′)));
         maps = λ s room. map-law .fixed center size minPeriods a t t′ s l₀ l l₀′ l′ room number number′ c c′;

@@ -1,6 +1,7 @@
--- What the three demands and the law of maps say of calls, each as the contract of a function of this crate that makes them: demands 1, 2
--- and 3 of a call without weights, 3 also of two such calls, 1 and 2 of the others, and the law of any two that are lent maps. What they
--- mean is in `promises` DemandOne, DemandTwo, DemandThree and Maps. Lists that are lent come as (before, after). Assumes nothing.
+-- What the three demands, the statement for pairs of traces and the law of maps say of calls, each as the contract of a function of this
+-- crate that makes them: demands 1, 2 and 3 of a call without weights, 3 also of two such calls, or for 2 and 3 the statement, where the
+-- figure is of two traces; 1 and 2 of the others, and the law of any two that are lent maps. What they mean is in `promises` DemandOne,
+-- DemandTwo, DemandThree, TwoTraces and Maps. Lists that are lent come as (before, after). Assumes nothing.
 use Prim.Native.Nat.{ℕ, _<_}
 use mathlib.Core.Path.{_≡_}
 use mathlib.Core.Bool.{Bool}
@@ -25,11 +26,13 @@ use Rattle.moments.specs.HostCall.{Host, decodedOf, ReadingLists}
 use Rattle.moments.specs.Results.{FigureResult}
 use Rattle.promises.specs.Rust.{Rust}
 use Rattle.promises.specs.Calls.{readingsOf, readingsIn, pairsOf, varList, skewList, kurtosisList, covList, pearsonList}
+use Rattle.promises.specs.Calls.{OfOneTrace, OfTwoTraces}
 use Rattle.promises.specs.DemandOne.{Check, traceChecks, pairChecks, rangeChecks, planChecks, hostChecks, fixedChecks, weightsChecks}
 use Rattle.promises.specs.DemandOne.{Answered, HostLeft}
 use Rattle.promises.specs.DemandTwo.{sourceVar, sourceSkew, sourceKurtosis, sourceCov, sourcePearson, sourceSkewRange, sourceKurtosisRange}
 use Rattle.promises.specs.DemandTwo.{RowsEqual, FixedRowsEqual, WeightedRowsEqual, CorrectRoot}
 use Rattle.promises.specs.DemandThree.{Alike, SameAnswers, Yielded}
+use Rattle.promises.specs.TwoTraces.{PairYielded}
 use Rattle.promises.specs.Maps.{SameMaps, SameGiven, SameHost, SameRoom, SameReadingRoom, SameColumnRoom, SameAnswer, SameColumns, SameRows}
 
 -- ---- host calls
@@ -38,10 +41,14 @@ pub record MeetsHost (q : Query) (h : Host (kindOf (q .statistic)))
     (r : ReadingLists (kindOf (q .statistic)) × ReadingLists (kindOf (q .statistic))) (l : Lent × Lent) (number : ℕ) : Type 0 where
   pub one : Answered (hostChecks q h (r .0) (l .0)) number {A = ReadingLists (kindOf (q .statistic)) × Lent} (r .0, l .0) (r .1, l .1)
       (HostLeft q h (r .0) (r .1) (l .0) (l .1))
-  pub two : number ≡ 0 → (rust : Rust) → RowsEqual rust q (decodedOf (kindOf (q .statistic)) h) (l .1)
-  pub three : number ≡ 0 → (k : ℕ) → k < rows (q .plan) → Yielded q (decodedOf (kindOf (q .statistic)) h) (l .1) k
+  pub two : number ≡ 0 → (rust : Rust) (one : OfOneTrace (q .statistic)) → RowsEqual rust q one (decodedOf (kindOf (q .statistic)) h) (l .1)
+  pub three : number ≡ 0 → OfOneTrace (q .statistic) → (k : ℕ) → k < rows (q .plan)
+      → Yielded q (decodedOf (kindOf (q .statistic)) h) (l .1) k
+  pub pairs : number ≡ 0 → OfTwoTraces (q .statistic) → (k : ℕ) → k < rows (q .plan)
+      → PairYielded q (decodedOf (kindOf (q .statistic)) h) (l .1) k
 
--- two, with the same plan, the same setting and the same figure: of each what is said of one, and of both demand 3 and the law of maps
+-- two, with the same plan, the same setting and the same figure: of each what is said of one, of both demand 3 or the statement for pairs
+-- of traces, and the law of maps
 pub record MeetTwoHosts (q : Query) (h h′ : Host (kindOf (q .statistic)))
     (r r′ : ReadingLists (kindOf (q .statistic)) × ReadingLists (kindOf (q .statistic))) (l l′ : Lent × Lent)
     (number number′ : ℕ) : Type 0 where
@@ -57,8 +64,9 @@ pub record MeetTwoHosts (q : Query) (h h′ : Host (kindOf (q .statistic)))
 -- one
 pub record MeetsPlan (q : Query) (t : GivenTo q) (l : Lent × Lent) (number : ℕ) : Type 0 where
   pub one : Answered (planChecks q t (l .0)) number (l .0) (l .1) (Left q t (l .0) (l .1) 0)
-  pub two : number ≡ 0 → (rust : Rust) → RowsEqual rust q t (l .1)
-  pub three : number ≡ 0 → (k : ℕ) → k < rows (q .plan) → Yielded q t (l .1) k
+  pub two : number ≡ 0 → (rust : Rust) (one : OfOneTrace (q .statistic)) → RowsEqual rust q one t (l .1)
+  pub three : number ≡ 0 → OfOneTrace (q .statistic) → (k : ℕ) → k < rows (q .plan) → Yielded q t (l .1) k
+  pub pairs : number ≡ 0 → OfTwoTraces (q .statistic) → (k : ℕ) → k < rows (q .plan) → PairYielded q t (l .1) k
 
 -- two
 pub record MeetTwoPlans (q : Query) (t t′ : GivenTo q) (l l′ : Lent × Lent) (number number′ : ℕ) : Type 0 where
@@ -73,9 +81,11 @@ pub record MeetsFixed (center : Bool) (windowSize minPeriods : ℕ) (a : Statist
     (number : ℕ) : Type 0 where
   pub one : Answered (fixedChecks windowSize a t (l .0)) number (l .0) (l .1)
       (Left (fixedQuery center windowSize minPeriods a t) t (l .0) (l .1) 0)
-  pub two : number ≡ 0 → (rust : Rust) → FixedRowsEqual rust center windowSize minPeriods a t (l .1)
-  pub three : number ≡ 0 → (k : ℕ) → k < rows (fixedQuery center windowSize minPeriods a t .plan)
+  pub two : number ≡ 0 → (rust : Rust) (one : OfOneTrace a) → FixedRowsEqual rust center windowSize minPeriods a one t (l .1)
+  pub three : number ≡ 0 → OfOneTrace a → (k : ℕ) → k < rows (fixedQuery center windowSize minPeriods a t .plan)
       → Yielded (fixedQuery center windowSize minPeriods a t) t (l .1) k
+  pub pairs : number ≡ 0 → OfTwoTraces a → (k : ℕ) → k < rows (fixedQuery center windowSize minPeriods a t .plan)
+      → PairYielded (fixedQuery center windowSize minPeriods a t) t (l .1) k
 
 -- two, over traces of equal length, whose plan is then the same
 pub record MeetTwoFixed (center : Bool) (windowSize minPeriods : ℕ) (a : Statistic) (t t′ : Given (kindOf a)) (l l′ : Lent × Lent)

@@ -27,15 +27,16 @@ use Rattle.moment.specs.Arrays.{skewWhole, skewNumber, skewMembers, kurtosisWho
 use Rattle.plan.specs.Plan.{Plan, rows, rowStart, rowEnd}
 use Rattle.plan.specs.Refusals.{rowRefusal, before, rowsRefusal, needed, planRefusal, fixedRefusal}
 use Rattle.plan.proofs.Checks.{below-min}
-use Rattle.window.specs.Given.{Kind, Readings, Given, seriesOf, placesOf, givenRefusal}
+use Rattle.window.specs.Given.{Kind, Readings, Pairs, Given, seriesOf, placesOf, givenRefusal}
 use Rattle.window.specs.Outputs.{Column, Outputs, Lent, answerLengths, countLengths, shortest, shortestOf, shortestOutput, columnAfter}
 use Rattle.window.specs.Outputs.{kept}
 use Rattle.window.proofs.Outputs.{unfilled, column-is, answered-refused, numbered-refused}
-use Rattle.rolling.specs.Moments.{Statistic, Variance, Skewness, Kurtosis, kindOf, momentOf, finalsOf, workWidth}
+use Rattle.rolling.specs.Moments.{Statistic, Variance, Skewness, Kurtosis, Covariance, Correlation, kindOf, momentOf, finalsOf, workWidth}
 use Rattle.rolling.specs.Calls.{Query, GivenTo, figuresBy, yields, tallies, Left, Called}
 use Rattle.rolling.specs.Fixed.{fixedQuery, CalledFixed}
 use Rattle.weighted.specs.Weights.{weightedAt, weightsRefusal, CalledWeights}
-use Rattle.moments.specs.HostCall.{Host, readingCount, decodedOf, oddBytes, ReadingLists, shortLists, decodedLists, CalledBytes}
+use Rattle.moments.specs.HostCall.{ByteTrace, readingCount, Host, decodedOf, oddBytes, ReadingLists, shortLists, decodedList}
+use Rattle.moments.specs.HostCall.{decodedLists, CalledBytes}
 use Rattle.moments.specs.Results.{StateResult}
 use Rattle.promises.specs.Calls.{readingsOf, readingsIn, pairsOf, varList, skewList, kurtosisList, covList, pearsonList}
 use Rattle.promises.specs.DemandOne.{MapOfWrongLength, WrongLists, BelowRowBefore, SomeShorter, OutputShorter, Check, _when_}
@@ -142,15 +143,16 @@ map-wrong-true t (e, h) = rw e (lt-ltb _ _ h)
 trace-says : (t : Trace) → Says (traceChecks t) (traceRefusal t)
 trace-says t = more 1 _ _ (some 0) next check 3 _ (some 2) (map-wrong t) (map-wrong-true t)
 
-given-says : (kind : Kind) (t : Given kind) → Says (givenChecks kind t) (givenRefusal kind t)
-given-says Readings t = trace-says t
-
 pair-says : (x y : Trace)
     → Says (pairChecks x y) (pairRefusal (length (x .readings)) (x .mapped) (x .map) (length (y .readings)) (y .mapped) (y .map))
 pair-says x y =
     check 1 _ (some 0) (either _ _ (ltb-true _ _) (ltb-true _ _)) (either-true _ _ (lt-ltb _ _) (lt-ltb _ _))
     next check 2 _ (some 1) (differ _ _) (differ-true _ _)
     next check 3 _ (some 2) (either _ _ (map-wrong x) (map-wrong y)) (either-true _ _ (map-wrong-true x) (map-wrong-true y))
+
+given-says : (kind : Kind) (t : Given kind) → Says (givenChecks kind t) (givenRefusal kind t)
+given-says Readings t = trace-says t
+given-says Pairs t = pair-says (t .x) (t .y)
 
 range-says : (t : Trace) (start len : ℕ)
     → Says (rangeChecks t start len) (rangeRefusal (length (t .readings)) (t .mapped) (t .map) start len)
@@ -241,6 +243,8 @@ some-figure : (a : Statistic) (t : Given (kindOf a)) (minPeriods : ℕ) (p : Pla
 some-figure (Variance ddof) t minPeriods p = omega arith
 some-figure (Skewness bias) t minPeriods p = omega arith
 some-figure (Kurtosis fisher bias) t minPeriods p = omega arith
+some-figure (Covariance ddof) t minPeriods p = omega arith
+some-figure Correlation t minPeriods p = omega arith
 
 some-list : (q : Query) (t : GivenTo q) (l₀ l : Lent) (number : ℕ) → Left q t l₀ l number → 0 < length (l₀ .outputs .answers)
 some-list q t l₀ l number w =
@@ -287,6 +291,7 @@ lists-order P Q = inr (inr (inr (inr (inl (refl, inl (refl, tt))))))
 
 given-order : (kind : Kind) (t : Given kind) → InOrder (givenChecks kind t) (1 ∷ 2 ∷ 3 ∷ [])
 given-order Readings t = inl (refl, inr (inl (refl, tt)))
+given-order Pairs t = inl (refl, inl (refl, inl (refl, tt)))
 
 planned-order : (kind : Kind) (t : Given kind) (n : ℕ) (Short : Type 0) (q : Query) (l : Lent)
     → InOrder (plannedChecks (givenChecks kind t) n Short q l)
@@ -378,19 +383,26 @@ plans q t l₀ l r c =
     (outputs-short-true (rows (q .plan)) (l₀ .outputs) h) in
     answered (subst (Says (planChecks q t l₀)) (sym (c .number-is)) says) (left-zero q t l₀ l r (c .left)) (lent-kept q t l₀ l r (c .left))
 
--- 14 and the reading list, by the kind
+-- 14 and the reading lists, by the kind
 odd-says : (kind : Kind) (h : Host kind) → Says (14 when NoWholeReadings kind h ∷ []) (refusal 14 (oddBytes kind h))
 odd-says Readings h = check 14 _ (some 13) (differ _ _) (differ-true _ _)
+odd-says Pairs h = check 14 _ (some 13) (either _ _ (differ _ _) (differ _ _)) (either-true _ _ (differ-true _ _) (differ-true _ _))
 
 short-readings : (kind : Kind) (h : Host kind) (r : ReadingLists kind) → shortLists kind h r ≡ true → ReadingsShorter kind h r
 short-readings Readings h r = ltb-true _ _
+short-readings Pairs h r = either _ _ (ltb-true _ _) (ltb-true _ _)
 
 short-readings-true : (kind : Kind) (h : Host kind) (r : ReadingLists kind) → ReadingsShorter kind h r → shortLists kind h r ≡ true
 short-readings-true Readings h r = lt-ltb _ _
+short-readings-true Pairs h r = either-true _ _ (lt-ltb _ _) (lt-ltb _ _)
+
+list-kept : (h : ByteTrace) (l : List Float) (number : ℕ) → ¬ (number ≡ 0) → decodedList number h l ≡ l
+list-kept h l number some = sym (unfilled (readingAt (h .bytes)) number (readingCount h) l some)
 
 readings-kept : (kind : Kind) (h : Host kind) (r₀ r : ReadingLists kind) (number : ℕ) → r ≡ decodedLists kind number h r₀
     → ¬ (number ≡ 0) → r ≡ r₀
-readings-kept Readings h r₀ r number e some = e ∙ sym (unfilled (readingAt (h .bytes)) number (readingCount h) r₀ some)
+readings-kept Readings h r₀ r number e some = e ∙ list-kept h r₀ number some
+readings-kept Pairs h r₀ r number e some = e ∙ rw (list-kept (h .x) (r₀ .0) number some, list-kept (h .y) (r₀ .1) number some)
 
 hosts : (q : Query) (h : Host (kindOf (q .statistic))) (r₀ r : ReadingLists (kindOf (q .statistic))) (l₀ l : Lent) (number : ℕ)
     → CalledBytes q h r₀ r l₀ l number

@@ -29,7 +29,8 @@ use Rattle.window.specs.Window.{Moment}
 use Rattle.window.specs.Given.{Readings, Given, seriesOf, placesOf, givenRefusal}
 use Rattle.window.specs.Outputs.{Column, Lent, Answer, ofFigure, answersIn, answersAt}
 use Rattle.window.proofs.Outputs.{_then_}
-use Rattle.rolling.specs.Moments.{Statistic, Variance, Skewness, Kurtosis, variance, skewness, kurtosis, kindOf, momentOf, finalsOf}
+use Rattle.rolling.specs.Moments.{Statistic, Variance, Skewness, Kurtosis, Covariance, Correlation, variance, skewness, kurtosis}
+use Rattle.rolling.specs.Moments.{kindOf, momentOf, finalsOf}
 use Rattle.rolling.specs.Calls.{Query, GivenTo, figuresBy}
 use Rattle.rolling.specs.Fixed.{fixedQuery, CalledFixed}
 use Rattle.rolling.proofs.Calls.{few-places}
@@ -44,9 +45,9 @@ use Rattle.promises.specs.SourceRows.{planRow, rowOf}
 use Rattle.promises.specs.SourceFixed.{fixedRow}
 use Rattle.promises.specs.SourceWeights.{rollingVarWeights}
 use Rattle.promises.specs.Calls.{readingsOf, readingsIn, pairsOf, varList, skewList, kurtosisList, covList, pearsonList}
-use Rattle.promises.specs.Calls.{AcceptedCall, fixedCall}
+use Rattle.promises.specs.Calls.{OfOneTrace, AcceptedCall, fixedCall}
 use Rattle.promises.specs.DemandTwo.{StatesEqual, ArraysEqual, RangesEqual, varianceMoment, skewMoment, kurtosisMoment, sourceRows}
-use Rattle.promises.specs.DemandTwo.{sourceFixedRows, CorrectRoot, DemandTwo}
+use Rattle.promises.specs.DemandTwo.{sourceFixedRows, RowsEqual, FixedRowsEqual, CorrectRoot, DemandTwo}
 use Rattle.promises.proofs.SourceStates.{var-insert, var-combine, var-finalize, cov-insert, cov-combine, cov-finalize}
 use Rattle.promises.proofs.SourceStates.{pearson-insert, pearson-combine, pearson-finalize, skew-insert, skew-combine, skew-finalize}
 use Rattle.promises.proofs.SourceStates.{kurtosis-insert, kurtosis-combine, kurtosis-finalize}
@@ -160,19 +161,21 @@ module _ (row : (M : Moment Float) → (M .State → Figure) → ℕ → Figure)
   kurtosis-rows fisher bias = λ i. row kurtosis (λ s. kurtosis-finalize s fisher bias i) ∷ []
 
 -- ---- by what is asked
-sourced : (rust : Rust) (a : Statistic) (t : Given (kindOf a)) → givenRefusal (kindOf a) t ≡ 0 → (minPeriods widest : ℕ) (p : Plan)
-    → Planned (placesOf (kindOf a) t) widest p
+sourced : (rust : Rust) (a : Statistic) (one : OfOneTrace a) (t : Given (kindOf a)) → givenRefusal (kindOf a) t ≡ 0
+    → (minPeriods widest : ℕ) (p : Plan) → Planned (placesOf (kindOf a) t) widest p
     → (k : ℕ) → k < rows p → answersAt (figuresBy (momentOf a) (finalsOf a) (seriesOf (kindOf a) t) minPeriods p) k
-    ≡ answersAt (sourceRows rust a t minPeriods p) k
-sourced rust (Variance ddof) t g m w p o k h =
+    ≡ answersAt (sourceRows rust a one t minPeriods p) k
+sourced rust (Variance ddof) one t g m w p o k h =
     rows-same rust variance var-neutral t g m w p o k h (finalsOf (Variance ddof))
     ∙ ap (λ (l : List (ℕ → Figure)). answersAt l k) (sym (variance-rows (λ M f. planRow M rust f t m p) ddof))
-sourced rust (Skewness bias) t g m w p o k h =
+sourced rust (Skewness bias) one t g m w p o k h =
     rows-same rust skewness skew-neutral t g m w p o k h (finalsOf (Skewness bias))
     ∙ ap (λ (l : List (ℕ → Figure)). answersAt l k) (sym (skewness-rows (λ M f. planRow M rust f t m p) bias))
-sourced rust (Kurtosis fisher bias) t g m w p o k h =
+sourced rust (Kurtosis fisher bias) one t g m w p o k h =
     rows-same rust kurtosis kurtosis-neutral t g m w p o k h (finalsOf (Kurtosis fisher bias))
     ∙ ap (λ (l : List (ℕ → Figure)). answersAt l k) (sym (kurtosis-rows (λ M f. planRow M rust f t m p) fisher bias))
+sourced rust (Covariance ddof) one t g m w p o k h = absurd one
+sourced rust Correlation one t g m w p o k h = absurd one
 
 -- a fixed row is the plan's row of the bounds
 module _ (rust : Rust) (minPeriods : ℕ) (center : Bool) (size : ℕ) (fits : size < 2 ^ 64) where
@@ -185,37 +188,38 @@ module _ (rust : Rust) (minPeriods : ℕ) (center : Bool) (size : ℕ) (fits : s
   abbrev at : ℕ → List (ℕ → Figure) → List Answer
   at k l = answersAt l k
 
-  fixed-sourced : (a : Statistic) (t : Given (kindOf a)) → givenRefusal (kindOf a) t ≡ 0 → (k : ℕ) → k < placesOf (kindOf a) t
-      → answersAt (sourceRows rust a t minPeriods (bounds center size (placesOf (kindOf a) t))) k ≡ answersAt
-      (sourceFixedRows rust a t minPeriods center size) k
-  fixed-sourced (Variance ddof) t g k h =
+  fixed-sourced : (a : Statistic) (one : OfOneTrace a) (t : Given (kindOf a)) → givenRefusal (kindOf a) t ≡ 0 → (k : ℕ)
+      → k < placesOf (kindOf a) t → answersAt (sourceRows rust a one t minPeriods (bounds center size (placesOf (kindOf a) t))) k
+      ≡ answersAt (sourceFixedRows rust a one t minPeriods center size) k
+  fixed-sourced (Variance ddof) one t g k h =
       ap (at k) (variance-rows (byPlan t) ddof)
       ∙ fixed-same rust variance var-neutral t g minPeriods center size fits k h (finalsOf (Variance ddof))
       ∙ sym (ap (at k) (variance-rows (bySize t) ddof))
-  fixed-sourced (Skewness bias) t g k h =
+  fixed-sourced (Skewness bias) one t g k h =
       ap (at k) (skewness-rows (byPlan t) bias)
       ∙ fixed-same rust skewness skew-neutral t g minPeriods center size fits k h (finalsOf (Skewness bias))
       ∙ sym (ap (at k) (skewness-rows (bySize t) bias))
-  fixed-sourced (Kurtosis fisher bias) t g k h =
+  fixed-sourced (Kurtosis fisher bias) one t g k h =
       ap (at k) (kurtosis-rows (byPlan t) fisher bias)
       ∙ fixed-same rust kurtosis kurtosis-neutral t g minPeriods center size fits k h (finalsOf (Kurtosis fisher bias))
       ∙ sym (ap (at k) (kurtosis-rows (bySize t) fisher bias))
+  fixed-sourced (Covariance ddof) one t g k h = absurd one
+  fixed-sourced Correlation one t g k h = absurd one
 
-plans : (rust : Rust) (q : Query) (t : GivenTo q) (l : Lent) → AcceptedCall q t l → (k : ℕ) → k < rows (q .plan)
-    → answersIn (l .outputs .answers) k ≡ answersAt (sourceRows rust (q .statistic) t (q .minPeriods) (q .plan)) k
-plans rust q t l c k h =
+plans : (rust : Rust) (q : Query) (one : OfOneTrace (q .statistic)) (t : GivenTo q) (l : Lent) → AcceptedCall q t l
+    → RowsEqual rust q one t l
+plans rust q one t l c k h =
     let a = known q t l c in
-    a .answers k h ∙ sourced rust (q .statistic) t (a .given-is) (q .minPeriods) (a .widest) (q .plan) (a .plan) k h
+    a .answers k h ∙ sourced rust (q .statistic) one t (a .given-is) (q .minPeriods) (a .widest) (q .plan) (a .plan) k h
 
 -- a call with fixed windows is the plan call of its bounds
-fixed : (rust : Rust) (center : Bool) (size minPeriods : ℕ) (a : Statistic) (t : Given (kindOf a)) (l₀ l : Lent) → size < 2 ^ 64
-    → CalledFixed center size minPeriods a t l₀ l 0 → (k : ℕ) → k < placesOf (kindOf a) t
-    → answersIn (l .outputs .answers) k ≡ answersAt (sourceFixedRows rust a t minPeriods center size) k
-fixed rust center size minPeriods a t l₀ l fits c k h =
+fixed : (rust : Rust) (center : Bool) (size minPeriods : ℕ) (a : Statistic) (one : OfOneTrace a) (t : Given (kindOf a)) (l₀ l : Lent)
+    → size < 2 ^ 64 → CalledFixed center size minPeriods a t l₀ l 0 → FixedRowsEqual rust center size minPeriods a one t l
+fixed rust center size minPeriods a one t l₀ l fits c k h =
     let q = fixedQuery center size minPeriods a t in
     let d = fixedCall c in
-    plans rust q t l d k (rw (bounds-rows center size (placesOf (kindOf a) t)) h)
-    ∙ fixed-sourced rust minPeriods center size fits a t (known q t l d .given-is) k h
+    plans rust q one t l d k (rw (bounds-rows center size (placesOf (kindOf a) t)) h)
+    ∙ fixed-sourced rust minPeriods center size fits a one t (known q t l d .given-is) k h
 
 -- a weighted call's rows are the source's
 weighted : (rust : Rust) (center : Bool) (size minPeriods : ℕ) (weights : List Float) (t : Trace) (c₀ c : Column)

@@ -1,5 +1,5 @@
 -- The law of maps: a map is looked at through `validAt` at the places of the trace, and through its length, which is too short or not.
--- So the numbers are the same and so are the valid readings; the rows are the same by demand 3. Assumes nothing.
+-- So the numbers are the same and so are the valid readings; the rows are the same by the law of two calls. Assumes nothing.
 use Prim.Native.Nat.{ℕ, _≤_, _<_}
 use mathlib.Core.Path.{_≡_, refl, sym, ap, _∙_, subst}
 use mathlib.Core.Bool.{Bool, true, false}
@@ -19,7 +19,7 @@ use Rattle.plan.specs.Plan.{rows, rowStart, rowEnd}
 use Rattle.plan.specs.Bounds.{bounds}
 use Rattle.plan.specs.Refusals.{fixedRefusal}
 use Rattle.window.specs.Readings.{readingOf}
-use Rattle.window.specs.Given.{Kind, Readings, Given, placesOf, givenRefusal}
+use Rattle.window.specs.Given.{Kind, Readings, Pairs, Given, placesOf, givenRefusal}
 use Rattle.window.specs.Outputs.{Lent, answersAt, shortestOutput}
 use Rattle.rolling.specs.Moments.{Statistic, kindOf, workWidth}
 use Rattle.rolling.specs.Calls.{Query, query, GivenTo, refusalOf, Called}
@@ -32,8 +32,8 @@ use Rattle.promises.specs.DemandThree.{Alike, Agree}
 use Rattle.promises.specs.Maps.{LongEnough, SameMaps, padded, SameGiven, SameHost, SameRoom, SameReadingRoom, SameAnswer}
 use Rattle.promises.specs.Maps.{SameColumns, OfTrace, OfPair, MapLaw}
 use Rattle.promises.proofs.SourceArrays.{pairNumber}
-use Rattle.promises.proofs.Accepted.{weights-row}
-use Rattle.promises.proofs.DemandThree.{demand-three}
+use Rattle.promises.proofs.Accepted.{known, weights-row}
+use Rattle.promises.proofs.TwoCalls.{alike-same}
 use Rattle.promises.proofs.DemandOne.{map-wrong}
 use Rattle.promises.proofs.DemandOne.{Hands, number-of, taken, var-hands, skew-hands, kurtosis-hands, cov-hands, pearson-hands}
 
@@ -136,34 +136,53 @@ module _ {S R : Type 0} {numberOf : R → ℕ} {membersOf : R → List Float →
 
 -- ---- windows
 -- by the kind of entry
-given-alike : (kind : Kind) (t t′ : Given kind) → SameGiven kind t t′ → Alike kind t t′
-given-alike Readings t t′ s = record { long = ap length (s .readings); places = s .bits; mapped = s .mapped }
+given-long : (kind : Kind) (t t′ : Given kind) → SameGiven kind t t′ → placesOf kind t ≡ placesOf kind t′
+given-long Readings t t′ s = ap length (s .readings)
+given-long Pairs t t′ s = ap length (s .0 .readings)
+
+-- two traces that are not refused have one length, so that both maps reach every place
+given-alike : (kind : Kind) (t t′ : Given kind) → SameGiven kind t t′ → givenRefusal kind t ≡ 0 → Alike kind t t′
+unfolding bothAt
+given-alike Readings t t′ s z = record { long = given-long Readings t t′ s; places = s .bits; mapped = s .mapped }
+given-alike Pairs t t′ s z =
+    let l : length (t .x .readings) ≡ length (t .y .readings) = pair-fits _ _ _ _ _ _ _ refl z in
+    record {
+      long = given-long Pairs t t′ s;
+      places = λ i h. rw (s .0 .bits i h, s .1 .bits i (omega arith));
+      mapped = rw (s .0 .mapped, s .1 .mapped);
+    }
 
 given-agree : (kind : Kind) (t t′ : Given kind) → SameGiven kind t t′ → (a b : ℕ) → Agree kind t t′ a b
 given-agree Readings t t′ s a b i k l v = ap (λ (xs : List Float). readingOf xs i) (s .readings)
+given-agree Pairs t t′ s a b i k l v =
+    (ap (λ (xs : List Float). readingOf xs i) (s .0 .readings), ap (λ (xs : List Float). readingOf xs i) (s .1 .readings))
 
 given-number : (kind : Kind) (t t′ : Given kind) → SameGiven kind t t′ → givenRefusal kind t ≡ givenRefusal kind t′
 given-number Readings t t′ s = trace-number s
+given-number Pairs t t′ s = pair-number (s .0) (s .1)
 
 given-decoded : (kind : Kind) (h h′ : Host kind) → SameHost kind h h′ → SameGiven kind (decodedOf kind h) (decodedOf kind h′)
 given-decoded Readings h h′ s = s .1
+given-decoded Pairs h h′ s = (s .0 .1, s .1 .1)
 
 odd-same : (kind : Kind) (h h′ : Host kind) → SameHost kind h h′ → oddBytes kind h ≡ oddBytes kind h′
 odd-same Readings h h′ s = rw (s .0)
+odd-same Pairs h h′ s = rw (s .0 .0, s .1 .0)
 
 -- the number of a call with a plan
 planned-number : (q : Query) (t t′ : GivenTo q) → SameGiven (kindOf (q .statistic)) t t′ → (short short′ : Bool) → short ≡ short′
     → (l l′ : Lent) → SameRoom l l′ → refusalOf q t short l ≡ refusalOf q t′ short′ l′
 planned-number q t t′ s short short′ e l l′ room =
     let kind = kindOf (q .statistic) in
-    rw (given-number kind t t′ s, given-alike kind t t′ s .long, e, room .outputs, room .work)
+    rw (given-number kind t t′ s, given-long kind t t′ s, e, room .outputs, room .work)
 
 -- the rows of two calls that are accepted
 rows-alike : (q : Query) (t t′ : GivenTo q) → SameGiven (kindOf (q .statistic)) t t′ → (l l′ : Lent) → AcceptedCall q t l
     → AcceptedCall q t′ l′ → SameColumns (rows (q .plan)) (l .outputs .answers) (l′ .outputs .answers)
 rows-alike q t t′ s l l′ c c′ k h =
     let kind = kindOf (q .statistic) in
-    demand-three .two q t t′ l l′ (given-alike kind t t′ s) c c′ k h (given-agree kind t t′ s (rowStart (q .plan) k) (rowEnd (q .plan) k))
+    alike-same q t t′ l l′ (given-alike kind t t′ s (known q t l c .given-is)) c c′ k h
+    (given-agree kind t t′ s (rowStart (q .plan) k) (rowEnd (q .plan) k))
 
 -- the number of a host call
 abbrev hostNumber : (q : Query) (h : Host (kindOf (q .statistic))) → ReadingLists (kindOf (q .statistic)) → Lent → ℕ
@@ -190,7 +209,7 @@ fixedNumber windowSize a t l =
 fixed-number : (windowSize : ℕ) (a : Statistic) (t t′ : Given (kindOf a)) → SameGiven (kindOf a) t t′ → (l l′ : Lent) → SameRoom l l′
     → fixedNumber windowSize a t l ≡ fixedNumber windowSize a t′ l′
 fixed-number windowSize a t t′ s l l′ room =
-    rw (given-number (kindOf a) t t′ s, given-alike (kindOf a) t t′ s .long, room .outputs, room .work)
+    rw (given-number (kindOf a) t t′ s, given-long (kindOf a) t t′ s, room .outputs, room .work)
 
 -- ---- weights
 module _ (windowSize : ℕ) (weights : List Float) where
@@ -241,7 +260,7 @@ map-law =
                 rows-alike (fixedQuery center windowSize minPeriods a t) t t′ s l l′
                 (fixedCall {l₀ = l₀} (subst (λ (n : ℕ). CalledFixed center windowSize minPeriods a t l₀ l n) z c))
                 (subst (λ (n : ℕ). AcceptedCall (query (bounds center windowSize n) minPeriods a) t′ l′)
-                (sym (given-alike (kindOf a) t t′ s .long))
+                (sym (given-long (kindOf a) t t′ s))
                 (fixedCall {l₀ = l₀′} (subst (λ (n : ℕ). CalledFixed center windowSize minPeriods a t′ l₀′ l′ n) (sym e ∙ z) c′)));
           };
       weights = λ center windowSize minPeriods weights t t′ s c₀ c c₀′ c′ room r r′ d d′.

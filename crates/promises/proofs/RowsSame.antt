@@ -17,18 +17,21 @@ use Rattle.plan.specs.Code.Accepted.{Planned}
 use Rattle.window.specs.Places.{Series, validCount, nonfiniteCount}
 use Rattle.window.specs.Window.{Account, Moment, figureOf}
 use Rattle.window.specs.Readings.{insertedAt, nonfiniteAt}
-use Rattle.window.specs.Given.{Kind, Readings, Entry, Given, seriesOf, SameAt}
+use Rattle.window.specs.Pairs.{pairOf, finitePair, insertedPair, nonfinitePair}
+use Rattle.window.specs.Given.{Kind, Readings, Pairs, Entry, Given, seriesOf, SameAt}
 use Rattle.window.specs.Rows.{moves, accountAt, counted, answerOf, answerAt}
 use Rattle.window.specs.Outputs.{ofFigure, answersAt}
 use Rattle.window.proofs.Places.{count-all}
+use Rattle.window.proofs.Pairs.{unmapped-both}
 use Rattle.window.proofs.Outputs.{_then_}
 use Rattle.rolling.specs.Calls.{figuresBy}
 use Rattle.promises.proofs.Accounts.{entries-same, account-same, figure-same, lies, meets, row-account}
 
 -- ---- laws of what is given, by its kind
 entry-same : (kind : Kind) (t t′ : Given kind) (i : ℕ) → SameAt kind t t′ i → seriesOf kind t .entry i ≡ seriesOf kind t′ .entry i
-unfolding insertedAt
+unfolding insertedAt insertedPair
 entry-same Readings t t′ i e = rw e
+entry-same Pairs t t′ i e = rw (e .0, e .1)
 
 guarded : (v a b : Bool) → (v ≡ true → a ≡ b) → (v && not a) ≡ (v && not b)
 guarded true a b g = rw (g refl)
@@ -36,13 +39,18 @@ guarded false a b g = refl
 
 nonfinite-same : (kind : Kind) (t t′ : Given kind) (i : ℕ) → seriesOf kind t .places .valid i ≡ seriesOf kind t′ .places .valid i
     → (seriesOf kind t .places .valid i ≡ true → SameAt kind t t′ i) → seriesOf kind t .places .nonfinite i ≡ seriesOf kind t′ .places .nonfinite i
-unfolding nonfiniteAt
+unfolding nonfiniteAt nonfinitePair
 nonfinite-same Readings t t′ i v e = rw (← v) (guarded (seriesOf Readings t .places .valid i) _ _ (λ x. ap finite (e x)))
+nonfinite-same Pairs t t′ i v e =
+    rw (← v)
+    (guarded (seriesOf Pairs t .places .valid i) (finitePair (pairOf (t .x .readings) (t .y .readings) i))
+    (finitePair (pairOf (t′ .x .readings) (t′ .y .readings) i)) (λ x. rw (e x .0, e x .1)))
 
--- without a map every place is valid
+-- without any map every place is valid
 all-valid : (kind : Kind) (t : Given kind) → seriesOf kind t .places .mapped ≡ false → (i : ℕ) → seriesOf kind t .places .valid i ≡ true
 unfolding validAt
 all-valid Readings t e i = rw e
+all-valid Pairs t e i = unmapped-both (t .x .mapped) (t .y .mapped) (t .x .map) (t .y .map) e i
 
 pub counted-is : (kind : Kind) (t : Given kind) (s e : ℕ) → counted (seriesOf kind t .places) s e ≡ validCount (seriesOf kind t .places) s e
 counted-is kind t s e = go (seriesOf kind t .places .mapped) refl

@@ -39,7 +39,8 @@ use Rattle.promises.specs.DemandTwo.{RowsEqual, FixedRowsEqual, Weighted
 use Rattle.promises.specs.DemandThree.{Alike, Agree, TooFew, SomeNotFinite, VarianceRow, VarianceIn, Yielded}
 use Rattle.promises.specs.Table.{varianceBy, p7, trace7, p8, trace8, p9, trace9}
 use Rattle.promises.proofs.DemandTwo.{demand-two}
-use Rattle.promises.proofs.DemandThree.{SameMoves, both-or-neither, none-shorter, SameRow, same-moves-same-row, demand-three}
+use Rattle.promises.proofs.TwoCalls.{SameMoves, both-or-neither, none-shorter, SameRow, same-moves-same-row}
+use Rattle.promises.proofs.DemandThree.{demand-three}
 
 -- ---- the lists that are lent
 -- four places to each output list, each place with something in it
@@ -190,12 +191,12 @@ weights10-accepted = record { number-is = refl; column-is = refl }
 
 -- ---- demand 2 said of such calls
 -- `plans`, of a `Rust` that there is
-pub plan-rows : RowsEqual someRust (varianceBy p7 1) trace7 p7Left
-plan-rows = demand-two .plans someRust _ _ _ plan-call
+pub plan-rows : RowsEqual someRust (varianceBy p7 1) tt trace7 p7Left
+plan-rows = demand-two .plans someRust _ tt _ _ plan-call
 
 -- `fixed` and `weights`, whose window size is a `usize`
-pub fixed-rows : FixedRowsEqual someRust false 3 1 (Variance 1) trace249 left249
-fixed-rows = demand-two .fixed someRust false 3 1 (Variance 1) trace249 _ left249 (lit≤ tt) trailing3-accepted
+pub fixed-rows : FixedRowsEqual someRust false 3 1 (Variance 1) tt trace249 left249
+fixed-rows = demand-two .fixed someRust false 3 1 (Variance 1) tt trace249 _ left249 (lit≤ tt) trailing3-accepted
 
 pub weights-rows : WeightedRowsEqual someRust false 2 1 (one64 ∷ one64 ∷ []) trace13 weights11Left
 weights-rows = demand-two .weights someRust false 2 1 _ trace13 _ _ (lit≤ tt) weights11-accepted
@@ -239,7 +240,7 @@ last-bit-open all = apart (all (λ i. cond (eqb i 2) false (validAt true (5 ∷ 
 
 -- ---- demand 3, of two calls
 -- the first answer's double, by its bits, and its byte
-abbrev firstBits : List Answer → ℕ
+abbrev pub firstBits : List Answer → ℕ
 firstBits [] = 0
 firstBits (a ∷ l) = toBits binary64 (a .double)
 
@@ -280,7 +281,8 @@ disagree7 all =
 -- so demand 3 says that row 1's answers are the same ..
 pub same7 : answersIn (p7Left .outputs .answers) 1 ≡ answersIn (other7Left .outputs .answers) 1
 same7 =
-    demand-three .two (varianceBy p7 1) trace7 other7 p7Left other7Left alike7 plan-call (planCall other7-accepted) 1 (omega arith) agree7
+    demand-three .two (varianceBy p7 1) tt trace7 other7 p7Left other7Left alike7 plan-call (planCall other7-accepted) 1 (omega arith)
+    agree7
 
 -- .. and row 0's are not
 pub differ7 : answersIn (p7Left .outputs .answers) 0 ≡ answersIn (other7Left .outputs .answers) 0 → ⊥
@@ -340,7 +342,7 @@ agree-mapped (suc (suc (suc (suc i)))) s e v = absurd (omega arith)
 -- so row 1's answers are the same ..
 pub same-mapped : answersIn (mappedLeft .outputs .answers) 1 ≡ answersIn (otherMappedLeft .outputs .answers) 1
 same-mapped =
-    demand-three .two (varianceBy mapPlan 1) mapped otherMapped mappedLeft otherMappedLeft alike-mapped (planCall mapped-accepted)
+    demand-three .two (varianceBy mapPlan 1) tt mapped otherMapped mappedLeft otherMappedLeft alike-mapped (planCall mapped-accepted)
     (planCall other-mapped-accepted) 1 (omega arith) agree-mapped
 
 -- .. and in row 0's window they do not agree, and its answers differ
@@ -366,7 +368,7 @@ Claim Enough =
 
 -- demand 3 itself makes it with this
 pub enough : Claim (λ p t t′ k. Alike Readings t t′ × Agree Readings t t′ (rowStart p k) (rowEnd p k))
-enough p minPeriods t t′ l l′ c c′ k h e = demand-three .two (varianceBy p minPeriods) t t′ l l′ (e .0) c c′ k h (e .1)
+enough p minPeriods t t′ l l′ c c′ k h e = demand-three .two (varianceBy p minPeriods) tt t t′ l l′ (e .0) c c′ k h (e .1)
 
 -- the places past the first of row 0's window, P7
 past-first : (i : ℕ) → 0 < i → i < 2 → validAt false [] i ≡ true → readingOf (trace7 .readings) i ≡ readingOf (other7 .readings) i
@@ -515,24 +517,24 @@ ones-same =
 
 -- ---- demand 3, of one call
 -- `TooFew`: by ddof, by the minimum, and neither
-pub few-by-ddof : TooFew trace7 3 4 1 1
+pub few-by-ddof : TooFew Readings trace7 3 4 1 1
 unfolding entriesFrom validAt
 few-by-ddof = inl (omega arith)
 
-pub few-by-minimum : TooFew trace9 0 3 3 1
+pub few-by-minimum : TooFew Readings trace9 0 3 3 1
 unfolding entriesFrom validAt
 few-by-minimum = inr (omega arith)
 
-pub not-few : TooFew trace7 0 2 1 1 → ⊥
+pub not-few : TooFew Readings trace7 0 2 1 1 → ⊥
 unfolding entriesFrom validAt
 not-few few = ⊎-elim (λ h. omega arith) (λ h. omega arith) few
 
 -- `SomeNotFinite`: P8's row 0, and not its row 1
-pub nan-in-row : SomeNotFinite trace8 0 2
+pub nan-in-row : SomeNotFinite Readings trace8 0 2
 unfolding validAt
 nan-in-row = (0, omega arith, omega arith, refl, refl)
 
-pub finite-row : SomeNotFinite trace8 1 3 → ⊥
+pub finite-row : SomeNotFinite Readings trace8 1 3 → ⊥
 unfolding validAt ofInt
 finite-row (zero, s, e, v, f) = absurd (omega arith)
 finite-row (suc zero, s, e, v, f) = apart (sym f)
@@ -540,7 +542,7 @@ finite-row (suc (suc zero), s, e, v, f) = apart (sym f)
 finite-row (suc (suc (suc i)), s, e, v, f) = absurd (omega arith)
 
 -- an answer of its parts
-abbrev answer : Float → ℕ → Answer
+abbrev pub answer : Float → ℕ → Answer
 answer double byte = record { double = double; byte = byte }
 
 -- `VarianceRow`, computed: missing since the valid count is ddof, P7's row 2
@@ -548,9 +550,11 @@ pub ddof-row : VarianceRow trace7 3 4 1 1 (answer zero64 0)
 unfolding entriesFrom validAt
 ddof-row =
     record {
-      byte-is = inl refl;
-      missing = (λ z. inl (omega arith), λ few. refl);
-      not-finite = λ b. absurd (omega arith);
+      figure = record {
+        byte-is = inl refl;
+        missing = (λ z. inl (omega arith), λ few. refl);
+        not-finite = λ b. absurd (omega arith);
+      };
       not-below = λ b. absurd (omega arith);
     }
 
@@ -559,14 +563,16 @@ pub minimum-row : VarianceRow trace9 0 3 3 1 (answer zero64 0)
 unfolding entriesFrom validAt
 minimum-row =
     record {
-      byte-is = inl refl;
-      missing = (λ z. inr (omega arith), λ few. refl);
-      not-finite = λ b. absurd (omega arith);
+      figure = record {
+        byte-is = inl refl;
+        missing = (λ z. inr (omega arith), λ few. refl);
+        not-finite = λ b. absurd (omega arith);
+      };
       not-below = λ b. absurd (omega arith);
     }
 
 -- present, its valid count the minimum, P9 with minimum 2
-no-nan9 : SomeNotFinite trace9 0 3 → ⊥
+no-nan9 : SomeNotFinite Readings trace9 0 3 → ⊥
 unfolding validAt ofInt
 no-nan9 (zero, s, e, v, f) = apart (sym f)
 no-nan9 (suc zero, s, e, v, f) = apart v
@@ -577,9 +583,11 @@ pub least-row : VarianceRow trace9 0 3 2 1 (answer two64 1)
 unfolding entriesFrom validAt ofBits le
 least-row =
     record {
-      byte-is = inr refl;
-      missing = (λ z. absurd (omega arith), λ few. absurd (⊎-elim (λ h. omega arith) (λ h. omega arith) few));
-      not-finite = λ b f. absurd (no-nan9 f);
+      figure = record {
+        byte-is = inr refl;
+        missing = (λ z. absurd (omega arith), λ few. absurd (⊎-elim (λ h. omega arith) (λ h. omega arith) few));
+        not-finite = λ b f. absurd (no-nan9 f);
+      };
       not-below = λ b. inr refl;
     }
 
@@ -588,9 +596,11 @@ pub nan-row : VarianceRow trace8 0 2 1 1 (answer nan 1)
 unfolding entriesFrom validAt isNan
 nan-row =
     record {
-      byte-is = inr refl;
-      missing = (λ z. absurd (omega arith), λ few. absurd (⊎-elim (λ h. omega arith) (λ h. omega arith) few));
-      not-finite = λ b f. refl;
+      figure = record {
+        byte-is = inr refl;
+        missing = (λ z. absurd (omega arith), λ few. absurd (⊎-elim (λ h. omega arith) (λ h. omega arith) few));
+        not-finite = λ b f. refl;
+      };
       not-below = λ b. inl refl;
     }
 
@@ -598,7 +608,7 @@ nan-row =
 abbrev trace55 : Trace
 trace55 = traceOf (ofNat64 5 ∷ ofNat64 5 ∷ []) false []
 
-no-nan55 : SomeNotFinite trace55 0 2 → ⊥
+no-nan55 : SomeNotFinite Readings trace55 0 2 → ⊥
 unfolding validAt ofInt
 no-nan55 (zero, s, e, v, f) = apart (sym f)
 no-nan55 (suc zero, s, e, v, f) = apart (sym f)
@@ -608,14 +618,16 @@ pub zero-row : VarianceRow trace55 0 2 1 1 (answer zero64 1)
 unfolding entriesFrom validAt ofBits le
 zero-row =
     record {
-      byte-is = inr refl;
-      missing = (λ z. absurd (omega arith), λ few. absurd (⊎-elim (λ h. omega arith) (λ h. omega arith) few));
-      not-finite = λ b f. absurd (no-nan55 f);
+      figure = record {
+        byte-is = inr refl;
+        missing = (λ z. absurd (omega arith), λ few. absurd (⊎-elim (λ h. omega arith) (λ h. omega arith) few));
+        not-finite = λ b f. absurd (no-nan55 f);
+      };
       not-below = λ b. inr refl;
     }
 
 -- `Yielded`, computed: row 2 of the call with a map of ones, whose window is in two parts
-no-nan-ones : SomeNotFinite ones 1 4 → ⊥
+no-nan-ones : SomeNotFinite Readings ones 1 4 → ⊥
 unfolding validAt ofInt
 no-nan-ones (zero, s, e, v, f) = absurd (omega arith)
 no-nan-ones (suc zero, s, e, v, f) = apart (sym f)
@@ -627,9 +639,11 @@ ones-row : VarianceRow ones 1 4 3 1 (answer (ofBits binary64 0x4002AAAAAAAAAAAB)
 unfolding entriesFrom validAt ofBits le
 ones-row =
     record {
-      byte-is = inr refl;
-      missing = (λ z. absurd (omega arith), λ few. absurd (⊎-elim (λ h. omega arith) (λ h. omega arith) few));
-      not-finite = λ b f. absurd (no-nan-ones f);
+      figure = record {
+        byte-is = inr refl;
+        missing = (λ z. absurd (omega arith), λ few. absurd (⊎-elim (λ h. omega arith) (λ h. omega arith) few));
+        not-finite = λ b f. absurd (no-nan-ones f);
+      };
       not-below = λ b. inr refl;
     }
 
@@ -640,7 +654,7 @@ ones-yielded = record { account = refl; variance = record { answer = _; others =
 
 -- and demand 3 said of P7's row 0, whose ddof is a byte (`IsSetting`)
 pub p7-row : VarianceIn trace7 p7 1 1 0 p7Left
-p7-row = demand-three .one (varianceBy p7 1) trace7 p7Left (omega arith) plan-call 0 (omega arith) .variance
+p7-row = demand-three .one (varianceBy p7 1) tt trace7 p7Left (omega arith) plan-call 0 (omega arith) .variance
 
 -- a call with trailing windows is not the call of the centred bounds: row 0 has one place, and not two
 pub trailing-not-centred :

@@ -16,7 +16,7 @@ use Rattle.moment.specs.Arrays.{skewAnswer, skewRange, skewNumber, skewMembers,
 use Rattle.moment.specs.Arrays.{kurtosisMembers, rangeReadings}
 use Rattle.window.specs.Given.{Given}
 use Rattle.window.specs.Outputs.{Lent}
-use Rattle.rolling.specs.Moments.{Statistic, kindOf}
+use Rattle.rolling.specs.Moments.{Statistic, Variance, Skewness, Kurtosis, Covariance, Correlation, kindOf}
 use Rattle.rolling.specs.Calls.{Query, GivenTo, Called}
 use Rattle.rolling.specs.Fixed.{fixedQuery, CalledFixed}
 use Rattle.moments.specs.HostCall.{Host, decodedOf, ReadingLists, CalledBytes}
@@ -84,6 +84,22 @@ abbrev pub pearsonList : PearsonState → List Float
 pearsonList s = s .weight ∷ s .«mean_x» ∷ s .«mean_y» ∷ s .«dp_xx» ∷ s .«dp_xy» ∷ s .«dp_yy» ∷ []
 
 -- ---- windows
+-- "be it variance, skewness or kurtosis": the figures of one trace, of which document 01 speaks, and whose rows the Rust has
+abbrev pub OfOneTrace : Statistic → Type 0
+OfOneTrace (Variance ddof) = Unit {0}
+OfOneTrace (Skewness bias) = Unit {0}
+OfOneTrace (Kurtosis fisher bias) = Unit {0}
+OfOneTrace (Covariance ddof) = ⊥
+OfOneTrace Correlation = ⊥
+
+-- Document 02, request 2: "rolling covariance and rolling correlation of two traces". The Rust has these of whole arrays only.
+abbrev pub OfTwoTraces : Statistic → Type 0
+OfTwoTraces (Variance ddof) = ⊥
+OfTwoTraces (Skewness bias) = ⊥
+OfTwoTraces (Kurtosis fisher bias) = ⊥
+OfTwoTraces (Covariance ddof) = Unit {0}
+OfTwoTraces Correlation = Unit {0}
+
 -- An accepted call without weights, its number 0, on what is given with a plan and a setting q, that leaves the lists l: a plan call, a
 -- host call or a call with fixed windows, whatever the lists held before. Answers that are equal here and no NaN have the same bits.
 -- NaN is one value here: that its bits are 7FF8000000000000 is carried by the code, for `row::write` of `rolling`, and for skewness

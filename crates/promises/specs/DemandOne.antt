@@ -16,13 +16,13 @@ use Rattle.moment.specs.Kurtosis.{kurtosisNew}
 use Rattle.moment.specs.Arrays.{varWhole, covWhole, pearsonWhole, skewWhole, kurtosisWhole}
 use Rattle.plan.specs.Plan.{Plan, rows, rowStart, rowEnd}
 use Rattle.plan.specs.Refusals.{needed}
-use Rattle.window.specs.Given.{Kind, Readings, Given, placesOf}
+use Rattle.window.specs.Given.{Kind, Readings, Pairs, Given, placesOf}
 use Rattle.window.specs.Outputs.{Column, Outputs, Lent, answerLengths, countLengths, columnAfter}
 use Rattle.rolling.specs.Moments.{Statistic, kindOf, workWidth}
 use Rattle.rolling.specs.Calls.{Query, GivenTo, Left, Called}
 use Rattle.rolling.specs.Fixed.{fixedQuery, CalledFixed}
 use Rattle.weighted.specs.Weights.{totalOf, weightedAt, CalledWeights}
-use Rattle.moments.specs.HostCall.{Host, readingCount, decodedOf, ReadingLists, decodedLists, CalledBytes}
+use Rattle.moments.specs.HostCall.{ByteTrace, readingCount, Host, decodedOf, ReadingLists, decodedLists, CalledBytes}
 use Rattle.moments.specs.Results.{FigureResult}
 use Rattle.promises.specs.Calls.{CallsVar, CallsSkew, CallsKurtosis, CallsCov, CallsPearson, CallsSkewRange, CallsKurtosisRange}
 use Rattle.promises.specs.Calls.{readingsOf, pairsOf, readingsIn, varList, skewList, kurtosisList, covList, pearsonList}
@@ -83,8 +83,13 @@ abbrev pub OutputShorter : Outputs → ℕ → Type 0
 OutputShorter l rows = SomeShorter (answerLengths (l .answers) ++ countLengths (l .counts)) rows
 
 -- "or in the host call a reading list shorter than n"
+abbrev pub ListShorter : ByteTrace → List Float → Type 0
+ListShorter h readings = length readings < readingCount h
+
+-- of two traces either list
 abbrev pub ReadingsShorter : (kind : Kind) → Host kind → ReadingLists kind → Type 0
-ReadingsShorter Readings h readings = length readings < readingCount h
+ReadingsShorter Readings h readings = ListShorter h readings
+ReadingsShorter Pairs h readings = ListShorter (h .x) (readings .0) ⊎ ListShorter (h .y) (readings .1)
 
 -- "13 work slice too short": "times the widest window of the plan"
 abbrev pub WorkTooShort : Query → Lent → Type 0
@@ -95,8 +100,13 @@ abbrev pub FixedWorkTooShort : Statistic → ℕ → ℕ → Lent → Type 0
 FixedWorkTooShort a windowSize n l = length (l .work) < workWidth a * min windowSize n
 
 -- "14 trace bytes not a multiple of 8"
+abbrev pub NoMultiple : ByteTrace → Type 0
+NoMultiple h = ¬ (length (h .bytes) % 8 ≡ 0)
+
+-- of two traces either
 abbrev pub NoWholeReadings : (kind : Kind) → Host kind → Type 0
-NoWholeReadings Readings h = ¬ (length (h .bytes) % 8 ≡ 0)
+NoWholeReadings Readings h = NoMultiple h
+NoWholeReadings Pairs h = NoMultiple (h .x) ⊎ NoMultiple (h .y)
 
 -- ---- the checks of each kind of call
 -- a number, and when it applies to the call
@@ -135,6 +145,7 @@ rangeChecks t start len =
 -- what a window is given, by the kind of its entries
 abbrev pub givenChecks : (kind : Kind) → Given kind → List Check
 givenChecks Readings t = traceChecks t
+givenChecks Pairs t = pairChecks (t .x) (t .y)
 
 -- "each row tested for 5, 6, 7"
 abbrev pub rowChecks : ℕ → Plan → ℕ → List Check
@@ -248,9 +259,9 @@ pub record DemandOne : Type 1 where
       → Answered (rangeChecks t start len) r before after (after ≡ skewList (skewNew (readingsIn t start len)))
   pub kurtosis-range : (t : Trace) (start len : ℕ) (before after : List Float) (r : ℕ) → CallsKurtosisRange t start len before after r
       → Answered (rangeChecks t start len) r before after (after ≡ kurtosisList (kurtosisNew (readingsIn t start len)))
-  -- plans, the trace as doubles
+  -- plans, the trace or the two traces as doubles
   pub plans : (q : Query) (t : GivenTo q) (l₀ l : Lent) (r : ℕ) → Called q t l₀ l r → Answered (planChecks q t l₀) r l₀ l (Left q t l₀ l 0)
-  -- host calls, the trace as bytes
+  -- host calls, the trace or the two traces as bytes
   pub hosts : (q : Query) (h : Host (kindOf (q .statistic))) (r₀ r : ReadingLists (kindOf (q .statistic))) (l₀ l : Lent) (number : ℕ)
       → CalledBytes q h r₀ r l₀ l number
       → Answered (hostChecks q h r₀ l₀) number {A = ReadingLists (kindOf (q .statistic)) × Lent} (r₀, l₀) (r, l)

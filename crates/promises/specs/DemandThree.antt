@@ -13,15 +13,15 @@ use mathlib.Core.Logic.{_⊎_, _↔_}
 use lib.Ieee.{nan, isNan, le}
 use lib.Ieee.Scale.{finite}
 use Rattle.float.specs.Operators.{zero64}
-use Rattle.trace.specs.Trace.{Trace, validAt}
+use Rattle.trace.specs.Trace.{Trace}
 use Rattle.plan.specs.Plan.{Plan, rows, rowStart, rowEnd}
 use Rattle.window.specs.Places.{validCount}
 use Rattle.window.specs.Readings.{readingOf}
-use Rattle.window.specs.Given.{Kind, Readings, Given, seriesOf, placesOf, SameAt}
+use Rattle.window.specs.Given.{Kind, Readings, Pairs, Given, seriesOf, placesOf, SameAt}
 use Rattle.window.specs.Outputs.{Lent, Answer, answersIn, answersAt}
-use Rattle.rolling.specs.Moments.{Statistic, Variance, Skewness, Kurtosis, kindOf}
+use Rattle.rolling.specs.Moments.{Statistic, Variance, Skewness, Kurtosis, Covariance, Correlation, kindOf}
 use Rattle.rolling.specs.Calls.{Query, GivenTo, yields}
-use Rattle.promises.specs.Calls.{AcceptedCall}
+use Rattle.promises.specs.Calls.{OfOneTrace, AcceptedCall}
 
 -- "Two traces of equal length that miss the same places, both by a map or both without one": of the places of the traces, so that maps of
 -- different length are among those that it speaks of
@@ -42,45 +42,64 @@ SameAnswers q t t′ l l′ =
     → answersIn (l .outputs .answers) k ≡ answersIn (l′ .outputs .answers) k
 
 -- "the row's valid count is at most ddof or below the minimum"
-abbrev pub TooFew : Trace → ℕ → ℕ → ℕ → ℕ → Type 0
-TooFew t s e minPeriods ddof =
-    (validCount (seriesOf Readings t .places) s e ≤ ddof) ⊎ (validCount (seriesOf Readings t .places) s e < minPeriods)
+abbrev pub TooFew : (kind : Kind) → Given kind → ℕ → ℕ → ℕ → ℕ → Type 0
+TooFew kind t s e minPeriods ddof =
+    (validCount (seriesOf kind t .places) s e ≤ ddof) ⊎ (validCount (seriesOf kind t .places) s e < minPeriods)
+
+-- the reading at place i "isn't finite"; of a pair of readings, either is not
+abbrev pub NotFiniteAt : (kind : Kind) → Given kind → ℕ → Type 0
+NotFiniteAt Readings t i = finite (readingOf (t .readings) i) ≡ false
+NotFiniteAt Pairs t i = (finite (readingOf (t .x .readings) i) ≡ false) ⊎ (finite (readingOf (t .y .readings) i) ≡ false)
 
 -- "a valid reading in the row's window isn't finite"
-abbrev pub SomeNotFinite : Trace → ℕ → ℕ → Type 0
-SomeNotFinite t s e =
-    (i : ℕ) × (s ≤ i) × (i < e) × (validAt (t .mapped) (t .map) i ≡ true) × (finite (readingOf (t .readings) i) ≡ false)
+abbrev pub SomeNotFinite : (kind : Kind) → Given kind → ℕ → ℕ → Type 0
+SomeNotFinite kind t s e = (i : ℕ) × (s ≤ i) × (i < e) × (seriesOf kind t .places .valid i ≡ true) × NotFiniteAt kind t i
 
--- "variance is missing exactly when .. Otherwise it is NaN if .., else NaN or at least zero", over the places from s up to e
-pub record VarianceRow (t : Trace) (s e minPeriods ddof : ℕ) (a : Answer) : Type 0 where
+-- "missing exactly when .. Otherwise it is NaN if ..", over the places from s up to e
+pub record FigureRow (kind : Kind) (t : Given kind) (s e minPeriods ddof : ℕ) (a : Answer) : Type 0 where
   pub byte-is : (a .byte ≡ 0) ⊎ (a .byte ≡ 1)
-  pub missing : (a .byte ≡ 0) ↔ TooFew t s e minPeriods ddof
-  pub not-finite : a .byte ≡ 1 → SomeNotFinite t s e → a .double ≡ nan
+  pub missing : (a .byte ≡ 0) ↔ TooFew kind t s e minPeriods ddof
+  pub not-finite : a .byte ≡ 1 → SomeNotFinite kind t s e → a .double ≡ nan
+
+-- "variance is missing exactly when .. Otherwise it is NaN if .., else NaN or at least zero"
+pub record VarianceRow (t : Trace) (s e minPeriods ddof : ℕ) (a : Answer) : Type 0 where
+  pub figure : FigureRow Readings t s e minPeriods ddof a
   pub not-below : a .byte ≡ 1 → (isNan (a .double) ≡ true) ⊎ (le zero64 (a .double) ≡ true)
 
--- row k's first answer is such a variance
-pub record VarianceIn (t : Trace) (p : Plan) (minPeriods ddof k : ℕ) (l : Lent) : Type 0 where
+-- of row k's first answer something is said
+pub record FirstAnswer (Said : Answer → Type 0) (k : ℕ) (l : Lent) : Type 0 where
   pub answer : Answer
   pub others : List Answer
   pub stands : answersIn (l .outputs .answers) k ≡ answer ∷ others
-  pub row : VarianceRow t (rowStart p k) (rowEnd p k) minPeriods ddof answer
+  pub row : Said answer
+
+-- row k's first answer is such a variance
+abbrev pub VarianceIn : Trace → Plan → ℕ → ℕ → ℕ → Lent → Type 0
+VarianceIn t p minPeriods ddof k l = FirstAnswer (VarianceRow t (rowStart p k) (rowEnd p k) minPeriods ddof) k l
 
 -- "A setting is .. what the figure's `finalize` takes beside the state (ddof; ..). ddof is a byte."
 abbrev pub IsSetting : Statistic → Type 0
 IsSetting (Variance ddof) = ddof < 256
 IsSetting (Skewness bias) = Unit {0}
 IsSetting (Kurtosis fisher bias) = Unit {0}
+IsSetting (Covariance ddof) = ddof < 256
+IsSetting Correlation = Unit {0}
 
 -- what is said of a variance, by what is asked
 abbrev pub WhereVariance : (a : Statistic) → Given (kindOf a) → Plan → ℕ → ℕ → Lent → Type 0
 WhereVariance (Variance ddof) t p minPeriods k l = VarianceIn t p minPeriods ddof k l
 WhereVariance (Skewness bias) t p minPeriods k l = Unit {0}
 WhereVariance (Kurtosis fisher bias) t p minPeriods k l = Unit {0}
+WhereVariance (Covariance ddof) t p minPeriods k l = Unit {0}
+WhereVariance Correlation t p minPeriods k l = Unit {0}
+
+-- "each row's answer is the one that document 01's split account yields"
+abbrev pub ByAccount : (q : Query) → GivenTo q → Lent → ℕ → Type 0
+ByAccount q t l k = answersIn (l .outputs .answers) k ≡ answersAt (yields q t) k
 
 -- row k of a call that leaves l
 pub record Yielded (q : Query) (t : GivenTo q) (l : Lent) (k : ℕ) : Type 0 where
-  -- "each row's answer is the one that document 01's split account yields"
-  pub account : answersIn (l .outputs .answers) k ≡ answersAt (yields q t) k
+  pub account : ByAccount q t l k
   -- "There variance is .."
   pub variance : WhereVariance (q .statistic) t (q .plan) (q .minPeriods) k l
 
@@ -88,8 +107,8 @@ pub record Yielded (q : Query) (t : GivenTo q) (l : Lent) (k : ℕ) : Type 0 whe
 -- bounds
 pub record DemandThree : Type 0 where
   -- of two calls
-  pub two : (q : Query) (t t′ : GivenTo q) (l l′ : Lent) → Alike (kindOf (q .statistic)) t t′ → AcceptedCall q t l → AcceptedCall q t′ l′
-      → SameAnswers q t t′ l l′
+  pub two : (q : Query) → OfOneTrace (q .statistic) → (t t′ : GivenTo q) (l l′ : Lent) → Alike (kindOf (q .statistic)) t t′
+      → AcceptedCall q t l → AcceptedCall q t′ l′ → SameAnswers q t t′ l l′
   -- of every call by itself
-  pub one : (q : Query) (t : GivenTo q) (l : Lent) → IsSetting (q .statistic) → AcceptedCall q t l
+  pub one : (q : Query) → OfOneTrace (q .statistic) → (t : GivenTo q) (l : Lent) → IsSetting (q .statistic) → AcceptedCall q t l
       → (k : ℕ) → k < rows (q .plan) → Yielded q t l k

@@ -1,7 +1,8 @@
 -- Demand 2: "For traces of up to 16,777,216 readings, any missing places and any accepted plan, every state and figure equals the Rust's
 -- with the stand-ins that document 01 lists, save the empty trace on which the Rust panics and we give no rows, and the square root is
 -- IEEE 754's correctly rounded one." The Rust is transcribed in the files Source*; what it defines for some arguments only is any `Rust`.
--- Assumes nothing.
+-- Document 02, request 2: "Demand 2 leaves out what the Rust lacks", which is rolling covariance and rolling correlation: of windows it
+-- speaks of the figures of one trace. Assumes nothing.
 use Prim.Native.Nat.{ℕ, zero, suc, _^_, _<_}
 use mathlib.Core.Path.{_≡_}
 use mathlib.Core.Bool.{Bool, true, false}
@@ -26,7 +27,7 @@ use Rattle.plan.specs.Plan.{Plan, rows}
 use Rattle.window.specs.Window.{Moment}
 use Rattle.window.specs.Given.{Given, placesOf}
 use Rattle.window.specs.Outputs.{Column, Lent, ofFigure, answersIn, answersAt}
-use Rattle.rolling.specs.Moments.{Statistic, Variance, Skewness, Kurtosis, kindOf}
+use Rattle.rolling.specs.Moments.{Statistic, Variance, Skewness, Kurtosis, Covariance, Correlation, kindOf}
 use Rattle.rolling.specs.Calls.{Query, GivenTo}
 use Rattle.rolling.specs.Fixed.{CalledFixed}
 use Rattle.weighted.specs.Weights.{CalledWeights}
@@ -44,7 +45,7 @@ use Rattle.promises.specs.SourceRows.{planRow, rowOf}
 use Rattle.promises.specs.SourceFixed.{fixedRow}
 use Rattle.promises.specs.SourceWeights.{rollingVarWeights}
 use Rattle.promises.specs.Calls.{CallsVar, CallsSkew, CallsKurtosis, CallsCov, CallsPearson, CallsSkewRange, CallsKurtosisRange}
-use Rattle.promises.specs.Calls.{varList, skewList, kurtosisList, covList, pearsonList, AcceptedCall}
+use Rattle.promises.specs.Calls.{varList, skewList, kurtosisList, covList, pearsonList, OfOneTrace, AcceptedCall}
 
 -- ---- states
 -- "every state .. equals the Rust's": each method that a host can call, of any set of floats
@@ -123,33 +124,38 @@ abbrev pub kurtosisMoment : Moment Float
 kurtosisMoment =
     record { State = KurtosisState; empty = KurtosisState·default; insert = KurtosisState·insertOne; combine = KurtosisState·combine }
 
--- the rows of the Rust's `rolling_apply_agg_window`, driven with the plan's rows: 003 with a map, 002 without one
-abbrev pub sourceRows : Rust → (a : Statistic) → Given (kindOf a) → ℕ → Plan → List (ℕ → Figure)
-sourceRows rust (Variance ddof) t minPeriods p = planRow varianceMoment rust (λ s. VarState·finalize s ddof) t minPeriods p ∷ []
-sourceRows rust (Skewness bias) t minPeriods p = planRow skewMoment rust (λ s. SkewState·finalize s bias) t minPeriods p ∷ []
-sourceRows rust (Kurtosis fisher bias) t minPeriods p =
+-- The rows of the Rust's `rolling_apply_agg_window`, driven with the plan's rows: 003 with a map, 002 without one. It has no window of two
+-- traces, so there are no rows of one here.
+abbrev pub sourceRows : Rust → (a : Statistic) → OfOneTrace a → Given (kindOf a) → ℕ → Plan → List (ℕ → Figure)
+sourceRows rust (Variance ddof) one t minPeriods p = planRow varianceMoment rust (λ s. VarState·finalize s ddof) t minPeriods p ∷ []
+sourceRows rust (Skewness bias) one t minPeriods p = planRow skewMoment rust (λ s. SkewState·finalize s bias) t minPeriods p ∷ []
+sourceRows rust (Kurtosis fisher bias) one t minPeriods p =
     planRow kurtosisMoment rust (λ s. KurtosisState·finalize s fisher bias) t minPeriods p ∷ []
+sourceRows rust (Covariance ddof) one t minPeriods p = absurd one
+sourceRows rust Correlation one t minPeriods p = absurd one
 
 -- the rows of the Rust's `rolling_var`, `rolling_skew` or `rolling_kurtosis`: "005 with a map, 004 without"
-abbrev pub sourceFixedRows : Rust → (a : Statistic) → Given (kindOf a) → ℕ → Bool → ℕ → List (ℕ → Figure)
-sourceFixedRows rust (Variance ddof) t minPeriods center size =
+abbrev pub sourceFixedRows : Rust → (a : Statistic) → OfOneTrace a → Given (kindOf a) → ℕ → Bool → ℕ → List (ℕ → Figure)
+sourceFixedRows rust (Variance ddof) one t minPeriods center size =
     fixedRow varianceMoment rust (λ s. VarState·finalize s ddof) t minPeriods center size ∷ []
-sourceFixedRows rust (Skewness bias) t minPeriods center size =
+sourceFixedRows rust (Skewness bias) one t minPeriods center size =
     fixedRow skewMoment rust (λ s. SkewState·finalize s bias) t minPeriods center size ∷ []
-sourceFixedRows rust (Kurtosis fisher bias) t minPeriods center size =
+sourceFixedRows rust (Kurtosis fisher bias) one t minPeriods center size =
     fixedRow kurtosisMoment rust (λ s. KurtosisState·finalize s fisher bias) t minPeriods center size ∷ []
+sourceFixedRows rust (Covariance ddof) one t minPeriods center size = absurd one
+sourceFixedRows rust Correlation one t minPeriods center size = absurd one
 
 -- "every .. figure equals the Rust's": of a call that leaves l, every row's answers
-abbrev pub RowsEqual : Rust → (q : Query) → GivenTo q → Lent → Type 0
-RowsEqual rust q t l =
+abbrev pub RowsEqual : Rust → (q : Query) → OfOneTrace (q .statistic) → GivenTo q → Lent → Type 0
+RowsEqual rust q one t l =
     (k : ℕ) → k < rows (q .plan)
-    → answersIn (l .outputs .answers) k ≡ answersAt (sourceRows rust (q .statistic) t (q .minPeriods) (q .plan)) k
+    → answersIn (l .outputs .answers) k ≡ answersAt (sourceRows rust (q .statistic) one t (q .minPeriods) (q .plan)) k
 
 -- the same with fixed windows: the rows are the trace's places, so that the empty trace has none
-abbrev pub FixedRowsEqual : Rust → Bool → ℕ → ℕ → (a : Statistic) → Given (kindOf a) → Lent → Type 0
-FixedRowsEqual rust center windowSize minPeriods a t l =
+abbrev pub FixedRowsEqual : Rust → Bool → ℕ → ℕ → (a : Statistic) → OfOneTrace a → Given (kindOf a) → Lent → Type 0
+FixedRowsEqual rust center windowSize minPeriods a one t l =
     (k : ℕ) → k < placesOf (kindOf a) t
-    → answersIn (l .outputs .answers) k ≡ answersAt (sourceFixedRows rust a t minPeriods center windowSize) k
+    → answersIn (l .outputs .answers) k ≡ answersAt (sourceFixedRows rust a one t minPeriods center windowSize) k
 
 -- the same with weights
 abbrev pub WeightedRowsEqual : Rust → Bool → ℕ → ℕ → List Float → Trace → Column → Type 0
@@ -176,10 +182,12 @@ pub record DemandTwo : Type 0 where
   pub arrays : ArraysEqual
   pub ranges : RangesEqual
   -- plan calls and host calls, and fixed windows as the plan of their bounds: "The oracle drives the Rust window with the plan's rows"
-  pub plans : (rust : Rust) (q : Query) (t : GivenTo q) (l : Lent) → AcceptedCall q t l → RowsEqual rust q t l
+  pub plans : (rust : Rust) (q : Query) (one : OfOneTrace (q .statistic)) (t : GivenTo q) (l : Lent) → AcceptedCall q t l
+      → RowsEqual rust q one t l
   -- "Fixed windows (006, 004, 005)", of any size that is a `usize`
-  pub fixed : (rust : Rust) (center : Bool) (windowSize minPeriods : ℕ) (a : Statistic) (t : Given (kindOf a)) (l₀ l : Lent)
-      → windowSize < 2 ^ 64 → CalledFixed center windowSize minPeriods a t l₀ l 0 → FixedRowsEqual rust center windowSize minPeriods a t l
+  pub fixed : (rust : Rust) (center : Bool) (windowSize minPeriods : ℕ) (a : Statistic) (one : OfOneTrace a) (t : Given (kindOf a))
+      (l₀ l : Lent) → windowSize < 2 ^ 64 → CalledFixed center windowSize minPeriods a t l₀ l 0
+      → FixedRowsEqual rust center windowSize minPeriods a one t l
   -- "Weights (002, 004)"
   pub weights : (rust : Rust) (center : Bool) (windowSize minPeriods : ℕ) (weights : List Float) (t : Trace) (c₀ c : Column)
       → windowSize < 2 ^ 64 → CalledWeights center windowSize minPeriods weights t c₀ c 0

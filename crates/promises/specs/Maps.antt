@@ -9,13 +9,13 @@ use lib.ListN.{length}
 use lib.Ieee.{Float}
 use Rattle.trace.specs.Trace.{Trace, traceOf, validAt}
 use Rattle.plan.specs.Plan.{rows}
-use Rattle.window.specs.Given.{Kind, Readings, Given}
+use Rattle.window.specs.Given.{Kind, Readings, Pairs, Given}
 use Rattle.window.specs.Outputs.{Column, Lent, shortestOutput, answersIn}
 use Rattle.rolling.specs.Moments.{Statistic, kindOf}
 use Rattle.rolling.specs.Calls.{Query, GivenTo, Called}
 use Rattle.rolling.specs.Fixed.{fixedQuery, CalledFixed}
 use Rattle.weighted.specs.Weights.{CalledWeights}
-use Rattle.moments.specs.HostCall.{Host, decodedOf, ReadingLists, shortLists, CalledBytes}
+use Rattle.moments.specs.HostCall.{ByteTrace, decoded, Host, ReadingLists, shortLists, CalledBytes}
 use Rattle.promises.specs.Calls.{CallsVar, CallsSkew, CallsKurtosis, CallsCov, CallsPearson, CallsSkewRange, CallsKurtosisRange}
 use Rattle.promises.specs.DemandOne.{MapOfWrongLength}
 
@@ -35,10 +35,16 @@ pub record SameMaps (t t′ : Trace) : Type 0 where
 -- the same, of what a call is given ..
 abbrev pub SameGiven : (kind : Kind) → Given kind → Given kind → Type 0
 SameGiven Readings t t′ = SameMaps t t′
+SameGiven Pairs t t′ = SameMaps (t .x) (t′ .x) × SameMaps (t .y) (t′ .y)
+
+-- .. of a trace as bytes ..
+abbrev pub SameBytes : ByteTrace → ByteTrace → Type 0
+SameBytes h h′ = (h .bytes ≡ h′ .bytes) × SameMaps (decoded h) (decoded h′)
 
 -- .. and of what the host lends
 abbrev pub SameHost : (kind : Kind) → Host kind → Host kind → Type 0
-SameHost Readings h h′ = (h .bytes ≡ h′ .bytes) × SameMaps (decodedOf Readings h) (decodedOf Readings h′)
+SameHost Readings h h′ = SameBytes h h′
+SameHost Pairs h h′ = SameBytes (h .x) (h′ .x) × SameBytes (h .y) (h′ .y)
 
 -- a trace with more bytes behind its map
 abbrev pub padded : Trace → List ℕ → Trace
@@ -96,10 +102,10 @@ pub record MapLaw : Type 0 where
   pub pearson : OfPair CallsPearson
   pub skew-range : (start len : ℕ) → OfTrace (λ t. CallsSkewRange t start len)
   pub kurtosis-range : (start len : ℕ) → OfTrace (λ t. CallsKurtosisRange t start len)
-  -- plans, the trace as doubles
+  -- plans, the trace or the two traces as doubles
   pub plans : (q : Query) (t t′ : GivenTo q) → SameGiven (kindOf (q .statistic)) t t′ → (l₀ l l₀′ l′ : Lent) → SameRoom l₀ l₀′ → (r r′ : ℕ)
       → Called q t l₀ l r → Called q t′ l₀′ l′ r′ → SameRows (rows (q .plan)) l l′ r r′
-  -- host calls, the trace as bytes
+  -- host calls, the trace or the two traces as bytes
   pub hosts : (q : Query) (h h′ : Host (kindOf (q .statistic))) → SameHost (kindOf (q .statistic)) h h′
       → (r₀ r r₀′ r′ : ReadingLists (kindOf (q .statistic))) → SameReadingRoom (kindOf (q .statistic)) h h′ r₀ r₀′
       → (l₀ l l₀′ l′ : Lent) → SameRoom l₀ l₀′ → (number number′ : ℕ) → CalledBytes q h r₀ r l₀ l number
