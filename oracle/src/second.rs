@@ -1,7 +1,7 @@
 //! A second implementation beside the Rust, reached by function pointers: `fuzz` asks both. With the feature `host` it is our
 //! libmoments.a, by the crate `moments` of ../host.
 use crate::host::Call;
-use crate::windows;
+use crate::{pairs, windows};
 #[cfg(feature = "host")]
 use crate::Figure;
 
@@ -24,12 +24,15 @@ impl Answer {
 pub type PlanFn = fn(&Call, &mut [f64], &mut [f64], &mut [f64], &mut [u8]) -> Answer;
 /// call (of a figure, or with weights), work, figures out, present out
 pub type WindowsFn = fn(&windows::Call, &mut [f64], &mut [f64], &mut [u8]) -> Answer;
+/// call (over a plan or fixed windows), readings of both out (none for fixed windows), work, figures out, present out
+pub type PairsFn = fn(&pairs::Case, [&mut [f64]; 2], &mut [f64], &mut [f64], &mut [u8]) -> Answer;
 
 #[derive(Clone, Copy)]
 pub struct Impl {
     pub plan: PlanFn,
     pub fixed: WindowsFn,
     pub weighted: Option<WindowsFn>,
+    pub pairs: PairsFn,
 }
 
 /// A demonstration: the work-slice model of src/model.rs, which has no weights.
@@ -51,7 +54,7 @@ pub fn demo() -> Impl {
             let x = c.readings();
             readings[..x.len()].copy_from_slice(&x);
             let rows = c.starts.iter().zip(c.ends).map(|(a, b)| (*a as usize, *b as usize));
-            crate::model::plan_into(&x, c.map(), rows, c.figure, c.min, work, |i, r| put(figures, present, i, r), |_, _| {});
+            crate::model::plan_into(&x, c.map(), rows, c.figure, c.min, work, |i, r| put(figures, present, i, r), &mut ());
         }
         Answer::Number(number)
     }
@@ -60,11 +63,23 @@ pub fn demo() -> Impl {
         if number == 0 {
             let n = c.x.len();
             let rows = (0..n).map(|i| crate::offsets(i, c.size, n, c.centre));
-            crate::model::plan_into(c.x, c.map(), rows, c.figure, c.min, work, |i, r| put(figures, present, i, r), |_, _| {});
+            crate::model::plan_into(c.x, c.map(), rows, c.figure, c.min, work, |i, r| put(figures, present, i, r), &mut ());
         }
         Answer::Number(number)
     }
-    Impl { plan, fixed, weighted: None }
+    fn pairs(c: &pairs::Case, readings: [&mut [f64]; 2], work: &mut [f64], figures: &mut [f64], present: &mut [u8]) -> Answer {
+        let number = c.refusal();
+        if number == 0 {
+            let (x, y) = (c.x.readings(), c.y.readings());
+            if c.decodes() {
+                readings.into_iter().zip([&x, &y]).for_each(|(list, x)| list[..x.len()].copy_from_slice(x));
+            }
+            let (maps, rows) = ([c.x.map(), c.y.map()], c.rows().into_iter());
+            crate::model::pairs_into([&x, &y], maps, rows, c.figure, c.min, work, |i, r| put(figures, present, i, r), &mut ());
+        }
+        Answer::Number(number)
+    }
+    Impl { plan, fixed, weighted: None, pairs }
 }
 
 #[cfg(not(feature = "host"))]
@@ -73,7 +88,7 @@ pub fn second() -> Option<Impl> {
 }
 #[cfg(feature = "host")]
 pub fn second() -> Option<Impl> {
-    Some(Impl { plan: ours::plan, fixed: ours::windows, weighted: Some(ours::windows) })
+    Some(Impl { plan: ours::plan, fixed: ours::windows, weighted: Some(ours::windows), pairs: ours::pairs })
 }
 
 /// A figure and a minimum as ../host has them.
@@ -92,7 +107,7 @@ pub fn setting(figure: Figure, min: usize) -> moments::Setting {
 mod ours {
     use super::{setting, Answer};
     use crate::host::Call;
-    use crate::{windows, Figure};
+    use crate::{pairs, windows, Figure, PairFigure};
     use moments::{abi, plan_into, rolling_into, rolling_var_weights_into, Lists, Plan, Refusal, Window};
 
     fn answer(result: Result<(), Refusal>) -> Answer {
@@ -146,6 +161,35 @@ mod ours {
                 (_, Figure::Var { ddof }) => abi::moments_rolling_var(t, n, false, mp, mn, size, min, centre, ddof, wp, wn, vp, vn, pp, pn),
                 (_, Figure::Skew { bias }) => abi::moments_rolling_skew(t, n, false, mp, mn, size, min, centre, bias, wp, wn, vp, vn, pp, pn),
                 (_, Figure::Kurt { fisher, bias }) => abi::moments_rolling_kurtosis(t, n, false, mp, mn, size, min, centre, fisher, bias, wp, wn, vp, vn, pp, pn),
+            }
+        })
+    }
+
+    #[rustfmt::skip]
+    pub fn pairs(c: &pairs::Case, readings: [&mut [f64]; 2], work: &mut [f64], figures: &mut [f64], present: &mut [u8]) -> Answer {
+        let (xh, xm, xmn) = (c.x.has_map, c.x.map.as_ptr(), c.x.map.len());
+        let (yh, ym, ymn) = (c.y.has_map, c.y.map.as_ptr(), c.y.map.len());
+        let (wp, wn, vp, vn, pp, pn) = (work.as_mut_ptr(), work.len(), figures.as_mut_ptr(), figures.len(), present.as_mut_ptr(), present.len());
+        // SAFETY: as above.
+        Answer::Number(unsafe {
+            match &c.windows {
+                pairs::Windows::Plan { starts, ends } => {
+                    let ((x, xn), (y, yn)) = ((c.x.bytes().as_ptr(), c.x.bytes().len()), (c.y.bytes().as_ptr(), c.y.bytes().len()));
+                    let [(xr, xrn), (yr, yrn)] = readings.map(|list| (list.as_mut_ptr(), list.len()));
+                    let (sp, sn, ep, en, min) = (starts.as_ptr(), starts.len(), ends.as_ptr(), ends.len(), c.min);
+                    match c.figure {
+                        PairFigure::Cov { ddof } => abi::moments_plan_cov(x, xn, xr, xrn, xh, xm, xmn, y, yn, yr, yrn, yh, ym, ymn, sp, sn, ep, en, min, ddof, wp, wn, vp, vn, pp, pn),
+                        PairFigure::Pearson => abi::moments_plan_pearson_corr(x, xn, xr, xrn, xh, xm, xmn, y, yn, yr, yrn, yh, ym, ymn, sp, sn, ep, en, min, wp, wn, vp, vn, pp, pn),
+                    }
+                }
+                pairs::Windows::Fixed { size, centre } => {
+                    let (a, b, size, centre, min) = (c.x.readings(), c.y.readings(), *size, *centre, c.min);
+                    let (x, xn, y, yn) = (a.as_ptr(), a.len(), b.as_ptr(), b.len());
+                    match c.figure {
+                        PairFigure::Cov { ddof } => abi::moments_rolling_cov(x, xn, xh, xm, xmn, y, yn, yh, ym, ymn, size, min, centre, ddof, wp, wn, vp, vn, pp, pn),
+                        PairFigure::Pearson => abi::moments_rolling_pearson_corr(x, xn, xh, xm, xmn, y, yn, yh, ym, ymn, size, min, centre, wp, wn, vp, vn, pp, pn),
+                    }
+                }
             }
         })
     }
