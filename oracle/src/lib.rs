@@ -11,6 +11,7 @@ pub mod cases;
 pub mod host;
 pub mod maps;
 pub mod model;
+pub mod pair_cases;
 pub mod pairs;
 pub mod record;
 pub mod refusal;
