@@ -4,8 +4,9 @@
 //! - States: [`VarState`], [`CovState`], [`PearsonState`], [`SkewState`], [`KurtosisState`]; readings are inserted, two states combine,
 //!   `finalize` gives the figure. [`root`] is the square root they use.
 //! - Whole traces: [`var`], [`skew`], [`kurtosis`], [`cov`], [`pearson_corr`]. Ranges: [`skew_range`], [`kurtosis_range`].
-//! - Windows: [`plan`] for a [`Plan`] of any windows, [`rolling`] for a [`Window`] of one size, [`rolling_var_weights`] for weighted ones; what is
-//!   asked of each window is a [`Setting`]. Those that end in `_into` take the lists to write to and allocate nothing.
+//! - Windows: [`plan`] for a [`Plan`] of any windows, [`rolling`] for a [`Window`] of one size, [`rolling_var_weights`] for weighted ones;
+//!   over two traces [`plan_pair`] and [`rolling_pair`]. What is asked of each window is a [`Setting`]. Those that end in `_into` take the
+//!   lists to write to and allocate nothing.
 //!
 //! A trace is a slice. Where readings are missing, a map has a bit for each place, lowest bit first, 1 for valid, in at least as many
 //! bytes as that takes; [`trace_of`] makes both. Spare bits and the bytes behind are ignored, so the bitmap of an Arrow array, padded to
@@ -37,9 +38,10 @@ pub use moment::{
     cov, kurtosis, kurtosis_range, pearson_corr, root, skew, skew_range, var, CovState, KurtosisState, PearsonState, SkewState,
     VarState,
 };
-pub use refusal::{List, Refusal, MOST};
+pub use refusal::{List, Refusal, Which, MOST};
 pub use rolling::{
-    plan, plan_into, rolling, rolling_into, rolling_var_weights, rolling_var_weights_into, Figure, Lists, Plan, Setting, Window,
+    plan, plan_into, plan_pair, plan_pair_into, rolling, rolling_into, rolling_pair, rolling_pair_into, rolling_var_weights,
+    rolling_var_weights_into, Encoded, Figure, Kind, Lists, PairFigure, Plan, Setting, Window,
 };
 
 /// The README's example is run too.

@@ -1,6 +1,6 @@
 //! Which places of a trace are valid: one bit a place, lowest bit first, 1 for valid. A map has at least as many bytes as that takes;
 //! spare bits of the last and the bytes behind are ignored.
-use crate::refusal::Refusal;
+use crate::refusal::{Refusal, Which};
 
 /// Bytes that the map of so many readings has at least.
 pub(crate) fn bytes_for(readings: usize) -> usize {
@@ -57,19 +57,20 @@ pub fn trace_of(readings: impl IntoIterator<Item = Option<f64>>) -> (Vec<f64>, O
 /// [`trace_of`]); an array without missing readings is asked without a map.
 ///
 /// ```
-/// use moments::{map_of, var, Refusal};
+/// use moments::{map_of, var, Refusal, Which};
 /// let (bitmap, trace) = ([0b0101_1000, 0xFF, 0xFF, 0xFF], [2.0, 4.0, 9.0, 6.0]);
 /// let map = map_of(&bitmap, 3, trace.len())?;
 /// assert_eq!(map, [0b1011]);
 /// assert_eq!(var(&trace, Some(&map))?.finalize(1), Some(4.0));
 /// assert_eq!(var(&trace, Some(&bitmap[1..]))?.weight, 4.0);       // places 8 to 11
-/// assert_eq!(map_of(&bitmap, 29, 4), Err(Refusal::MapLength { bytes: 4, readings: 33 }));
+/// assert_eq!(map_of(&bitmap, 29, 4), Err(Refusal::MapLength { trace: Which::Only, bytes: 4, readings: 33 }));
 /// # Ok::<(), Refusal>(())
 /// ```
 pub fn map_of(bitmap: &[u8], offset: usize, length: usize) -> Result<Vec<u8>, Refusal> {
     let enough = offset.checked_add(length).is_some_and(|bits| bytes_for(bits) <= bitmap.len());
     if !enough {
-        return Err(Refusal::MapLength { bytes: bitmap.len(), readings: offset.saturating_add(length) });
+        let readings = offset.saturating_add(length);
+        return Err(Refusal::MapLength { trace: Which::Only, bytes: bitmap.len(), readings });
     }
     let byte = |first: usize| {
         let bits = 0..(length - first).min(8);
@@ -101,7 +102,7 @@ mod tests {
 
     #[test]
     fn a_bitmap_that_is_too_short_is_refused() {
-        let short = |bytes, readings| Err(Refusal::MapLength { bytes, readings });
+        let short = |bytes, readings| Err(Refusal::MapLength { trace: Which::Only, bytes, readings });
         for offset in 0..=64 {
             assert!(map_of(&BITMAP, offset, 64 - offset).is_ok());
             assert_eq!(map_of(&BITMAP, offset, 65 - offset), short(8, 65));

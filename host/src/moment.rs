@@ -1,6 +1,6 @@
 //! The five states, whole arrays and ranges.
 use crate::abi::{self, OfPair, OfRange, OfTrace};
-use crate::refusal::{Given, Refusal};
+use crate::refusal::{Given, GivenTrace, Refusal};
 
 macro_rules! states {
     ($($(#[$doc:meta])* $state:ident, $n:literal, $combine:ident, ($($x:ident),*), $insert:ident: $($(#[$about:meta])* $member:ident),*;)*) => {$(
@@ -194,7 +194,7 @@ fn of_pair<const N: usize>(
     let (a, b) = (x.as_ptr(), y.as_ptr());
     // SAFETY: each pointer and length is a slice's.
     let number = unsafe { entry(a, x.len(), x_has_map, xm, x_bytes, b, y.len(), y_has_map, ym, y_bytes, &mut state) };
-    Given { pair: Some((y.len(), y_map.map(<[u8]>::len))), ..Given::trace(x, x_map) }.result(number)?;
+    Given { pair: Some(GivenTrace::new(y, y_map)), ..Given::trace(x, x_map) }.result(number)?;
     Ok(state)
 }
 fn of_range<const N: usize>(
@@ -246,7 +246,7 @@ pub fn kurtosis(trace: &[f64], map: Option<&[u8]>) -> Result<KurtosisState, Refu
 /// assert_eq!(cov(&[1.0, 3.0], None, &[2.0, 4.0], None)?.finalize(1), Some(2.0));
 /// let refusal = cov(&[1.0, 3.0], None, &[2.0], None).unwrap_err();
 /// assert_eq!(refusal, Refusal::LengthsDiffer { first: 2, second: 1 });
-/// assert_eq!(refusal.to_string(), "the two traces differ in length: the first has 2 readings, the second 1");
+/// assert_eq!(refusal.to_string(), "the second trace has 1 reading, the first 2, but two traces must be of one length");
 /// # Ok::<(), Refusal>(())
 /// ```
 pub fn cov(x: &[f64], x_map: Option<&[u8]>, y: &[f64], y_map: Option<&[u8]>) -> Result<CovState, Refusal> {

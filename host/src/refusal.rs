@@ -7,6 +7,26 @@ use std::fmt;
 /// The most readings that a trace may have, and the most rows that a plan may have.
 pub const MOST: usize = 16_777_216;
 
+/// The trace that a refusal speaks of.
+#[derive(Clone, Copy, Debug, PartialEq, Eq)]
+pub enum Which {
+    /// The one that the call has.
+    Only,
+    /// The first of two.
+    First,
+    /// The second of two.
+    Second,
+}
+impl fmt::Display for Which {
+    fn fmt(&self, f: &mut fmt::Formatter<'_>) -> fmt::Result {
+        f.write_str(match self {
+            Self::Only => "the trace",
+            Self::First => "the first trace",
+            Self::Second => "the second trace",
+        })
+    }
+}
+
 /// One of the lists that a caller lends for the answers.
 #[derive(Clone, Copy, Debug, PartialEq, Eq)]
 pub enum List {
@@ -14,8 +34,8 @@ pub enum List {
     Figures,
     /// A byte a row.
     Present,
-    /// A double a reading, into which a plan call decodes its trace.
-    Readings,
+    /// A double a reading, into which a plan call decodes this trace.
+    Readings(Which),
 }
 
 /// Why a call was refused: document 01's numbers, each with what there is to say of it. Of several that apply it is the first
@@ -28,12 +48,14 @@ pub enum List {
 /// let refusal = plan(&[2.0, 4.0, 6.0], None, Plan::new(&[0, 2], &[2, 4]), Setting::var(1)).unwrap_err();
 /// assert_eq!(refusal, Refusal::EndPastTrace { row: 1, end: 4, readings: 3 });
 /// assert_eq!(refusal.number(), 6);
-/// assert_eq!(refusal.to_string(), "row 1 ends at 4, but the trace has 3 readings, so a row can end at 3 at most");
+/// assert_eq!(refusal.to_string(), "row 1 ends at 4, but with 3 readings a row can end at 3 at most");
 /// ```
 #[derive(Clone, Copy, Debug, PartialEq, Eq)]
 pub enum Refusal {
     /// 1: a trace has more than [`MOST`] readings.
     TooManyReadings {
+        /// Which trace, of two the first that has.
+        trace: Which,
         /// How many.
         readings: usize,
     },
@@ -46,6 +68,8 @@ pub enum Refusal {
     },
     /// 3: a map with fewer bytes than its trace needs. A longer one is taken.
     MapLength {
+        /// Whose map, of two the first such one's.
+        trace: Which,
         /// Bytes of the map.
         bytes: usize,
         /// Readings of its trace, each with a bit.
@@ -123,6 +147,8 @@ pub enum Refusal {
     },
     /// 14: the bytes of a trace are no multiple of 8.
     TraceBytes {
+        /// Which trace, of two the first such one.
+        trace: Which,
         /// How many.
         bytes: usize,
     },
@@ -171,17 +197,18 @@ fn count(n: usize, thing: &str) -> String {
 impl fmt::Display for Refusal {
     fn fmt(&self, f: &mut fmt::Formatter<'_>) -> fmt::Result {
         match *self {
-            Self::TooManyReadings { readings } => {
-                write!(f, "a trace has {readings} readings, but {MOST} is the most that is taken")
+            Self::TooManyReadings { trace, readings } => {
+                write!(f, "{trace} has {readings} readings, but {MOST} is the most that is taken")
             }
             Self::LengthsDiffer { first, second } => {
-                write!(f, "the two traces differ in length: the first has {}, the second {second}", count(first, "reading"))
+                let second = count(second, "reading");
+                write!(f, "the second trace has {second}, the first {first}, but two traces must be of one length")
             }
-            Self::MapLength { bytes, readings: n } => write!(
+            Self::MapLength { trace, bytes, readings: n } => write!(
                 f,
-                "a map of {} has {}, but needs at least {}: one bit a reading, eight bits a byte",
-                count(n, "reading"),
+                "{trace}'s map has {}, but {} at least {}: one bit a reading, eight bits a byte",
                 count(bytes, "byte"),
+                if n == 1 { "1 reading needs".into() } else { format!("{n} readings need") },
                 bytes_for(n),
             ),
             Self::PlanLengths { starts, ends } if starts == ends => {
@@ -194,7 +221,7 @@ impl fmt::Display for Refusal {
                 write!(f, "row {row} starts at {start}, after its end at {end}")
             }
             Self::EndPastTrace { row, end, readings: n } => {
-                write!(f, "row {row} ends at {end}, but the trace has {}, so a row can end at {n} at most", count(n, "reading"))
+                write!(f, "row {row} ends at {end}, but with {} a row can end at {n} at most", count(n, "reading"))
             }
             Self::BelowRowBefore { row, bounds, before } => {
                 let last = row.saturating_sub(1);
@@ -227,9 +254,10 @@ impl fmt::Display for Refusal {
             ),
             Self::ListTooShort { list, length, needed } => {
                 let (list, what) = match list {
-                    List::Figures => ("figures", "row"),
-                    List::Present => ("present bytes", "row"),
-                    List::Readings => ("readings", "reading"),
+                    List::Figures => ("figures".into(), "row"),
+                    List::Present => ("present bytes".into(), "row"),
+                    List::Readings(Which::Only) => ("readings".into(), "reading"),
+                    List::Readings(trace) => (format!("{trace}'s readings"), "reading"),
                 };
                 let places = count(length, "place");
                 write!(f, "the lent list of {list} has {places}, but needs {needed}, one for each {what}")
@@ -237,8 +265,8 @@ impl fmt::Display for Refusal {
             Self::WorkTooShort { length, needed } => {
                 write!(f, "the lent work slice has {}, but the widest window needs {needed}", count(length, "double"))
             }
-            Self::TraceBytes { bytes } => {
-                write!(f, "the trace has {}, which is no multiple of 8: a reading has 8", count(bytes, "byte"))
+            Self::TraceBytes { trace, bytes } => {
+                write!(f, "{trace} has {}, which is no multiple of 8: a reading has 8", count(bytes, "byte"))
             }
             Self::Unknown { number } => {
                 write!(f, "the library answered the number {number}, which this crate does not know: is the archive an older or a newer one?")
@@ -248,15 +276,38 @@ impl fmt::Display for Refusal {
 }
 impl Error for Refusal {}
 
+/// A trace that a call was given, as far as a refusal can speak of it.
+#[derive(Clone, Copy, Default)]
+pub(crate) struct GivenTrace {
+    /// Where it was given as bytes, how many.
+    pub bytes: usize,
+    pub readings: usize,
+    /// Bytes of its map.
+    pub map: Option<usize>,
+    /// Length of the list into which it is decoded.
+    pub decoded: Option<usize>,
+}
+impl GivenTrace {
+    pub fn new(trace: &[f64], map: Option<&[u8]>) -> Self {
+        GivenTrace { readings: trace.len(), map: map.map(<[u8]>::len), ..GivenTrace::default() }
+    }
+    fn is_too_long(&self) -> bool {
+        self.readings > MOST
+    }
+    fn has_short_map(&self) -> bool {
+        self.map.is_some_and(|bytes| bytes < bytes_for(self.readings))
+    }
+    fn is_cut(&self) -> bool {
+        self.bytes % 8 != 0
+    }
+}
+
 /// What a call was given, as far as a refusal can speak of it; what a call has not is left at its default.
 #[derive(Clone, Copy, Default)]
 pub(crate) struct Given<'a> {
-    pub trace_bytes: usize,
-    pub readings: usize,
-    /// Bytes of the map.
-    pub map: Option<usize>,
-    /// Readings of the second trace, and bytes of its map.
-    pub pair: Option<(usize, Option<usize>)>,
+    pub trace: GivenTrace,
+    /// The second trace.
+    pub pair: Option<GivenTrace>,
     pub plan: Plan<'a>,
     pub weights: usize,
     pub window_size: usize,
@@ -265,13 +316,12 @@ pub(crate) struct Given<'a> {
     /// Lengths of the lists that are lent.
     pub figures: usize,
     pub present: usize,
-    pub decoded: Option<usize>,
     pub work: usize,
     pub needed_work: usize,
 }
 impl Given<'_> {
     pub fn trace(trace: &[f64], map: Option<&[u8]>) -> Self {
-        Given { readings: trace.len(), map: map.map(<[u8]>::len), ..Given::default() }
+        Given { trace: GivenTrace::new(trace, map), ..Given::default() }
     }
     /// 0 is acceptance; any other number is said in full.
     pub fn result(&self, number: u32) -> Result<(), Refusal> {
@@ -286,36 +336,49 @@ impl Given<'_> {
         Given { needed_work, ..self }.result(number)
     }
     fn refusal(&self, number: u32) -> Option<Refusal> {
-        let second = self.pair.map_or(0, |(readings, _)| readings);
+        let readings = self.trace.readings;
         Some(match number {
-            1 => Refusal::TooManyReadings { readings: self.readings.max(second) },
-            2 => Refusal::LengthsDiffer { first: self.readings, second },
-            3 => self.short_map()?,
+            1 => {
+                let (trace, GivenTrace { readings, .. }) = self.first_trace(GivenTrace::is_too_long)?;
+                Refusal::TooManyReadings { trace, readings }
+            }
+            2 => {
+                let GivenTrace { readings: second, .. } = self.pair.filter(|pair| pair.readings != readings)?;
+                Refusal::LengthsDiffer { first: readings, second }
+            }
+            3 => {
+                let (trace, GivenTrace { readings, map, .. }) = self.first_trace(GivenTrace::has_short_map)?;
+                Refusal::MapLength { trace, bytes: map?, readings }
+            }
             4 => Refusal::PlanLengths { starts: self.plan.starts.len(), ends: self.plan.ends.len() },
-            5..=7 => self.plan.first_refusal(self.readings)?,
+            5..=7 => self.plan.first_refusal(readings)?,
             8 => Refusal::WeightsWithMap,
             9 => Refusal::WeightsSumToZero,
             10 => Refusal::WeightCount { weights: self.weights, window_size: self.window_size },
-            11 => Refusal::RangePastTrace { start: self.range.0, length: self.range.1, readings: self.readings },
+            11 => Refusal::RangePastTrace { start: self.range.0, length: self.range.1, readings },
             12 => self.short_list()?,
             13 => Refusal::WorkTooShort { length: self.work, needed: self.needed_work },
-            14 => Refusal::TraceBytes { bytes: self.trace_bytes },
+            14 => {
+                let (trace, GivenTrace { bytes, .. }) = self.first_trace(GivenTrace::is_cut)?;
+                Refusal::TraceBytes { trace, bytes }
+            }
             _ => return None,
         })
     }
-    fn short_map(&self) -> Option<Refusal> {
-        let traces = [Some((self.readings, self.map)), self.pair].into_iter().flatten();
-        let mut maps = traces.filter_map(|(readings, map)| Some((readings, map?)));
-        let (readings, bytes) = maps.find(|(readings, bytes)| *bytes < bytes_for(*readings))?;
-        Some(Refusal::MapLength { bytes, readings })
+    /// The call's traces, each with how it is called.
+    fn traces(&self) -> impl Iterator<Item = (Which, GivenTrace)> {
+        let first = if self.pair.is_some() { Which::First } else { Which::Only };
+        [(first, Some(self.trace)), (Which::Second, self.pair)].into_iter().filter_map(|(which, trace)| Some((which, trace?)))
+    }
+    fn first_trace(&self, such: fn(&GivenTrace) -> bool) -> Option<(Which, GivenTrace)> {
+        self.traces().find(|(_, trace)| such(trace))
     }
     fn short_list(&self) -> Option<Refusal> {
-        let decoded = self.decoded.map(|length| (List::Readings, length, self.readings));
-        [Some((List::Figures, self.figures, self.rows)), Some((List::Present, self.present, self.rows)), decoded]
-            .into_iter()
-            .flatten()
-            .find(|(_, length, needed)| length < needed)
-            .map(|(list, length, needed)| Refusal::ListTooShort { list, length, needed })
+        let answers = [(List::Figures, self.figures, self.rows), (List::Present, self.present, self.rows)];
+        let decoded = self.traces().filter_map(|(which, trace)| Some((List::Readings(which), trace.decoded?, trace.readings)));
+        let mut lists = answers.into_iter().chain(decoded);
+        let (list, length, needed) = lists.find(|(_, length, needed)| length < needed)?;
+        Some(Refusal::ListTooShort { list, length, needed })
     }
 }
 
@@ -325,24 +388,34 @@ mod tests {
 
     #[test]
     fn a_number_that_does_not_fit_the_call_is_unknown() {
-        let given = Given { readings: 3, plan: Plan::new(&[0], &[4]), ..Given::default() };
+        let trace = GivenTrace { readings: 3, ..GivenTrace::default() };
+        let given = Given { trace, plan: Plan::new(&[0], &[4]), ..Given::default() };
         assert_eq!(given.result(0), Ok(()));
         assert_eq!(given.result(6), Err(Refusal::EndPastTrace { row: 0, end: 4, readings: 3 }));
-        for number in [3, 5, 7, 12, 15, 99, u32::MAX] {
+        for number in [1, 2, 3, 5, 7, 12, 14, 15, 99, u32::MAX] {
             assert_eq!(given.result(number), Err(Refusal::Unknown { number }));
         }
     }
 
     #[test]
-    fn the_map_that_is_told_of_is_the_short_one() {
-        let given = |map, other| Given { readings: 9, map, pair: Some((9, other)), ..Given::default() }.result(3);
-        let short = |bytes| Err(Refusal::MapLength { bytes, readings: 9 });
-        assert_eq!(given(Some(1), Some(0)), short(1));
-        assert_eq!(given(Some(3), Some(1)), short(1));
-        assert_eq!(given(None, Some(0)), short(0));
+    fn the_trace_that_is_told_of_is_the_first_such_one() {
+        let told = |traces: [GivenTrace; 2], number| {
+            Given { trace: traces[0], pair: Some(traces[1]), ..Given::default() }.result(number)
+        };
+        let of = |readings, map| GivenTrace { readings, map, ..GivenTrace::default() };
+        let short = |trace, bytes| Err(Refusal::MapLength { trace, bytes, readings: 9 });
+        assert_eq!(told([of(9, Some(1)), of(9, Some(0))], 3), short(Which::First, 1));
+        assert_eq!(told([of(9, Some(3)), of(9, Some(1))], 3), short(Which::Second, 1));
+        assert_eq!(told([of(9, None), of(9, Some(0))], 3), short(Which::Second, 0));
         // no map is short: the archive is not this crate's
         for longer in [2, 3, 66] {
-            assert_eq!(given(Some(longer), None), Err(Refusal::Unknown { number: 3 }));
+            assert_eq!(told([of(9, Some(longer)), of(9, None)], 3), Err(Refusal::Unknown { number: 3 }));
         }
+        let long = |trace, readings| Err(Refusal::TooManyReadings { trace, readings });
+        assert_eq!(told([of(MOST + 1, None), of(MOST + 2, None)], 1), long(Which::First, MOST + 1));
+        assert_eq!(told([of(MOST, None), of(MOST + 2, None)], 1), long(Which::Second, MOST + 2));
+        let cut = |bytes| GivenTrace { bytes, readings: bytes / 8, ..GivenTrace::default() };
+        assert_eq!(told([cut(17), cut(9)], 14), Err(Refusal::TraceBytes { trace: Which::First, bytes: 17 }));
+        assert_eq!(told([cut(16), cut(9)], 14), Err(Refusal::TraceBytes { trace: Which::Second, bytes: 9 }));
     }
 }

@@ -1,7 +1,7 @@
-//! `collector` (document 01's word for the program that reaches the plan call from Rust): figures of a temperature trace by
-//! window, as a table and a picture.
+//! `collector` (document 01's word for the program that reaches the plan call from Rust): figures of a temperature trace, or of
+//! two, by window, as a table and a picture.
 //!
-//! It reads a trace and a plan (or is told a window's size), has the library work out a figure for each row, and writes nothing
+//! It reads the traces and a plan (or is told a window's size), has the library work out a figure for each row, and writes nothing
 //! unless all of that went well. `collector --help` is its manual.
 mod bounds;
 mod csv;
@@ -19,7 +19,7 @@ mod tests;
 mod text;
 mod trace;
 
-use options::{Options, Request, Windows};
+use options::{Options, Request, Source, Windows};
 use output::Draft;
 use report::Report;
 use std::fs::File;
@@ -56,12 +56,16 @@ fn run(options: &Options) -> Result<(), String> {
         Windows::Plan(path) => Some(open(path)?),
         Windows::Fixed { .. } => None,
     };
-    let mut trace: Box<dyn BufRead> = match &options.trace {
-        Some(path) => Box::new(open(path)?),
-        None => Box::new(io::stdin().lock()),
-    };
-    let report = Report::make(options, &mut trace, plan.as_mut().map(|plan| plan as &mut dyn BufRead))?;
+    let traces: Result<Vec<_>, String> = options.asked.sources().iter().map(input).collect();
+    let report = Report::make(options, &mut traces?, plan.as_mut().map(|plan| plan as &mut dyn BufRead))?;
     write(options, &report)
+}
+
+fn input(source: &Source) -> Result<Box<dyn BufRead>, String> {
+    Ok(match source {
+        Source::File(path) => Box::new(open(path)?),
+        Source::StandardInput => Box::new(io::stdin().lock()),
+    })
 }
 
 fn open(path: &Path) -> Result<BufReader<File>, String> {

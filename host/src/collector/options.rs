@@ -1,7 +1,7 @@
 //! The command line.
 use crate::number::double;
 use crate::text::{name, quoted};
-use moments::{Figure, Setting, Window};
+use moments::{Figure, PairFigure, Setting, Window};
 use std::ffi::OsString;
 use std::fmt::Display;
 use std::path::PathBuf;
@@ -9,13 +9,15 @@ use std::str::FromStr;
 
 /// The manual.
 pub const HELP: &str = "\
-collector: figures of a temperature trace by window, as a table and a picture
+collector: figures of a temperature trace, or of two, by window, as a table and a picture
 
     collector TRACE.csv --plan PLAN.csv [options]
     collector TRACE.csv --window SIZE [--centered] [--weights W,W,..] [options]
+    collector FIRST.csv SECOND.csv --figure covariance|correlation (--plan PLAN.csv | --window SIZE) [options]
 
 TRACE.csv  a line for each reading: time,temperature. Such a heading may come first. A temperature that is empty
-           or NA is missing; nan and inf are readings. `-` is standard input. Places count from 0.
+           or NA is missing; nan and inf are readings. `-` is standard input. Places count from 0. Two traces have
+           equally many places and are paired by them, not by their times; a pair takes a reading of both.
 PLAN.csv   a line for each window: start,end or label,start,end. Such a heading may come first. Both are places,
            the end not included; neither starts nor ends may fall from one line to the next.
 
@@ -26,17 +28,17 @@ windows
   --weights W,W,..   weighted variance, a weight for each place of a window; no reading may be missing
 
 figure
-  --figure NAME      variance (the default), skewness or kurtosis
-  --ddof N           variance: divided by the count less N, from 0 to 255 (default 1)
+  --figure NAME      of one trace: variance (the default), skewness or kurtosis; of two: covariance or correlation
+  --ddof N           variance and covariance: divided by the count less N, from 0 to 255 (default 1)
   --unbiased         skewness and kurtosis: corrected for bias
   --pearson          kurtosis: not less three, so that a normal distribution has 3 and not 0
-  --minimum N        a window with fewer readings has no figure (default 1). If any reading of the trace is missing,
-                     the library is lent a map and counts a window's valid readings, and else its places
+  --minimum N        a window with fewer readings has no figure (default 1). If any reading of a trace is missing,
+                     the library is lent a map and counts a window's valid readings or pairs, and else its places
 
 output
   --csv              the table as CSV: row,label,start,end,from,to,valid,figure,mark
   --output FILE      the table to FILE instead of standard output
-  --svg FILE         a picture of the figure over the trace
+  --svg FILE         a picture of the figure and the trace or traces
   --help             this text
 
 In the table `-` is a missing figure, and `!` (in CSV the mark `not finite`) one that is NaN or infinite.
@@ -56,14 +58,45 @@ pub enum Request {
 /// A report's sources, setting and targets.
 #[derive(Debug, PartialEq)]
 pub struct Options {
-    /// None is standard input.
-    pub trace: Option<PathBuf>,
+    pub asked: Asked,
     pub windows: Windows,
-    /// With weights the figure is the weighted variance, which has no ddof.
-    pub setting: Setting,
     pub csv: bool,
     pub output: Option<PathBuf>,
     pub svg: Option<PathBuf>,
+}
+
+/// Where a trace is read from.
+#[derive(Debug, PartialEq)]
+pub enum Source {
+    StandardInput,
+    File(PathBuf),
+}
+impl Source {
+    pub fn path(&self) -> Option<&PathBuf> {
+        match self {
+            Source::StandardInput => None,
+            Source::File(path) => Some(path),
+        }
+    }
+    pub fn name(&self) -> String {
+        self.path().map_or("standard input".to_string(), |path| name(path))
+    }
+}
+
+/// What is asked of each window, and of which traces.
+#[derive(Debug, PartialEq)]
+pub enum Asked {
+    /// With weights the figure is the weighted variance, which has no ddof.
+    Trace(Source, Setting),
+    Pair([Source; 2], Setting<PairFigure>),
+}
+impl Asked {
+    pub fn sources(&self) -> &[Source] {
+        match self {
+            Asked::Trace(source, _) => std::slice::from_ref(source),
+            Asked::Pair(sources, _) => sources,
+        }
+    }
 }
 
 /// Which windows.
@@ -74,34 +107,60 @@ pub enum Windows {
 }
 
 impl Options {
-    pub fn trace_name(&self) -> String {
-        self.trace.as_deref().map_or("standard input".to_string(), name)
-    }
-    pub fn has_weights(&self) -> bool {
-        matches!(self.windows, Windows::Fixed { weights: Some(_), .. })
-    }
-    pub fn is_variance(&self) -> bool {
-        matches!(self.setting.figure, Figure::Var { .. })
+    pub fn weights(&self) -> Option<&[f64]> {
+        match &self.windows {
+            Windows::Fixed { weights, .. } => weights.as_deref(),
+            Windows::Plan(_) => None,
+        }
     }
     /// The figure in a word.
     pub fn figure(&self) -> &'static str {
-        match self.setting.figure {
-            Figure::Var { .. } => "variance",
-            Figure::Skew { .. } => "skewness",
-            Figure::Kurtosis { .. } => "kurtosis",
+        match &self.asked {
+            Asked::Trace(_, setting) => match setting.figure {
+                Figure::Var { .. } => "variance",
+                Figure::Skew { .. } => "skewness",
+                Figure::Kurtosis { .. } => "kurtosis",
+            },
+            Asked::Pair(_, setting) => match setting.figure {
+                PairFigure::Cov { .. } => "covariance",
+                PairFigure::PearsonCorr => "correlation",
+            },
+        }
+    }
+    /// What a window's places hold, in a word.
+    pub fn unit(&self) -> &'static str {
+        match self.asked {
+            Asked::Trace(..) => "reading",
+            Asked::Pair(..) => "pair",
+        }
+    }
+    /// Where finite readings have no figure, in words.
+    pub fn has_no_figure(&self) -> &'static str {
+        match self.asked {
+            Asked::Trace(..) => "where all readings are alike",
+            Asked::Pair(..) => "of one pair or where all readings of a trace are alike",
         }
     }
     /// The figure and its setting.
-    pub fn asked(&self) -> String {
-        let biased = |bias: bool| if bias { "biased" } else { "unbiased" };
-        let figure = match self.setting.figure {
-            Figure::Var { .. } if self.has_weights() => "weighted variance".to_string(),
-            Figure::Var { ddof } => format!("variance, ddof {ddof}"),
-            Figure::Skew { bias } => format!("skewness, {}", biased(bias)),
-            Figure::Kurtosis { fisher: true, bias } => format!("kurtosis less three, {}", biased(bias)),
-            Figure::Kurtosis { fisher: false, bias } => format!("kurtosis, {}", biased(bias)),
+    pub fn in_words(&self) -> String {
+        let (name, biased) = (self.figure(), |bias: bool| if bias { "biased" } else { "unbiased" });
+        let (figure, minimum) = match &self.asked {
+            Asked::Trace(_, Setting { figure, min_periods }) => {
+                let figure = match *figure {
+                    Figure::Var { .. } if self.weights().is_some() => format!("weighted {name}"),
+                    Figure::Var { ddof } => format!("{name}, ddof {ddof}"),
+                    Figure::Skew { bias } => format!("{name}, {}", biased(bias)),
+                    Figure::Kurtosis { fisher: true, bias } => format!("{name} less three, {}", biased(bias)),
+                    Figure::Kurtosis { fisher: false, bias } => format!("{name}, {}", biased(bias)),
+                };
+                (figure, min_periods)
+            }
+            Asked::Pair(_, Setting { figure: PairFigure::Cov { ddof }, min_periods }) => {
+                (format!("{name}, ddof {ddof}"), min_periods)
+            }
+            Asked::Pair(_, Setting { figure: PairFigure::PearsonCorr, min_periods }) => (name.to_string(), min_periods),
         };
-        format!("{figure}, minimum {}", self.setting.min_periods)
+        format!("{figure}, minimum {minimum}")
     }
 }
 
@@ -167,12 +226,16 @@ impl Given {
             None => Ok(()),
         }
     }
-    fn trace(&self) -> Result<Option<PathBuf>, String> {
-        match self.traces.as_slice() {
-            [] => Err("no trace is named".to_string()),
-            [trace] if trace.is_empty() => Err("the trace's name is empty".to_string()),
-            [trace] => Ok((trace != "-").then(|| PathBuf::from(trace))),
-            [_, second, ..] => Err(format!("one trace is taken, but {} is named too", quoted(&second.to_string_lossy()))),
+    fn sources(&self) -> Result<Vec<Source>, String> {
+        let source = |name: &OsString| match name.to_str() {
+            Some("") => Err("a trace's name is empty".to_string()),
+            Some("-") => Ok(Source::StandardInput),
+            _ => Ok(Source::File(PathBuf::from(name))),
+        };
+        match self.traces.iter().filter(|name| *name == "-").count() {
+            _ if self.traces.is_empty() => Err("no trace is named".to_string()),
+            0 | 1 => self.traces.iter().map(source).collect(),
+            _ => Err("standard input is named for two traces".to_string()),
         }
     }
     fn windows(&self) -> Result<Windows, String> {
@@ -199,27 +262,64 @@ impl Given {
             false => Err("--weights takes finite numbers with a finite sum".to_string()),
         }
     }
-    fn setting(&self) -> Result<Setting, String> {
-        let setting = match self.text("--figure").as_deref() {
-            None | Some("variance") => {
-                self.without(&["--unbiased", "--pearson"], "has no meaning for the variance")?;
+    fn ddof(&self) -> Result<u8, String> {
+        Ok(self.whole("--ddof", u8::MAX)?.unwrap_or(1))
+    }
+    fn asked(&self, sources: Vec<Source>) -> Result<Asked, String> {
+        let named = self.text("--figure");
+        let figure = named.as_deref().unwrap_or("variance");
+        let without = |options: &[&str]| self.without(options, &format!("has no meaning for the {figure}"));
+        let setting = match figure {
+            "variance" => {
+                without(&["--unbiased", "--pearson"])?;
                 if self.has("--weights") {
                     self.without(&["--ddof"], "has no meaning for the weighted variance")?;
                 }
-                Setting::var(self.whole("--ddof", u8::MAX)?.unwrap_or(1))
+                Setting::var(self.ddof()?)
             }
-            Some("skewness") => {
-                self.without(&["--ddof", "--weights", "--pearson"], "has no meaning for the skewness")?;
+            "skewness" => {
+                without(&["--ddof", "--weights", "--pearson"])?;
                 Setting::skew(!self.has("--unbiased"))
             }
-            Some("kurtosis") => {
-                self.without(&["--ddof", "--weights"], "has no meaning for the kurtosis")?;
+            "kurtosis" => {
+                without(&["--ddof", "--weights"])?;
                 Setting::kurtosis(!self.has("--pearson"), !self.has("--unbiased"))
             }
-            Some(other) => return Err(format!("--figure is variance, skewness or kurtosis, not {}", quoted(other))),
+            "covariance" => {
+                without(&["--weights", "--unbiased", "--pearson"])?;
+                return self.of_two(figure, sources, Setting::cov(self.ddof()?));
+            }
+            "correlation" => {
+                without(&["--ddof", "--weights", "--unbiased", "--pearson"])?;
+                return self.of_two(figure, sources, Setting::pearson_corr());
+            }
+            other => {
+                let figures = "variance, skewness, kurtosis, covariance or correlation";
+                return Err(format!("--figure is {figures}, not {}", quoted(other)));
+            }
         };
-        Ok(setting.min_periods(self.whole("--minimum", usize::MAX)?.unwrap_or(1)))
+        match <[Source; 1]>::try_from(sources) {
+            Ok([source]) => Ok(Asked::Trace(source, setting.min_periods(self.minimum()?))),
+            Err(sources) => {
+                let too_many = named_too(&sources, 1);
+                Err(format!("the {figure} is of one trace, but {too_many}; --figure covariance and correlation are of two"))
+            }
+        }
     }
+    fn of_two(&self, figure: &str, sources: Vec<Source>, setting: Setting<PairFigure>) -> Result<Asked, String> {
+        match <[Source; 2]>::try_from(sources) {
+            Ok(sources) => Ok(Asked::Pair(sources, setting.min_periods(self.minimum()?))),
+            Err(sources) => Err(format!("the {figure} is of two traces, but {}", named_too(&sources, 2))),
+        }
+    }
+    fn minimum(&self) -> Result<usize, String> {
+        Ok(self.whole("--minimum", usize::MAX)?.unwrap_or(1))
+    }
+}
+
+/// What is wrong with the number of traces where it should be another.
+fn named_too(sources: &[Source], number: usize) -> String {
+    sources.get(number).map_or("one is named".to_string(), |source| format!("{} is named too", quoted(&source.name())))
 }
 
 /// What is asked, or what is wrong with how it is asked.
@@ -229,9 +329,9 @@ pub fn parse(args: impl Iterator<Item = OsString>) -> Result<Request, String> {
         return Ok(Request::Help);
     }
     let given = Given::gather(args.into_iter())?;
-    let (trace, windows, setting) = (given.trace()?, given.windows()?, given.setting()?);
-    let (csv, output, svg) = (given.has("--csv"), given.path("--output")?, given.path("--svg")?);
-    Ok(Request::Report(Options { trace, windows, setting, csv, output, svg }))
+    let (sources, windows) = (given.sources()?, given.windows()?);
+    let (asked, csv, output, svg) = (given.asked(sources)?, given.has("--csv"), given.path("--output")?, given.path("--svg")?);
+    Ok(Request::Report(Options { asked, windows, csv, output, svg }))
 }
 
 #[cfg(test)]
@@ -243,7 +343,7 @@ mod tests {
     }
     fn asked(line: &str) -> String {
         match ask(line) {
-            Ok(Request::Report(options)) => options.asked(),
+            Ok(Request::Report(options)) => options.in_words(),
             other => format!("{other:?}"),
         }
     }
@@ -256,6 +356,9 @@ mod tests {
         assert_eq!(asked("t --plan p --figure skewness"), "skewness, biased, minimum 1");
         assert_eq!(asked("t --plan p --figure kurtosis --unbiased"), "kurtosis less three, unbiased, minimum 1");
         assert_eq!(asked("t --plan p --figure kurtosis --pearson"), "kurtosis, biased, minimum 1");
+        assert_eq!(asked("t u --plan p --figure covariance"), "covariance, ddof 1, minimum 1");
+        assert_eq!(asked("t - --figure covariance --window 3 --ddof 0 --minimum 2"), "covariance, ddof 0, minimum 2");
+        assert_eq!(asked("--figure correlation - u --window 3 --centered"), "correlation, minimum 1");
         assert_eq!(ask("t --plan --help"), Ok(Request::Help));
     }
 
@@ -264,7 +367,22 @@ mod tests {
         let cases = [
             ("", "no trace is named"),
             ("t", "--plan or --window is needed"),
-            ("t u --plan p", "one trace is taken, but \"u\" is named too"),
+            (
+                "t u --plan p",
+                "the variance is of one trace, but \"u\" is named too; --figure covariance and correlation are of two",
+            ),
+            (
+                "t u v --plan p --figure kurtosis",
+                "the kurtosis is of one trace, but \"u\" is named too; --figure covariance and correlation are of two",
+            ),
+            ("t --plan p --figure covariance", "the covariance is of two traces, but one is named"),
+            ("- --window 2 --figure correlation", "the correlation is of two traces, but one is named"),
+            ("t u v --window 2 --figure correlation", "the correlation is of two traces, but \"v\" is named too"),
+            ("- - --window 2 --figure correlation", "standard input is named for two traces"),
+            ("t u --window 2 --figure covariance --weights 1,1", "--weights has no meaning for the covariance"),
+            ("t u --window 2 --figure correlation --ddof 1", "--ddof has no meaning for the correlation"),
+            ("t u --window 2 --figure correlation --pearson", "--pearson has no meaning for the correlation"),
+            ("t u --window 2 --figure covariance --unbiased", "--unbiased has no meaning for the covariance"),
             ("t --plan p --window 3", "--plan and --window exclude each other"),
             ("t --plan", "--plan is given without its value"),
             ("t --plan --csv", "--plan is given without its value"),
@@ -288,7 +406,7 @@ mod tests {
             ("t --plan p --pearson --figure skewness", "--pearson has no meaning for the skewness"),
             ("t --plan p --ddof 1 --figure kurtosis", "--ddof has no meaning for the kurtosis"),
             ("t --plan p --unbiased", "--unbiased has no meaning for the variance"),
-            ("t --plan p --figure mean", "--figure is variance, skewness or kurtosis, not \"mean\""),
+            ("t --plan p --figure mean", "--figure is variance, skewness, kurtosis, covariance or correlation, not \"mean\""),
             ("t --plan p --minimum many", "--minimum takes a whole number from 0 to 18446744073709551615, not \"many\""),
         ];
         for (line, wrong) in cases {

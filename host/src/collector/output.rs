@@ -1,5 +1,5 @@
 //! Files that are either written whole or left as they are.
-use crate::options::{Options, Windows};
+use crate::options::{Asked, Options, Windows};
 use crate::text::name;
 use std::fs::{self, File, OpenOptions};
 use std::io::{self, BufWriter, Write};
@@ -79,16 +79,19 @@ pub fn check_names(options: &Options) -> Result<(), String> {
         }
         _ => false,
     };
-    let (trace, output, svg) = (options.trace.as_ref(), options.output.as_ref(), options.svg.as_ref());
-    let pairs = [
-        (output, svg, "--output and --svg name the same file"),
-        (output, trace, "--output names the file of the trace"),
-        (output, plan, "--output names the file of the plan"),
-        (svg, trace, "--svg names the file of the trace"),
-        (svg, plan, "--svg names the file of the plan"),
-    ];
-    match pairs.into_iter().find(|(first, second, _)| same(*first, *second)) {
-        Some((_, _, wrong)) => Err(wrong.to_string()),
-        None => Ok(()),
+    let (output, svg) = (options.output.as_ref(), options.svg.as_ref());
+    if same(output, svg) {
+        return Err("--output and --svg name the same file".to_string());
     }
+    let traces = match &options.asked {
+        Asked::Trace(trace, _) => [(trace.path(), "the trace"), (None, "")],
+        Asked::Pair([first, second], _) => [(first.path(), "the first trace"), (second.path(), "the second trace")],
+    };
+    for (target, option) in [(output, "--output"), (svg, "--svg")] {
+        let mut sources = traces.into_iter().chain([(plan, "the plan")]);
+        if let Some((_, what)) = sources.find(|(source, _)| same(target, *source)) {
+            return Err(format!("{option} names the file of {what}"));
+        }
+    }
+    Ok(())
 }

@@ -1,7 +1,10 @@
-//! The picture: the figure above, the trace below, over the same places.
+//! The picture: the figure and the trace over the same places, the figure above one trace and below two.
+use crate::options::Asked;
 use crate::report::{Report, Row, Rows};
 use crate::scale::Scale;
 use crate::text::{capped, count};
+use crate::trace::Trace;
+use moments::{Figure, PairFigure, Setting};
 use std::fmt::Write;
 
 const WIDTH: f64 = 1200.0;
@@ -18,7 +21,8 @@ const FRAME: &str = "#9a9a9a";
 const MISSING: &str = "#f3dfae";
 const MISSING_FIGURE: &str = "#8c8c8c";
 const NOT_FINITE: &str = "#d01c1c";
-const TRACE: &str = "#1f5f99";
+/// The first trace and the second.
+const TRACES: [&str; 2] = ["#1f5f99", "#2f9e6e"];
 const FIGURE: &str = "#b4500f";
 /// Between a bar and 0.
 pub const BELOW: &str = "#f8e6d8";
@@ -29,7 +33,13 @@ struct Panel {
     bottom: f64,
     scale: Option<Scale>,
 }
+/// Where the two panels are from top to bottom.
+const UPPER: (f64, f64) = (86.0, 312.0);
+const LOWER: (f64, f64) = (350.0, 566.0);
 impl Panel {
+    fn new((top, bottom): (f64, f64), scale: Option<Scale>) -> Self {
+        Panel { top, bottom, scale }
+    }
     fn y(&self, value: f64) -> f64 {
         let fraction = self.scale.map_or(0.5, |scale| scale.fraction(value));
         self.bottom - fraction * (self.bottom - self.top)
@@ -57,10 +67,10 @@ enum Swatch {
 
 impl<'a> Picture<'a> {
     fn new(report: &'a Report<'a>) -> Self {
-        let readings = (0..report.trace.len()).filter_map(|place| report.trace.reading(place));
-        let logarithmic = if report.options.is_variance() { Scale::logarithmic(report.figures()) } else { None };
-        let figure = Panel { top: 86.0, bottom: 312.0, scale: logarithmic.or_else(|| Scale::around(report.figures(), true)) };
-        let trace = Panel { top: 350.0, bottom: 566.0, scale: Scale::around(readings, false) };
+        let readings = report.traces.all().flat_map(|trace| (0..trace.len()).filter_map(|place| trace.reading(place)));
+        let (above, below) = if report.traces.second.is_some() { (LOWER, UPPER) } else { (UPPER, LOWER) };
+        let figure = Panel::new(above, figure_scale(report));
+        let trace = Panel::new(below, Scale::around(readings, false));
         Picture { report, out: String::new(), figure, trace, key: Vec::new() }
     }
     fn draw(mut self) -> String {
@@ -110,7 +120,7 @@ impl<'a> Picture<'a> {
     }
     /// Where a place starts.
     fn x(&self, place: f64) -> f64 {
-        let places = self.report.trace.len().max(1) as f64;
+        let places = self.report.traces.len().max(1) as f64;
         LEFT + (place / places).clamp(0.0, 1.0) * (RIGHT - LEFT)
     }
     fn across(&self, start: usize, end: usize) -> (f64, f64) {
@@ -119,14 +129,18 @@ impl<'a> Picture<'a> {
 
     fn titles(&mut self) {
         let report = self.report;
-        let (trace, windows) = (file_name(&report.trace.file), file_name(&report.windows()));
-        let mut title = report.options.asked();
+        let windows = file_name(&report.windows());
+        let mut title = report.options.in_words();
         if let Some(first) = title.get_mut(..1) {
             first.make_ascii_uppercase();
         }
         self.text((LEFT, 30.0), "font-size=\"19\" font-weight=\"bold\"", &title);
-        let rows = count(report.len(), "row");
-        self.text((LEFT, 51.0), "", &format!("trace {trace}: {}; windows {windows}: {rows}", report.readings()));
+        let (rows, readings) = (count(report.len(), "row"), report.readings());
+        let trace = match report.traces.second {
+            None => format!("trace {}: {readings}", file_name(&report.traces.first.file)),
+            Some(_) => readings,
+        };
+        self.text((LEFT, 51.0), "", &format!("{trace}; windows {windows}: {rows}"));
         let logarithmic = self.figure.scale.is_some_and(|scale| scale.logarithmic);
         let axis = match logarithmic {
             true if report.figures().any(|figure| figure == 0.0) => " (logarithmic axis; 0 stands at its base)",
@@ -135,26 +149,33 @@ impl<'a> Picture<'a> {
         };
         self.text((LEFT, self.figure.top - 8.0), "font-weight=\"bold\"", &format!("{}{axis}", report.options.figure()));
         self.text((LEFT, self.trace.top - 8.0), "font-weight=\"bold\"", "temperature");
+        if report.traces.second.is_some() {
+            let mut x = LEFT + 110.0;
+            for (trace, color) in report.traces.all().zip(TRACES) {
+                x = self.swatch((x, self.trace.top - 12.5), (&Swatch::Line, color, &file_name(&trace.file)));
+            }
+        }
     }
 
     /// The horizontal axis, which both panels share.
     fn places(&mut self) {
-        let places = self.report.trace.len();
+        let places = self.report.traces.len();
         let scale = Scale::linear(0.0, places as f64);
         // A tick stands at the middle of a place, where its reading is.
         let ticks = scale.ticks(9).into_iter().filter(|(tick, _)| tick.fract() == 0.0).map(|(tick, _)| tick as usize);
         let ticks: Vec<usize> = ticks.filter(|tick| *tick < places).collect();
-        let times = short_times(ticks.iter().map(|tick| self.report.trace.times.get(*tick)));
+        let times = short_times(ticks.iter().map(|tick| self.report.traces.first.times.get(*tick)));
+        let (_, base) = LOWER;
         for (tick, time) in ticks.iter().zip(times) {
             let x = self.x(*tick as f64 + 0.5);
-            for (top, bottom) in [(self.figure.top, self.figure.bottom), (self.trace.top, self.trace.bottom + 5.0)] {
+            for (top, bottom) in [UPPER, LOWER] {
                 self.line((x, top), (x, bottom), GRID);
             }
-            self.line((x, self.trace.bottom), (x, self.trace.bottom + 5.0), FRAME);
-            self.text((x, self.trace.bottom + 19.0), "text-anchor=\"middle\"", &tick.to_string());
-            self.text((x, self.trace.bottom + 36.0), "text-anchor=\"middle\" fill=\"#555555\"", &time);
+            self.line((x, base), (x, base + 5.0), FRAME);
+            self.text((x, base + 19.0), "text-anchor=\"middle\"", &tick.to_string());
+            self.text((x, base + 36.0), "text-anchor=\"middle\" fill=\"#555555\"", &time);
         }
-        self.text((LEFT - 12.0, self.trace.bottom + 19.0), "text-anchor=\"end\" fill=\"#555555\"", "place");
+        self.text((LEFT - 12.0, base + 19.0), "text-anchor=\"end\" fill=\"#555555\"", "place");
     }
     /// A panel's vertical axis.
     fn values(&mut self, panel: impl Fn(&Self) -> &Panel, if_none: &str) {
@@ -170,7 +191,7 @@ impl<'a> Picture<'a> {
         }
     }
     fn frames(&mut self) {
-        for (top, bottom) in [(self.figure.top, self.figure.bottom), (self.trace.top, self.trace.bottom)] {
+        for (top, bottom) in [UPPER, LOWER] {
             let (width, height) = (RIGHT - LEFT, bottom - top);
             self.push(format_args!(
                 "<rect x=\"{LEFT}\" y=\"{top}\" width=\"{width}\" height=\"{height}\" fill=\"none\" stroke=\"{FRAME}\"/>"
@@ -179,18 +200,14 @@ impl<'a> Picture<'a> {
     }
 
     fn readings(&mut self) {
-        let trace = &self.report.trace;
-        let spans = |such: fn(Option<f64>) -> bool| {
-            let places = (0..trace.len()).filter(move |place| such(trace.reading(*place)));
+        let traces = &self.report.traces;
+        let spans = |such: fn(Option<bool>) -> bool| {
+            let places = (0..traces.len()).filter(move |place| such(traces.is_finite(*place)));
             stretches(places.map(|place| self.across(place, place + 1)), 1.0)
         };
-        let missing = spans(|reading| reading.is_none());
-        let not_finite = spans(|reading| reading.is_some_and(|x| !x.is_finite()));
-        let points = (0..trace.len()).map(|place| {
-            let reading = trace.reading(place).filter(|x| x.is_finite());
-            (self.x(place as f64 + 0.5), reading.map(|x| self.trace.y(x)))
-        });
-        let drawn = Drawn::new(points, trace.len() <= MOST_DOTS);
+        let missing = spans(|finite| finite.is_none());
+        let not_finite = spans(|finite| finite == Some(false));
+        let drawn: Vec<Drawn> = traces.all().map(|trace| self.drawn_trace(trace)).collect();
         let Panel { top, bottom, .. } = self.trace;
         for span in &missing {
             self.rect(*span, (top, bottom), MISSING);
@@ -198,15 +215,24 @@ impl<'a> Picture<'a> {
         for span in &not_finite {
             self.rect(*span, (top, bottom), "#fbdcdc");
         }
-        self.drawn(&drawn, TRACE);
+        drawn.iter().zip(TRACES).for_each(|(drawn, color)| self.drawn(drawn, color));
         for (from, to) in &not_finite {
             let half = ((to - from) / 2.0).max(1.0);
             let middle = (from + to) / 2.0;
             self.rect((middle - half, middle + half), (top, top + 9.0), NOT_FINITE);
         }
-        self.in_key(drawn.is_any(), Swatch::Line, TRACE, "reading");
-        self.in_key(!missing.is_empty(), Swatch::Band, MISSING, "reading missing");
-        self.in_key(!not_finite.is_empty(), Swatch::Mark, NOT_FINITE, "reading not finite");
+        let (pair, unit) = (traces.second.is_some(), self.report.options.unit());
+        // Two traces have their key beside the panel's title.
+        self.in_key(!pair && drawn.iter().any(Drawn::is_any), Swatch::Line, TRACES[0], unit);
+        self.in_key(!missing.is_empty(), Swatch::Band, MISSING, &format!("{unit} missing"));
+        self.in_key(!not_finite.is_empty(), Swatch::Mark, NOT_FINITE, &format!("{unit} not finite"));
+    }
+    fn drawn_trace(&self, trace: &Trace) -> Drawn {
+        let points = (0..trace.len()).map(|place| {
+            let reading = trace.reading(place).filter(|x| x.is_finite());
+            (self.x(place as f64 + 0.5), reading.map(|x| self.trace.y(x)))
+        });
+        Drawn::new(points, trace.len() <= MOST_DOTS)
     }
 
     fn figures(&mut self) {
@@ -276,17 +302,34 @@ impl<'a> Picture<'a> {
     fn keys(&mut self) {
         let (mut x, y) = (LEFT, HEIGHT - 22.0);
         for (swatch, color, text) in std::mem::take(&mut self.key) {
-            let width = match swatch {
-                Swatch::Line => 24.0,
-                Swatch::Band => 14.0,
-                Swatch::Mark => 4.0,
-            };
-            let height = if matches!(swatch, Swatch::Line) { 2.5 } else { 12.0 };
-            self.rect((x, x + width), (y - height / 2.0, y + height / 2.0), color);
-            self.text((x + width + 6.0, y + 4.5), "", &text);
-            x += width + 30.0 + 6.6 * text.chars().count() as f64;
+            x = self.swatch((x, y), (&swatch, color, &text));
         }
     }
+    /// A sign and what it means. It gives where the next one stands.
+    fn swatch(&mut self, (x, y): (f64, f64), (swatch, color, text): (&Swatch, &str, &str)) -> f64 {
+        let width = match swatch {
+            Swatch::Line => 24.0,
+            Swatch::Band => 14.0,
+            Swatch::Mark => 4.0,
+        };
+        let height = if matches!(swatch, Swatch::Line) { 2.5 } else { 12.0 };
+        self.rect((x, x + width), (y - height / 2.0, y + height / 2.0), color);
+        self.text((x + width + 6.0, y + 4.5), "", text);
+        x + width + 30.0 + 6.6 * text.chars().count() as f64
+    }
+}
+
+/// The figure's vertical axis; none if no figure is finite. A correlation lies from -1 to 1, but for what rounding may add: all of that
+/// range is shown, and what is past it too.
+fn figure_scale(report: &Report<'_>) -> Option<Scale> {
+    let from_zero = Scale::around(report.figures(), true)?;
+    Some(match &report.options.asked {
+        Asked::Trace(_, Setting { figure: Figure::Var { .. }, .. }) => Scale::logarithmic(report.figures()).unwrap_or(from_zero),
+        Asked::Pair(_, Setting { figure: PairFigure::PearsonCorr, .. }) => {
+            Scale::around(report.figures().chain([-1.0, 1.0]), false).unwrap_or(from_zero)
+        }
+        _ => from_zero,
+    })
 }
 
 /// The last part of a path, as far as it has room.

@@ -1,10 +1,10 @@
 //! The rows of a table: what was asked, and what the library answered.
 use crate::bounds::bounds;
-use crate::options::{Options, Windows};
+use crate::options::{Asked, Options, Windows};
 use crate::plan::PlanFile;
 use crate::text::{count, name, quoted};
-use crate::trace::Trace;
-use moments::{plan, rolling, rolling_var_weights, Plan, Refusal, Window};
+use crate::trace::{Trace, Traces};
+use moments::{plan, plan_pair, rolling, rolling_pair, rolling_var_weights, PairFigure, Plan, Refusal, Setting, Which, Window};
 use std::io::BufRead;
 
 /// Where the rows come from.
@@ -13,10 +13,10 @@ pub enum Rows {
     Fixed(Window),
 }
 
-/// A trace, its rows and their figures.
+/// A trace or two, the rows and their figures.
 pub struct Report<'a> {
     pub options: &'a Options,
-    pub trace: Trace,
+    pub traces: Traces,
     pub rows: Rows,
     answers: Vec<Option<f64>>,
 }
@@ -30,7 +30,7 @@ pub struct Row<'a> {
     pub from: &'a str,
     pub to: &'a str,
     pub valid: usize,
-    /// Readings that are not finite.
+    /// Readings, or pairs of them, that are not finite.
     pub not_finite: usize,
     pub figure: Option<f64>,
 }
@@ -42,16 +42,32 @@ impl Row<'_> {
 }
 
 impl<'a> Report<'a> {
-    /// Reads the plan, if there is one, then the trace, and asks the library.
-    pub fn make(options: &'a Options, trace: &mut dyn BufRead, plan: Option<&mut dyn BufRead>) -> Result<Self, String> {
+    /// Reads the plan, if there is one, then each trace, and asks the library.
+    pub fn make(
+        options: &'a Options,
+        inputs: &mut [Box<dyn BufRead + '_>],
+        plan: Option<&mut dyn BufRead>,
+    ) -> Result<Self, String> {
         let rows = match (&options.windows, plan) {
             (Windows::Plan(path), Some(input)) => Rows::Plan(PlanFile::read(input, &name(path))?),
             (Windows::Fixed { window, .. }, _) => Rows::Fixed(*window),
             (Windows::Plan(path), None) => return Err(format!("{}: was not opened", name(path))),
         };
-        let trace = Trace::read(trace, &options.trace_name())?;
-        let answers = answers(options, &trace, &rows).map_err(|refusal| in_words(refusal, &trace, &rows))?;
-        Ok(Report { options, trace, rows, answers })
+        let (traces, answers) = match (&options.asked, inputs) {
+            (Asked::Trace(source, setting), [input, ..]) => {
+                let trace = Trace::read(input, &source.name())?;
+                let answers = of_trace(&trace, &rows, *setting, options.weights());
+                (Traces::new(trace, None), answers)
+            }
+            (Asked::Pair([first, second], setting), [x, y, ..]) => {
+                let (x, y) = (Trace::read(x, &first.name())?, Trace::read(y, &second.name())?);
+                let answers = of_pair(&x, &y, &rows, *setting);
+                (Traces::new(x, Some(y)), answers)
+            }
+            _ => return Err("a trace was not opened".to_string()),
+        };
+        let answers = answers.map_err(|refusal| in_words(refusal, &traces, &rows))?;
+        Ok(Report { options, traces, rows, answers })
     }
     pub fn len(&self) -> usize {
         self.answers.len()
@@ -66,11 +82,11 @@ impl<'a> Report<'a> {
     fn row(&self, row: usize, figure: Option<f64>) -> Row<'_> {
         let ((start, end), label) = match &self.rows {
             Rows::Plan(plan) => (plan.bounds(row), plan.label(row).unwrap_or("")),
-            Rows::Fixed(window) => (bounds(*window, self.trace.len(), row), ""),
+            Rows::Fixed(window) => (bounds(*window, self.traces.len(), row), ""),
         };
-        let time = |place: usize| if start < end { self.trace.times.get(place) } else { "" };
+        let time = |place: usize| if start < end { self.traces.first.times.get(place) } else { "" };
         let (from, to) = (time(start), time(end.saturating_sub(1)));
-        let (valid, not_finite) = (self.trace.valid(start, end), self.trace.not_finite(start, end));
+        let (valid, not_finite) = (self.traces.valid(start, end), self.traces.not_finite(start, end));
         Row { label, start, end, from, to, valid, not_finite, figure }
     }
     pub fn has_labels(&self) -> bool {
@@ -85,14 +101,28 @@ impl<'a> Report<'a> {
             }
         }
     }
-    /// The trace, in words.
+    /// What the places hold, in words.
     pub fn readings(&self) -> String {
-        let n = self.trace.len();
-        let missing = n - self.trace.valid(0, n);
-        format!("{}, {missing} missing, {} not finite", count(n, "reading"), self.trace.not_finite(0, n))
+        let n = self.traces.len();
+        in_numbers(n, self.options.unit(), n - self.traces.valid(0, n), self.traces.not_finite(0, n))
     }
 }
+impl Trace {
+    /// The trace, in words.
+    pub fn in_words(&self) -> String {
+        let readings = (0..self.len()).map(|place| self.reading(place));
+        let missing = readings.clone().filter(|reading| reading.is_none()).count();
+        let not_finite = readings.flatten().filter(|reading| !reading.is_finite()).count();
+        in_numbers(self.len(), "reading", missing, not_finite)
+    }
+}
+fn in_numbers(n: usize, unit: &str, missing: usize, not_finite: usize) -> String {
+    format!("{}, {missing} missing, {not_finite} not finite", count(n, unit))
+}
 impl PlanFile {
+    fn plan(&self) -> Plan<'_> {
+        Plan::new(&self.starts, &self.ends)
+    }
     fn bounds(&self, row: usize) -> (usize, usize) {
         let place = |places: &[u32]| places.get(row).map_or(0, |place| *place as usize);
         (place(&self.starts), place(&self.ends))
@@ -102,27 +132,41 @@ impl PlanFile {
     }
 }
 
-fn answers(options: &Options, trace: &Trace, rows: &Rows) -> Result<Vec<Option<f64>>, Refusal> {
-    let (readings, map, setting) = (&trace.readings, trace.map.as_deref(), options.setting);
-    match (rows, &options.windows) {
-        (Rows::Plan(file), _) => plan(readings, map, Plan::new(&file.starts, &file.ends), setting),
-        (Rows::Fixed(window), Windows::Fixed { weights: Some(weights), .. }) => {
-            rolling_var_weights(readings, map, *window, setting.min_periods, weights)
-        }
-        (Rows::Fixed(window), _) => rolling(readings, map, *window, setting),
+type Answers = Result<Vec<Option<f64>>, Refusal>;
+
+fn of_trace(trace: &Trace, rows: &Rows, setting: Setting, weights: Option<&[f64]>) -> Answers {
+    let (readings, map) = (&trace.readings, trace.map.as_deref());
+    match (rows, weights) {
+        (Rows::Plan(file), _) => plan(readings, map, file.plan(), setting),
+        (Rows::Fixed(window), Some(weights)) => rolling_var_weights(readings, map, *window, setting.min_periods, weights),
+        (Rows::Fixed(window), None) => rolling(readings, map, *window, setting),
+    }
+}
+fn of_pair(x: &Trace, y: &Trace, rows: &Rows, setting: Setting<PairFigure>) -> Answers {
+    let (x, x_map, y, y_map) = (&x.readings, x.map.as_deref(), &y.readings, y.map.as_deref());
+    match rows {
+        Rows::Plan(file) => plan_pair(x, x_map, y, y_map, file.plan(), setting),
+        Rows::Fixed(window) => rolling_pair(x, x_map, y, y_map, *window, setting),
     }
 }
 
 /// A refusal's sentence, behind the file and line that it speaks of.
-fn in_words(refusal: Refusal, trace: &Trace, rows: &Rows) -> String {
+fn in_words(refusal: Refusal, traces: &Traces, rows: &Rows) -> String {
+    let first = &traces.first;
     match (refusal, rows) {
-        (Refusal::TooManyReadings { .. }, _) => format!("{}: {}", trace.file, Refusal::TooManyReadings { readings: trace.seen }),
+        (Refusal::TooManyReadings { trace: which, .. }, _) => {
+            let trace = traces.told(which);
+            format!("{}: {}", trace.file, Refusal::TooManyReadings { trace: which, readings: trace.seen })
+        }
+        (Refusal::LengthsDiffer { .. }, _) => {
+            format!("{}: {refusal} (the first is {})", traces.told(Which::Second).file, first.file)
+        }
         (Refusal::PlanLengths { .. }, Rows::Plan(plan)) => {
             format!("{}: {}", plan.file, Refusal::PlanLengths { starts: plan.seen, ends: plan.seen })
         }
         (Refusal::WeightsWithMap, _) => {
-            let line = trace.first_missing().map_or(0, |place| trace.line(place));
-            format!("{}:{line}: {refusal}; the first that is missing is here", trace.file)
+            let line = first.first_missing().map_or(0, |place| first.line(place));
+            format!("{}:{line}: {refusal}; the first that is missing is here", first.file)
         }
         (Refusal::WeightsSumToZero | Refusal::WeightCount { .. }, _) => format!("--weights: {refusal}"),
         (_, Rows::Plan(plan)) => match refusal.row() {
@@ -132,6 +176,6 @@ fn in_words(refusal: Refusal, trace: &Trace, rows: &Rows) -> String {
             }
             None => format!("{}: {refusal}", plan.file),
         },
-        (_, Rows::Fixed(_)) => format!("{}: {refusal}", trace.file),
+        (_, Rows::Fixed(_)) => format!("{}: {refusal}", first.file),
     }
 }

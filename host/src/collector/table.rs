@@ -1,8 +1,10 @@
 //! The table, as text and as CSV.
 use crate::number::six_digits;
+use crate::options::Options;
 use crate::progress::Progress;
 use crate::report::{Report, Row};
 use crate::text::{capped, count, WIDEST};
+use crate::trace::Traces;
 use std::borrow::Cow;
 use std::fmt::Display;
 use std::io::{self, IsTerminal, Write};
@@ -69,8 +71,8 @@ fn figure(row: &Row<'_>) -> String {
 pub fn text(report: &Report<'_>, out: &mut dyn Write) -> io::Result<()> {
     let heading = ["row", "label", "start", "", "end", "from", "to", "valid", report.options.figure()];
     let layout = Layout::of(report, &heading);
-    writeln!(out, "{}", report.options.asked())?;
-    writeln!(out, "trace    {}: {}", report.trace.file, report.readings())?;
+    writeln!(out, "{}", report.options.in_words())?;
+    sources(report, out)?;
     let rows = count(report.len(), "row");
     writeln!(out, "windows  {}: {rows}; places count from 0, a window's end is not in it\n", report.windows())?;
     layout.line(out, heading.each_ref().map(|name| name as &dyn Display), "")?;
@@ -79,22 +81,38 @@ pub fn text(report: &Report<'_>, out: &mut dyn Write) -> io::Result<()> {
         let cells: Cells = [&number, &label, &row.start, &"to", &row.end, &from, &to, &row.valid, &figure(&row)];
         layout.line(out, cells, if row.is_marked() { " !" } else { "" })?;
     }
-    legend(&layout, out)
+    legend(&layout, report.options, out)
 }
 
-fn legend(layout: &Layout, out: &mut dyn Write) -> io::Result<()> {
+fn sources(report: &Report<'_>, out: &mut dyn Write) -> io::Result<()> {
+    let Traces { first, second, .. } = &report.traces;
+    let Some(second) = second else { return writeln!(out, "trace    {}: {}", first.file, first.in_words()) };
+    for (name, trace) in [("first", first), ("second", second)] {
+        writeln!(out, "{name:<9}{}: {}", trace.file, trace.in_words())?;
+    }
+    writeln!(out, "pairs    {}; a pair is missing where either reading is", report.readings())?;
+    let mut other = report.traces.at_other_times();
+    if let Some((place, first, second)) = other.next() {
+        let (places, first, second) = (count(1 + other.count(), "place"), capped(first), capped(second));
+        writeln!(out, "times    differ at {places}, first at place {place}: {first} and {second}; the first trace's are shown")?;
+    }
+    Ok(())
+}
+
+fn legend(layout: &Layout, options: &Options, out: &mut dyn Write) -> io::Result<()> {
+    let unit = options.unit();
     let marked = layout.from_readings + layout.from_finite;
     if layout.missing + marked > 0 {
         writeln!(out)?;
     }
     if layout.missing > 0 {
-        writeln!(out, "-  missing, in {}: too few readings for the figure or for the minimum", count(layout.missing, "row"))?;
+        writeln!(out, "-  missing, in {}: too few {unit}s for the figure or for the minimum", count(layout.missing, "row"))?;
     }
     if marked > 0 {
         writeln!(out, "!  not finite, in {}:", count(marked, "row"))?;
-        writeln!(out, "   {} with a reading that is not finite", count(layout.from_readings, "window"))?;
-        let finite = count(layout.from_finite, "window");
-        writeln!(out, "   {finite} of finite readings (an overflow, or no such figure, as where all readings are alike)")?;
+        writeln!(out, "   {} with a {unit} that is not finite", count(layout.from_readings, "window"))?;
+        let (finite, none) = (count(layout.from_finite, "window"), options.has_no_figure());
+        writeln!(out, "   {finite} of finite {unit}s (an overflow, or no such figure, as {none})")?;
     }
     Ok(())
 }

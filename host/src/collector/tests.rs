@@ -31,8 +31,11 @@ fn options(line: &str) -> Options {
 
 /// The text, the CSV and the picture of a report, or why there is none.
 fn make(options: &Options, trace: &[u8], plan: &[u8]) -> Result<[String; 3], String> {
-    let (mut trace, mut plan) = (trace, plan);
-    let report = Report::make(options, &mut trace, Some(&mut plan))?;
+    make_of_two(options, trace, b"", plan)
+}
+/// The same where the figure may be of two traces.
+fn make_of_two(options: &Options, first: &[u8], second: &[u8], mut plan: &[u8]) -> Result<[String; 3], String> {
+    let report = Report::make(options, &mut [Box::new(first), Box::new(second)], Some(&mut plan))?;
     let (mut text, mut csv) = (Vec::new(), Vec::new());
     table::text(&report, &mut text).expect("text");
     table::csv(&report, &mut csv).expect("csv");
@@ -43,7 +46,7 @@ fn make(options: &Options, trace: &[u8], plan: &[u8]) -> Result<[String; 3], Str
     Ok([String::from_utf8(text).expect("text is UTF-8"), csv, svg])
 }
 
-const SETTINGS: [&str; 12] = [
+const SETTINGS: [&str; 17] = [
     "t --plan p",
     "t --plan p --ddof 0 --minimum 3",
     "t --plan p --figure skewness",
@@ -56,6 +59,11 @@ const SETTINGS: [&str; 12] = [
     "t --window 2 --weights 1,0.5",
     "t --window 2 --weights 2,-1 --minimum 0",
     "t --window 1 --weights -1e308 --minimum 18446744073709551615",
+    "t u --plan p --figure covariance",
+    "t u --plan p --figure correlation --minimum 2",
+    "t u --window 0 --figure correlation --minimum 0",
+    "t u --window 3 --figure covariance --ddof 0",
+    "t u --window 4 --centered --figure correlation",
 ];
 
 /// Bytes that look a little like a file.
@@ -96,16 +104,17 @@ fn any_bytes_are_read_or_refused() {
         b"\xC3\xA9",
         b"4294967295",
     ];
-    let (mut numbers, mut made) = (Numbers(1), 0);
-    for run in 0..4000 {
+    let (mut numbers, mut made) = (Numbers(1), [0; 2]);
+    for run in 0..8000 {
         let options = options(numbers.one(&SETTINGS));
-        let (trace, plan) = (bytes(&mut numbers, &words), bytes(&mut numbers, &words));
-        match make(&options, &trace, &plan) {
-            Ok(_) => made += 1,
+        let [first, other, plan] = [(); 3].map(|()| bytes(&mut numbers, &words));
+        let second = if run % 2 == 0 { &first } else { &other };
+        match make_of_two(&options, &first, second, &plan) {
+            Ok(_) => made[options.asked.sources().len() - 1] += 1,
             Err(message) => assert!(message.contains(": "), "run {run}: {message}"),
         }
     }
-    assert!(made > 100, "{made} were read");
+    assert!(made[0] > 100 && made[1] > 20, "{made:?} were read, of one trace and of two");
 }
 
 #[test]
@@ -134,10 +143,10 @@ fn any_readings_and_rows_are_shown() {
         let kinds: Vec<&str> = readings.iter().cycle().skip(from).take(few).copied().collect();
         let lines = numbers.one(&[0, 1, 2, 7, 40, 600, 3000]);
         let lines = if run % 20 == 0 { lines } else { lines.min(40) };
-        let mut trace = String::new();
-        for _ in 0..lines {
-            trace += &format!("\"{}\",{}\n", numbers.one(&times).replace('"', "\"\""), numbers.one(&kinds));
-        }
+        let [first, second] = [(); 2].map(|()| {
+            let line = |_| format!("\"{}\",{}\n", numbers.one(&times).replace('"', "\"\""), numbers.one(&kinds));
+            (0..lines).map(line).collect::<String>()
+        });
         let (mut plan, mut start, mut end) = (String::new(), 0, 0);
         let rows = if lines > 500 { numbers.below(900) } else { numbers.below(12) };
         for _ in 0..rows {
@@ -146,17 +155,17 @@ fn any_readings_and_rows_are_shown() {
             plan += &format!("\"{}\",{start},{end}\n", numbers.one(&times).replace('"', "\"\""));
         }
         let line = numbers.one(&SETTINGS);
-        let made = make(&options(line), trace.as_bytes(), plan.as_bytes());
+        let made = make_of_two(&options(line), first.as_bytes(), second.as_bytes(), plan.as_bytes());
         let refused = line.contains("--weights") && made.as_ref().is_err_and(|message| message.contains("weights were given"));
-        assert!(made.is_ok() || refused, "run {run}, {line}: {:?}\n{trace}\n{plan}", made.err());
+        assert!(made.is_ok() || refused, "run {run}, {line}: {:?}\n{first}\n{second}\n{plan}", made.err());
     }
 }
 
 #[test]
 fn pictures_of_hardly_anything() {
     for (trace, plan) in [("", ""), ("a,1\n", ""), ("a,\n", "0,1\n"), ("a,nan\n", "0,0\n1,1\n"), ("a,1\nb,1\n", "0,2\n")] {
-        for setting in ["t --plan p", "t --window 1", "t --window 0 --minimum 0"] {
-            let made = make(&options(setting), trace.as_bytes(), plan.as_bytes());
+        for setting in ["t --plan p", "t --window 1", "t --window 0 --minimum 0", "t u --plan p --figure correlation"] {
+            let made = make_of_two(&options(setting), trace.as_bytes(), trace.as_bytes(), plan.as_bytes());
             assert!(made.is_ok(), "{trace:?} {plan:?} {setting}: {:?}", made.err());
         }
     }
@@ -192,6 +201,16 @@ fn drawn<const N: usize>(svg: &str, element: &str, color: &str, attributes: [&st
         rest.split_once('"').expect("its end").0.parse().expect("a number")
     };
     elements.map(|line| attributes.map(|name| number(line, name))).collect()
+}
+/// Where a text stands.
+fn text_at(svg: &str, text: &str) -> (f64, f64) {
+    let line = svg.lines().find(|line| line.ends_with(&format!("{text}</text>"))).expect(text);
+    let [x, y] = drawn(line, "text", "", ["x", "y"])[0];
+    (x, y)
+}
+/// Where a value stands on its panel's axis.
+fn tick_at(svg: &str, value: &str) -> f64 {
+    text_at(svg, &format!("text-anchor=\"end\">{value}")).1 - 4.5
 }
 /// The points of the first path in a colour.
 fn path(svg: &str, color: &str) -> Vec<(f64, f64)> {
@@ -242,6 +261,88 @@ fn bars_bands_and_marks_stand_where_their_windows_do() {
     let readings = path(&svg, "#1f5f99");
     assert!(near(readings[0].0, at(0.5)) && near(readings[1].0, at(1.5)), "{readings:?}");
     assert!(readings[1].1 < readings[0].1 && readings.iter().all(|(_, y)| (READINGS.0..=READINGS.1).contains(y)), "{readings:?}");
+}
+
+/// Both traces above, the figure below, on the axis of a correlation.
+#[test]
+fn two_traces_stand_above_their_figure() {
+    let (first, second) = (b"a,0\nb,10\nc,5\nd,\n", b"a,1\nb,21\nc,nan\nd,4\n");
+    let two = |options: &Options, plan: &[u8]| make_of_two(options, first, second, plan).expect("a report");
+    let [text, csv, svg] = two(&options("first.csv second.csv --figure correlation --plan p"), b"0,2\n2,3\n3,4\n");
+    assert!(text.starts_with("correlation, minimum 1\nfirst    first.csv: 4 readings, 1 missing, 0 not finite\n"), "{text}");
+    assert!(
+        text.contains("\nsecond   second.csv: 4 readings, 0 missing, 1 not finite\npairs    4 pairs, 1 missing, 1 not finite;"),
+        "{text}"
+    );
+    assert!(
+        text.contains("valid  correlation\n") && text.contains("\n  2      3 to   4  d     d       0            -\n"),
+        "{text}"
+    );
+    assert!(csv.contains("\n0,,0,2,a,b,2,1.0,\n1,,2,3,c,c,1,NaN,not finite\n2,,3,4,d,d,0,-,\n"), "{csv}");
+    // the panels have changed places
+    let (traces, figures) = (FIGURES, READINGS);
+    for (color, points) in [("#1f5f99", [0.5, 1.5, 2.5].as_slice()), ("#2f9e6e", &[0.5, 1.5, 3.5])] {
+        let readings = path(&svg, color);
+        assert!(
+            readings.len() == points.len() && readings.iter().zip(points).all(|((x, _), place)| near(*x, at(*place))),
+            "{readings:?}"
+        );
+        assert!(readings.iter().all(|(_, y)| (traces.0..=traces.1).contains(y)), "{readings:?}");
+    }
+    // the second's are higher on the one axis, and each trace is named beside its colour
+    let [lower, upper] = ["#1f5f99", "#2f9e6e"].map(|color| path(&svg, color)[1].1);
+    assert!(upper < lower, "{upper} {lower}");
+    for (color, name) in [("#1f5f99", "first.csv"), ("#2f9e6e", "second.csv")] {
+        let swatch = drawn(&svg, "rect", color, ["x", "width", "y"])[0];
+        let (x, y) = text_at(&svg, name);
+        assert!(
+            x > swatch[0] + swatch[1] && x < swatch[0] + swatch[1] + 10.0 && (y - swatch[2]).abs() < 8.0 && y < traces.0,
+            "{name}"
+        );
+    }
+    let axis = ["-1.0", "-0.5", "0.5", "1.0"].map(|tick| tick_at(&svg, tick));
+    assert!(axis.windows(2).all(|pair| pair[0] > pair[1]) && axis[0] < figures.1 && axis[3] > figures.0, "{axis:?}");
+    let bars = drawn(&svg, "rect", "#b4500f", ["x", "width", "y", "height"]);
+    assert!(near(bars[0][0], at(0.0)) && near(bars[0][1], at(2.0) - at(0.0)), "{bars:?}");
+    assert!(near(bars[0][2] + bars[0][3] / 2.0, axis[3]), "a correlation of 1 stands at 1: {bars:?} {axis:?}");
+    // a pair is missing where either reading is, and its row at the base of the figure's panel
+    let gap = drawn(&svg, "rect", "#f3dfae", ["x", "width", "y", "height"]);
+    assert!(
+        near(gap[0][0], at(3.0)) && near(gap[0][2], traces.0) && near(gap[0][3], traces.1 - traces.0) && gap.len() == 2,
+        "{gap:?}"
+    );
+    let missing = drawn(&svg, "rect", "#8c8c8c", ["x", "width", "y", "height"]);
+    assert!(near(missing[0][0], at(3.0)) && near(missing[0][2] + missing[0][3], figures.1), "{missing:?}");
+    let marks = drawn(&svg, "rect", "#d01c1c", ["x", "y"]);
+    assert!(near(marks[0][0], at(2.0)) && near(marks[0][1], figures.0), "{marks:?}");
+    assert!(near(marks[1][0], at(2.0)) && near(marks[1][1], traces.0), "{marks:?}");
+    for text in ["pair missing", "pair not finite", "figure missing", "figure not finite"] {
+        assert!(svg.contains(&format!(">{text}<")), "{text}");
+    }
+}
+
+/// Rounding takes a correlation past 1, by a hair or by much: it is shown as it is, within its panel.
+#[test]
+fn a_correlation_past_one_is_not_hidden() {
+    let hair: [&[u8]; 2] = [b"a,0.9\nb,0.8\nc,0.9\n", b"a,2.7\nb,2.4\nc,2.7\n"];
+    let much: [&[u8]; 2] = [b"a,4503599627370498\nb,4503599627370499\nc,\n", b"a,4503599627370496\nb,4503599627370499\nc,\n"];
+    for ([first, second], correlation, tick) in [(hair, "1.0000000000000013", "1.0"), (much, "1.7320508075688774", "1")] {
+        let options = options("t u --figure correlation --plan p");
+        let [_, csv, svg] = make_of_two(&options, first, second, b"0,3\n").expect("a report");
+        assert!(csv.ends_with(&format!(",{correlation},\n")), "{csv}");
+        let [y, height] = drawn(&svg, "rect", "#b4500f", ["y", "height"])[0];
+        let (middle, one) = (y + height / 2.0, tick_at(&svg, tick));
+        assert!(y > READINGS.0 && if tick == "1" { middle < one - 20.0 } else { near(middle, one) }, "{svg}");
+    }
+}
+
+#[test]
+fn times_that_differ_are_told() {
+    let options = options("t u --figure covariance --plan p");
+    let [text, ..] = make_of_two(&options, b"a,1\nb,2\nc,3\n", b"a,1\nB,2\n,3\n", b"0,3\n").expect("a report");
+    assert!(text.contains("\ntimes    differ at 2 places, first at place 1: b and B; the first trace's are shown\n"), "{text}");
+    let [text, ..] = make_of_two(&options, b"a,1\n", b"a,1\n", b"0,1\n").expect("a report");
+    assert!(!text.contains("\ntimes "), "{text}");
 }
 
 #[test]

@@ -1,8 +1,8 @@
-//! A trace as CSV: time, temperature.
+//! A trace as CSV: time, temperature. Two of them, place by place.
 use crate::csv::{split, Fault, Fields, Lines};
 use crate::number;
 use crate::text::Texts;
-use moments::{is_valid, trace_of, MOST};
+use moments::{is_valid, trace_of, Which, MOST};
 use std::io::BufRead;
 
 /// What a trace's file holds.
@@ -15,9 +15,6 @@ pub struct Trace {
     /// How many readings the file has, even if too many to keep.
     pub seen: usize,
     heading: bool,
-    /// How many of the first so many places are valid, and how many of those hold no finite reading.
-    valid: Vec<u32>,
-    not_finite: Vec<u32>,
 }
 impl Trace {
     pub fn read(input: &mut dyn BufRead, file: &str) -> Result<Trace, Fault> {
@@ -32,15 +29,11 @@ impl Trace {
         }));
         match fault {
             Some(fault) => Err(fault),
-            None => Ok(Trace::new(file, readings, map, reader)),
+            None => {
+                let (times, seen, heading) = (reader.times, reader.seen, reader.heading);
+                Ok(Trace { file: file.to_string(), readings, map, times, seen, heading })
+            }
         }
-    }
-    fn new(file: &str, readings: Vec<f64>, map: Option<Vec<u8>>, reader: Reader<'_>) -> Trace {
-        let (times, seen, heading) = (reader.times, reader.seen, reader.heading);
-        let valid = totals(readings.len(), |place| is_valid(map.as_deref(), place));
-        // A missing place holds 0.0.
-        let not_finite = totals(readings.len(), |place| readings.get(place).is_some_and(|x| !x.is_finite()));
-        Trace { file: file.to_string(), readings, map, times, seen, heading, valid, not_finite }
     }
     pub fn len(&self) -> usize {
         self.readings.len()
@@ -56,11 +49,58 @@ impl Trace {
     pub fn first_missing(&self) -> Option<usize> {
         (0..self.len()).find(|place| self.reading(*place).is_none())
     }
+    /// Whether a place's reading is finite, or none if it is missing.
+    fn is_finite(&self, place: usize) -> Option<bool> {
+        self.reading(place).map(f64::is_finite)
+    }
+}
+
+/// A trace, or two whose places are paired.
+pub struct Traces {
+    pub first: Trace,
+    pub second: Option<Trace>,
+    /// How many of the first so many places are valid, and how many of those are not finite.
+    valid: Vec<u32>,
+    not_finite: Vec<u32>,
+}
+impl Traces {
+    pub fn new(first: Trace, second: Option<Trace>) -> Self {
+        let mut traces = Traces { first, second, valid: Vec::new(), not_finite: Vec::new() };
+        let count = |such: fn(Option<bool>) -> bool| totals(traces.len(), |place| such(traces.is_finite(place)));
+        let (valid, not_finite) = (count(|finite| finite.is_some()), count(|finite| finite == Some(false)));
+        (traces.valid, traces.not_finite) = (valid, not_finite);
+        traces
+    }
+    pub fn all(&self) -> impl Iterator<Item = &Trace> {
+        std::iter::once(&self.first).chain(&self.second)
+    }
+    /// The one that a refusal speaks of.
+    pub fn told(&self, which: Which) -> &Trace {
+        match (which, &self.second) {
+            (Which::Second, Some(second)) => second,
+            _ => &self.first,
+        }
+    }
+    pub fn len(&self) -> usize {
+        self.first.len()
+    }
+    /// Whether a place's reading, or pair of readings, is finite, or none if one is missing.
+    pub fn is_finite(&self, place: usize) -> Option<bool> {
+        let first = self.first.is_finite(place)?;
+        let second = self.second.as_ref().map_or(Some(true), |second| second.is_finite(place))?;
+        Some(first && second)
+    }
     pub fn valid(&self, start: usize, end: usize) -> usize {
         between(&self.valid, start, end)
     }
     pub fn not_finite(&self, start: usize, end: usize) -> usize {
         between(&self.not_finite, start, end)
+    }
+    /// The places at which two traces do not have the same time.
+    pub fn at_other_times(&self) -> impl Iterator<Item = (usize, &str, &str)> {
+        let second = self.second.as_ref();
+        let times = (0..self.len()).filter_map(move |place| Some((place, self.first.times.get(place), second?.times.get(place))));
+        times.filter(|(_, first, second)| first != second)
     }
 }
 
@@ -124,13 +164,29 @@ fn reading(fields: &Fields<'_>) -> Result<Option<f64>, String> {
 mod tests {
     use super::*;
 
+    fn read(mut input: &[u8]) -> Trace {
+        Trace::read(&mut input, "f").expect("a trace")
+    }
+    const FIRST: &[u8] = b"time,temperature\na,1\nb,\nc,nan\nd,NA\ne,-inf\n";
+
     #[test]
     fn counts_of_windows() {
-        let mut input: &[u8] = b"time,temperature\na,1\nb,\nc,nan\nd,NA\ne,-inf\n";
-        let trace = Trace::read(&mut input, "f").expect("a trace");
+        let trace = read(FIRST);
         assert_eq!((trace.len(), trace.seen, trace.map.clone(), trace.line(0)), (5, 5, Some(vec![0b10101]), 2));
-        assert_eq!((trace.valid(0, 5), trace.valid(1, 2), trace.valid(2, 5), trace.valid(3, 3)), (3, 0, 2, 0));
-        assert_eq!((trace.not_finite(0, 5), trace.not_finite(0, 2), trace.not_finite(3, 5)), (2, 0, 1));
         assert_eq!((trace.first_missing(), trace.reading(0), trace.times.get(4)), (Some(1), Some(1.0), "e"));
+        let one = Traces::new(trace, None);
+        assert_eq!((one.valid(0, 5), one.valid(1, 2), one.valid(2, 5), one.valid(3, 3)), (3, 0, 2, 0));
+        assert_eq!((one.not_finite(0, 5), one.not_finite(0, 2), one.not_finite(3, 5)), (2, 0, 1));
+        assert_eq!(one.at_other_times().count(), 0);
+    }
+
+    #[test]
+    fn a_pair_is_where_both_have_a_reading() {
+        // a reading that is not finite beside a missing one is no pair
+        let two = Traces::new(read(FIRST), Some(read(b"a,inf\nb,2\nC,\nd,nan\ne,5\n")));
+        assert_eq!([0, 1, 2, 3, 4, 5].map(|place| two.is_finite(place)), [Some(false), None, None, None, Some(false), None]);
+        assert_eq!((two.valid(0, 5), two.valid(1, 4), two.not_finite(0, 5), two.not_finite(0, 1)), (2, 0, 2, 1));
+        assert_eq!(two.at_other_times().collect::<Vec<_>>(), [(2, "c", "C")]);
+        assert_eq!([Which::Only, Which::First, Which::Second].map(|which| two.told(which).line(0)), [2, 2, 1]);
     }
 }
