@@ -3,7 +3,7 @@
 use crate::host::Call;
 use crate::{pairs, windows};
 #[cfg(feature = "host")]
-use crate::Figure;
+use crate::{Figure, PairFigure};
 
 /// What a call answers.
 #[derive(Debug)]
@@ -102,13 +102,23 @@ pub fn setting(figure: Figure, min: usize) -> moments::Setting {
     };
     setting.min_periods(min)
 }
+#[cfg(feature = "host")]
+pub fn pair_setting(figure: PairFigure, min: usize) -> moments::Setting<moments::PairFigure> {
+    let setting = match figure {
+        PairFigure::Cov { ddof } => moments::Setting::cov(ddof),
+        PairFigure::Pearson => moments::Setting::pearson_corr(),
+    };
+    setting.min_periods(min)
+}
 
 #[cfg(feature = "host")]
 mod ours {
-    use super::{setting, Answer};
+    use super::{pair_setting, setting, Answer};
     use crate::host::Call;
-    use crate::{pairs, windows, Figure, PairFigure};
-    use moments::{abi, plan_into, rolling_into, rolling_var_weights_into, Lists, Plan, Refusal, Window};
+    use crate::pairs::{self, Windows};
+    use crate::{windows, Figure, PairFigure};
+    use moments::{abi, plan_into, plan_pair_into, rolling_into, rolling_pair_into, rolling_var_weights_into};
+    use moments::{Encoded, Lists, Plan, Refusal, Window};
 
     fn answer(result: Result<(), Refusal>) -> Answer {
         let Err(refusal) = result else { return Answer::Words { number: 0, row: None } };
@@ -167,27 +177,48 @@ mod ours {
 
     #[rustfmt::skip]
     pub fn pairs(c: &pairs::Case, readings: [&mut [f64]; 2], work: &mut [f64], figures: &mut [f64], present: &mut [u8]) -> Answer {
-        let (xh, xm, xmn) = (c.x.has_map, c.x.map.as_ptr(), c.x.map.len());
-        let (yh, ym, ymn) = (c.y.has_map, c.y.map.as_ptr(), c.y.map.len());
+        let (a, b) = if c.decodes() { (vec![], vec![]) } else { (c.x.readings(), c.y.readings()) };
+        let [x_readings, y_readings] = readings;
+        if [&c.x, &c.y].iter().all(|trace| trace.has_map || trace.map.is_empty()) {
+            let (setting, lists) = (pair_setting(c.figure, c.min), Lists { work, figures, present });
+            return answer(match &c.windows {
+                Windows::Plan { starts, ends } => {
+                    let x = Encoded { bytes: c.x.bytes(), readings: x_readings, map: c.x.map() };
+                    let y = Encoded { bytes: c.y.bytes(), readings: y_readings, map: c.y.map() };
+                    plan_pair_into(x, y, Plan::new(starts, ends), setting, lists)
+                }
+                Windows::Fixed { size, centre } => {
+                    rolling_pair_into(&a, c.x.map(), &b, c.y.map(), Window { size: *size, center: *centre }, setting, lists)
+                }
+            });
+        }
+        let (xh, xm, xmn, yh, ym, ymn) = (c.x.has_map, c.x.map.as_ptr(), c.x.map.len(), c.y.has_map, c.y.map.as_ptr(), c.y.map.len());
         let (wp, wn, vp, vn, pp, pn) = (work.as_mut_ptr(), work.len(), figures.as_mut_ptr(), figures.len(), present.as_mut_ptr(), present.len());
         // SAFETY: as above.
         Answer::Number(unsafe {
             match &c.windows {
-                pairs::Windows::Plan { starts, ends } => {
-                    let ((x, xn), (y, yn)) = ((c.x.bytes().as_ptr(), c.x.bytes().len()), (c.y.bytes().as_ptr(), c.y.bytes().len()));
-                    let [(xr, xrn), (yr, yrn)] = readings.map(|list| (list.as_mut_ptr(), list.len()));
+                Windows::Plan { starts, ends } => {
+                    let (x, xn, xr, xrn) = (c.x.bytes().as_ptr(), c.x.bytes().len(), x_readings.as_mut_ptr(), x_readings.len());
+                    let (y, yn, yr, yrn) = (c.y.bytes().as_ptr(), c.y.bytes().len(), y_readings.as_mut_ptr(), y_readings.len());
                     let (sp, sn, ep, en, min) = (starts.as_ptr(), starts.len(), ends.as_ptr(), ends.len(), c.min);
                     match c.figure {
-                        PairFigure::Cov { ddof } => abi::moments_plan_cov(x, xn, xr, xrn, xh, xm, xmn, y, yn, yr, yrn, yh, ym, ymn, sp, sn, ep, en, min, ddof, wp, wn, vp, vn, pp, pn),
-                        PairFigure::Pearson => abi::moments_plan_pearson_corr(x, xn, xr, xrn, xh, xm, xmn, y, yn, yr, yrn, yh, ym, ymn, sp, sn, ep, en, min, wp, wn, vp, vn, pp, pn),
+                        PairFigure::Cov { ddof } => abi::moments_plan_cov(
+                            x, xn, xr, xrn, xh, xm, xmn, y, yn, yr, yrn, yh, ym, ymn, sp, sn, ep, en, min, ddof, wp, wn, vp, vn, pp, pn,
+                        ),
+                        PairFigure::Pearson => abi::moments_plan_pearson_corr(
+                            x, xn, xr, xrn, xh, xm, xmn, y, yn, yr, yrn, yh, ym, ymn, sp, sn, ep, en, min, wp, wn, vp, vn, pp, pn,
+                        ),
                     }
                 }
-                pairs::Windows::Fixed { size, centre } => {
-                    let (a, b, size, centre, min) = (c.x.readings(), c.y.readings(), *size, *centre, c.min);
-                    let (x, xn, y, yn) = (a.as_ptr(), a.len(), b.as_ptr(), b.len());
+                Windows::Fixed { size, centre } => {
+                    let (x, xn, y, yn, size, centre, min) = (a.as_ptr(), a.len(), b.as_ptr(), b.len(), *size, *centre, c.min);
                     match c.figure {
-                        PairFigure::Cov { ddof } => abi::moments_rolling_cov(x, xn, xh, xm, xmn, y, yn, yh, ym, ymn, size, min, centre, ddof, wp, wn, vp, vn, pp, pn),
-                        PairFigure::Pearson => abi::moments_rolling_pearson_corr(x, xn, xh, xm, xmn, y, yn, yh, ym, ymn, size, min, centre, wp, wn, vp, vn, pp, pn),
+                        PairFigure::Cov { ddof } => abi::moments_rolling_cov(
+                            x, xn, xh, xm, xmn, y, yn, yh, ym, ymn, size, min, centre, ddof, wp, wn, vp, vn, pp, pn,
+                        ),
+                        PairFigure::Pearson => abi::moments_rolling_pearson_corr(
+                            x, xn, xh, xm, xmn, y, yn, yh, ym, ymn, size, min, centre, wp, wn, vp, vn, pp, pn,
+                        ),
                     }
                 }
             }
