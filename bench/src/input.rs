@@ -2,7 +2,8 @@
 use oracle::maps;
 use oracle::rng::Rng;
 
-/// Two traces and a map of each in which nine places in ten are valid, padded with noise to a multiple of 64 bytes, as Arrow pads its buffers.
+/// Two traces and a map of each in which nine places in ten are valid, padded with noise to a multiple of 64 bytes, as Arrow pads its
+/// buffers.
 pub struct Input {
     pub n: usize,
     pub x: Vec<f64>,

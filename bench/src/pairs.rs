@@ -1,5 +1,5 @@
-//! Windows of two traces, plans and fixed ones, beside the oracle's Rust of the same account (`oracle::model`): the source has none. That Rust
-//! is lent what ours is lent, in lists of its own, and leaves a NaN the bits that it has.
+//! Windows of two traces, plans and fixed ones, beside the oracle's Rust of the same account (`oracle::model`): the source has none. That
+//! Rust is lent what ours is lent, in lists of its own, and leaves a NaN the bits that it has.
 use crate::input::Input;
 use crate::measure::{Aim, Bench, Case};
 use crate::windows::{name, windows, Lent, SIZES};

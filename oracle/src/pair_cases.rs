@@ -1,5 +1,5 @@
-//! The calls on two traces that `words` stores, over plans and over fixed windows: those by hand, then those to which several numbers apply,
-//! then maps of other lengths, then random ones of every number.
+//! The calls on two traces that `words` stores, over plans and over fixed windows: those by hand, then those to which several numbers
+//! apply, then maps of other lengths, then random ones of every number.
 use crate::account::{self, afresh};
 use crate::pairs::{Case, Trace, Windows};
 use crate::rng::Rng;
@@ -159,8 +159,8 @@ fn fixed_by_hand(r: &mut Rng) -> Vec<Case> {
     v
 }
 
-/// The traces' own numbers, alone and several at once, each with the one that is answered: 2 before 3, whichever trace has it. The rest of the
-/// call is the case's.
+/// The traces' own numbers, alone and several at once, each with the one that is answered: 2 before 3, whichever trace has it. The rest
+/// of the call is the case's.
 fn of_traces(good: &Case) -> Vec<(u32, Case)> {
     let (x, y) = (good.x.readings(), good.y.readings());
     let least = x.len().div_ceil(8);

@@ -4,9 +4,10 @@ use crate::account::{self, Given};
 use crate::host::{self, readings};
 use crate::rng::Rng;
 use crate::{offsets, refusal, windows, PairFigure};
+use std::fmt;
 
 /// A trace in the bytes of a host call, eight a reading, of which fixed windows are given the readings.
-#[derive(Clone, Debug, Default)]
+#[derive(Clone, Default)]
 pub struct Trace {
     bytes: Vec<u8>,
     /// So many bytes stand before the trace's own, so that those may start at any address.
@@ -77,10 +78,31 @@ impl Trace {
     }
 }
 
-#[derive(Clone, Debug)]
+#[derive(Clone)]
 pub enum Windows {
     Plan { starts: Vec<u32>, ends: Vec<u32> },
     Fixed { size: usize, centre: bool },
+}
+
+/// So much of a list is shown.
+fn shown<T>(list: &[T]) -> &[T] {
+    &list[..list.len().min(100)]
+}
+impl fmt::Debug for Trace {
+    fn fmt(&self, f: &mut fmt::Formatter<'_>) -> fmt::Result {
+        let Trace { shift, decoded, .. } = self;
+        let map = self.map().map(shown);
+        write!(f, "{} bytes at {shift}, map {map:X?}, {decoded} places for readings, readings", self.bytes().len())?;
+        shown(&self.readings()).iter().try_for_each(|x| write!(f, " {:016X}", x.to_bits()))
+    }
+}
+impl fmt::Debug for Windows {
+    fn fmt(&self, f: &mut fmt::Formatter<'_>) -> fmt::Result {
+        match self {
+            Windows::Plan { starts, ends } => write!(f, "starts {:?}, ends {:?}", shown(starts), shown(ends)),
+            Windows::Fixed { size, centre } => write!(f, "size {size}, centre {centre}"),
+        }
+    }
 }
 /// All that a call is given, and the lengths of the lists that it is lent.
 #[derive(Clone, Debug)]
@@ -169,8 +191,8 @@ impl Case {
         let windows = Windows::Fixed { size: one.size, centre: one.centre };
         Case::beside(r, x, windows, one.min).faulty(r, spare, (one.room.figures, one.room.present))
     }
-    /// With a second trace: on its own, in step with the first, the same, or steady. In a third of the calls all that is not finite stands where
-    /// a trace has no reading, so that it must not be seen; in another third some pairs have a bad member beside a good one.
+    /// With a second trace: on its own, in step with the first, the same, or steady. In a third of the calls all that is not finite
+    /// stands where a trace has no reading, so that it must not be seen; in another third some pairs have a bad member beside a good one.
     fn beside(r: &mut Rng, x: Trace, windows: Windows, min: usize) -> Case {
         let (mut a, keen) = (x.readings(), r.chance(1, 2));
         let (mut b, map) = readings(r, a.len(), keen);

@@ -149,15 +149,16 @@ pub fn pair(n: usize, nm: Option<usize>, m: usize, mm: Option<usize>) -> u32 {
     }
     0
 }
-/// The same for windows of pairs, by the traces' readings and the bytes of their maps.
+/// Of each trace how many readings, or bytes, it has, and how many bytes its map, if there is one.
 pub type Pair = [(usize, Option<usize>); 2];
+/// Fixed windows of two traces, by their readings: 1, 2 and 3 as above, then as of one.
 pub fn fixed_pair([(n, nm), (m, mm)]: Pair, size: usize, outs: (usize, usize), entry: usize, work: usize) -> u32 {
     match pair(n, nm, m, mm) {
         0 => fixed(n, None, size, outs, entry, work),
         r => r,
     }
 }
-/// The host call over pairs: 14 for either trace before all; 12 for either reading list too.
+/// The host call of two traces, by their bytes: 14 for either before all; 12 for either reading list too.
 #[allow(clippy::too_many_arguments)]
 pub fn host_pair(
     [(x, xm), (y, ym)]: Pair,

@@ -193,7 +193,8 @@ mod ours {
             });
         }
         let (xh, xm, xmn, yh, ym, ymn) = (c.x.has_map, c.x.map.as_ptr(), c.x.map.len(), c.y.has_map, c.y.map.as_ptr(), c.y.map.len());
-        let (wp, wn, vp, vn, pp, pn) = (work.as_mut_ptr(), work.len(), figures.as_mut_ptr(), figures.len(), present.as_mut_ptr(), present.len());
+        let (wp, wn, vp, vn) = (work.as_mut_ptr(), work.len(), figures.as_mut_ptr(), figures.len());
+        let (pp, pn) = (present.as_mut_ptr(), present.len());
         // SAFETY: as above.
         Answer::Number(unsafe {
             match &c.windows {

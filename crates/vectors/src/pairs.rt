@@ -1,5 +1,5 @@
-// Records of paired and paired_fixed, the calls on two traces. They have the words of plan (plans.rt) and of fixed (fixed.rt), which are the
-// first trace's, but for these: 1 is 0 for covariance and 1 for correlation, 3 whether the second trace's map is lent; from 25 on
+// Records of paired and paired_fixed, the calls on two traces. They have the words of plan (plans.rt) and of fixed (fixed.rt), which are
+// the first trace's, but for these: 1 is 0 for covariance and 1 for correlation, 3 whether the second trace's map is lent; from 25 on
 // stand the second trace, its map (27) and its readings (29).
 use crate::lent::answered;
 use crate::words::are;
