@@ -386,8 +386,13 @@ fn pairs_limits(seen: &mut Seen, r: &mut Rng, f: PairsFn, plan: bool) {
             (3, Some(&[][..]), LIMIT + 1, Some(&short[..])),
         ] {
             let (x, y) = (Trace::new(&x[..n], x_map), Trace::new(&y[..m], y_map));
-            let case = if plan { Case::plan(figure, 1, x, y, &far) } else { Case::fixed(figure, 2, x, y, 4, map.is_some()) };
+            let mut case = if plan { Case::plan(figure, 1, x, y, &far) } else { Case::fixed(figure, 2, x, y, 4, map.is_some()) };
             pairs_call(seen, r, f, &case);
+            if plan && n > m {
+                // 14 of the second trace before 1 of the first
+                case.y.edit().pop();
+                pairs_call(seen, r, f, &case);
+            }
         }
         if !plan {
             let case = Case::fixed(figure, 2, Trace::new(&x[..LIMIT], None), Trace::new(&y[..LIMIT], None), usize::MAX, true);
