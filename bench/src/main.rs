@@ -79,8 +79,7 @@ fn main() {
         windows::plans(&mut bench, &input);
         windows::fixed(&mut bench, &input);
         windows::weighted(&mut bench, &input);
-        pairs::plans(&mut bench, &input);
-        pairs::fixed(&mut bench, &input);
+        pairs::windows(&mut bench, &input);
         arrays::whole(&mut bench, &input);
         arrays::ranges(&mut bench, &input);
         states::root(&mut bench, &input);

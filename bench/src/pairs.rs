@@ -2,7 +2,7 @@
 //! Rust is lent what ours is lent, in lists of its own, and leaves a NaN the bits that it has.
 use crate::input::Input;
 use crate::measure::{Aim, Bench, Case};
-use crate::windows::{name, windows, Lent, SIZES};
+use crate::windows::{name, windows as fixed_windows, Lent, SIZES};
 use moments::{plan_pair_into, rolling_pair_into, Encoded, Lists, Plan, Window};
 use oracle::model::pairs_into;
 use oracle::second::pair_setting;
@@ -41,21 +41,33 @@ impl Input {
     }
 }
 
-pub fn plans(bench: &mut Bench, input: &Input) {
+/// A figure with the section of its lines and the ratio that is aimed at.
+#[derive(Clone, Copy)]
+struct Asked {
+    section: &'static str,
+    figure: PairFigure,
+    aim: Aim,
+}
+
+pub fn windows(bench: &mut Bench, input: &Input) {
     let encode = |trace: &[f64]| trace.iter().flat_map(|x| x.to_le_bytes()).collect::<Vec<u8>>();
     let bytes = [encode(&input.x), encode(&input.y)];
-    for (plan_name, (starts, ends)) in
-        SIZES.map(|size| (name(size), input.trailing(size))).into_iter().chain([("uneven".into(), input.uneven())])
-    {
-        of_plan(bench, input, &bytes, &plan_name, Plan::new(&starts, &ends));
+    let plans = SIZES.map(|size| (name(size), input.trailing(size))).into_iter().chain([("uneven".into(), input.uneven())]);
+    let plans: Vec<_> = plans.collect();
+    for (section, figure, most) in FIGURES {
+        let asked = Asked { section, figure, aim: Aim::AtMost(most) };
+        for (plan_name, (starts, ends)) in &plans {
+            of_plan(bench, input, &bytes, asked, plan_name, Plan::new(starts, ends));
+        }
+        SIZES.into_iter().flat_map(fixed_windows).for_each(|(window, name)| of_fixed(bench, input, asked, &name, window));
     }
 }
-fn of_plan(bench: &mut Bench, input: &Input, [x, y]: &[Vec<u8>; 2], plan_name: &str, plan: Plan<'_>) {
-    let n = input.n;
-    for ((section, figure, most), (maps, tag)) in FIGURES.into_iter().flat_map(|figure| input.pair_maps().map(|maps| (figure, maps))) {
-        let setting = pair_setting(figure, 1);
+fn of_plan(bench: &mut Bench, input: &Input, [x, y]: &[Vec<u8>; 2], asked: Asked, plan_name: &str, plan: Plan<'_>) {
+    let (n, Asked { section, figure, aim }) = (input.n, asked);
+    let setting = pair_setting(figure, 1);
+    for (maps, tag) in input.pair_maps() {
         bench.run(
-            Case { section, name: format!("plan {plan_name}, {tag}"), aim: Aim::AtMost(most), n },
+            Case { section, name: format!("plan {plan_name}, {tag}"), aim, n },
             || Both::new(n, n, setting.work(plan.widest())),
             |both| {
                 let rows = plan.starts.iter().zip(plan.ends).map(|(start, end)| (*start as usize, *end as usize));
@@ -70,27 +82,22 @@ fn of_plan(bench: &mut Bench, input: &Input, [x, y]: &[Vec<u8>; 2], plan_name: &
         );
     }
 }
-
-pub fn fixed(bench: &mut Bench, input: &Input) {
-    let n = input.n;
-    for (size, (section, figure, most)) in SIZES.into_iter().flat_map(|size| FIGURES.map(|figure| (size, figure))) {
-        for ((maps, tag), (window, window_name)) in
-            input.pair_maps().into_iter().flat_map(|maps| windows(size).map(|window| (maps, window)))
-        {
-            let (setting, Window { size, center }) = (pair_setting(figure, 1), window);
-            bench.run(
-                Case { section, name: format!("fixed {window_name}, {tag}"), aim: Aim::AtMost(most), n },
-                || Both::new(n, 0, setting.work(size.min(n))),
-                |both| {
-                    let rows = (0..n).map(|i| oracle::offsets(i, size, n, center));
-                    black_box(input.rust(maps, rows, figure, &mut both.rust));
-                },
-                |Both { ours: Lent { work, figures, present, .. }, .. }| {
-                    let lists = Lists { work, figures, present };
-                    black_box(rolling_pair_into(&input.x, maps[0], &input.y, maps[1], window, setting, lists)).expect("accepted");
-                },
-                Both::compare,
-            );
-        }
+fn of_fixed(bench: &mut Bench, input: &Input, asked: Asked, window_name: &str, window: Window) {
+    let (n, Asked { section, figure, aim }, Window { size, center }) = (input.n, asked, window);
+    let setting = pair_setting(figure, 1);
+    for (maps, tag) in input.pair_maps() {
+        bench.run(
+            Case { section, name: format!("fixed {window_name}, {tag}"), aim, n },
+            || Both::new(n, 0, setting.work(size.min(n))),
+            |both| {
+                let rows = (0..n).map(|i| oracle::offsets(i, size, n, center));
+                black_box(input.rust(maps, rows, figure, &mut both.rust));
+            },
+            |Both { ours: Lent { work, figures, present, .. }, .. }| {
+                let lists = Lists { work, figures, present };
+                black_box(rolling_pair_into(&input.x, maps[0], &input.y, maps[1], window, setting, lists)).expect("accepted");
+            },
+            Both::compare,
+        );
     }
 }
