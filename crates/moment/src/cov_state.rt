@@ -1,6 +1,6 @@
 // Covariance: the source's `CovState`.
 ghost use mathlib.Core.Path.{_≡_};
-ghost use mathlib.Core.List.{zip};
+ghost use mathlib.Core.List.{zip, [], _∷_};
 ghost use lib.ListN.{length};
 ghost use Rattle.moment.specs.Cov.{covEmpty, covAbout, covNew, covInsert, covMerge, covCombine, covFinalize};
 use crate::Figure;
@@ -63,6 +63,21 @@ impl CovState {
         let mean_x = sums::sum(x) * inv_weight;
         let mean_y = sums::sum(y) * inv_weight;
         CovState::about(x, y, weight, mean_x, mean_y)
+    }
+
+    // `new` of one pair.
+    pub fn of_pair(x: f64, y: f64) -> Self
+        ensures { λ r. ⌜ r ≡ covNew ((x, y) ∷ []) ⌝ }
+    {
+        let inv_weight = 1.0 / 1.0;
+        let mean_x = (0.0 + x) * inv_weight;
+        let mean_y = (0.0 + y) * inv_weight;
+        CovState {
+            weight: 1.0,
+            mean_x,
+            mean_y,
+            dp_xy: 0.0 + (x - mean_x) * (y - mean_y),
+        }
     }
 
     pub fn insert_one(self, x: f64, y: f64) -> Self

@@ -1,6 +1,6 @@
 // Correlation: the source's `PearsonState`.
 ghost use mathlib.Core.Path.{_≡_};
-ghost use mathlib.Core.List.{zip};
+ghost use mathlib.Core.List.{zip, [], _∷_};
 ghost use lib.ListN.{length};
 ghost use Rattle.moment.specs.Pearson.{pearsonEmpty, pearsonAbout, pearsonNew, pearsonInsert};
 ghost use Rattle.moment.specs.Pearson.{pearsonMerge, pearsonCombine, pearsonFinalize};
@@ -75,6 +75,25 @@ impl PearsonState {
         let mean_x = sums::sum(x) * inv_weight;
         let mean_y = sums::sum(y) * inv_weight;
         PearsonState::about(x, y, weight, mean_x, mean_y)
+    }
+
+    // `new` of one pair.
+    pub fn of_pair(x: f64, y: f64) -> Self
+        ensures { λ r. ⌜ r ≡ pearsonNew ((x, y) ∷ []) ⌝ }
+    {
+        let inv_weight = 1.0 / 1.0;
+        let mean_x = (0.0 + x) * inv_weight;
+        let mean_y = (0.0 + y) * inv_weight;
+        let dx = x - mean_x;
+        let dy = y - mean_y;
+        PearsonState {
+            weight: 1.0,
+            mean_x,
+            mean_y,
+            dp_xx: 0.0 + dx * dx,
+            dp_xy: 0.0 + dx * dy,
+            dp_yy: 0.0 + dy * dy,
+        }
     }
 
     pub fn insert_one(self, x: f64, y: f64) -> Self

@@ -14,11 +14,12 @@ ghost use Rattle.moment.specs.Arrays.{skewAnswer, skewRange, skewNumber, skewMe
 ghost use Rattle.moment.specs.Arrays.{kurtosisAnswer, kurtosisRange, kurtosisNumber, kurtosisMembers};
 ghost use Rattle.trace.specs.Slices.{entering, leaving};
 ghost use Rattle.trace.specs.Trace.{tracing};
-ghost use Rattle.rolling.specs.Moments.{Variance, Skewness, Kurtosis};
+ghost use Rattle.window.specs.Pairs.{pairing};
+ghost use Rattle.rolling.specs.Moments.{Variance, Skewness, Kurtosis, Covariance, Correlation};
 ghost use Rattle.rolling.specs.Calls.{querying, lending};
 ghost use Rattle.rolling.specs.Fixed.{CallsFixed};
 ghost use Rattle.weighted.specs.Weights.{CallsWeights, lendingColumn};
-ghost use Rattle.moments.specs.HostCall.{hosting, decoding, CallsBytes};
+ghost use Rattle.moments.specs.HostCall.{hosting, decoding, hostingPair, decodingPair, CallsBytes};
 ghost use Rattle.moments.specs.Results.{StateResult, FigureResult};
 use moment::CovAnswer;
 use moment::CovState;
@@ -31,7 +32,9 @@ use moment::SkewAnswer;
 use moment::SkewState;
 use moment::VarAnswer;
 use moment::VarState;
+use rolling::CovMoment;
 use rolling::KurtosisMoment;
+use rolling::PearsonMoment;
 use rolling::SkewMoment;
 use rolling::VarianceMoment;
 
@@ -186,6 +189,127 @@ pub extern "C" fn moments_plan_kurtosis(
     )
 }
 
+// Two traces as bytes, each decoded into its own list; the numbers go by their order, not trace by trace.
+#[no_mangle]
+pub extern "C" fn moments_plan_cov(
+    x: &[u8],
+    x_readings: &mut [f64],
+    x_has_map: bool,
+    x_map: &[u8],
+    y: &[u8],
+    y_readings: &mut [f64],
+    y_has_map: bool,
+    y_map: &[u8],
+    starts: &[u32],
+    ends: &[u32],
+    min_periods: usize,
+    ddof: u8,
+    work: &mut [f64],
+    figures: &mut [f64],
+    present: &mut [u8],
+) -> u32
+    ensures { λ r. ⌜ CallsBytes (querying starts ends «min_periods» (Covariance ddof)) (hostingPair x «x_has_map» «x_map» y «y_has_map» «y_map»)
+        (decodingPair «x_readings» «y_readings») (lending work figures present) r ⌝ }
+{
+    if x.len() % 8 != 0 {
+        return 14;
+    }
+    if y.len() % 8 != 0 {
+        return 14;
+    }
+    let n = x.len() / 8;
+    let m = y.len() / 8;
+    let checked = plan::plan_refusal(
+        trace::pair_refusal(n, x_has_map, x_map, m, y_has_map, y_map),
+        starts,
+        ends,
+        n,
+        trace::either(x_readings.len() < n, y_readings.len() < m),
+        plan::shorter(figures.len(), present.len()),
+        CovMoment::PLACE,
+        work.len(),
+    );
+    if checked.number != 0 {
+        return checked.number;
+    }
+    float::decode(x, x_readings);
+    float::decode(y, y_readings);
+    rolling::plan_cov(
+        &x_readings[..n],
+        x_has_map,
+        x_map,
+        &y_readings[..m],
+        y_has_map,
+        y_map,
+        starts,
+        ends,
+        min_periods,
+        ddof,
+        work,
+        figures,
+        present,
+    )
+}
+
+#[no_mangle]
+pub extern "C" fn moments_plan_pearson_corr(
+    x: &[u8],
+    x_readings: &mut [f64],
+    x_has_map: bool,
+    x_map: &[u8],
+    y: &[u8],
+    y_readings: &mut [f64],
+    y_has_map: bool,
+    y_map: &[u8],
+    starts: &[u32],
+    ends: &[u32],
+    min_periods: usize,
+    work: &mut [f64],
+    figures: &mut [f64],
+    present: &mut [u8],
+) -> u32
+    ensures { λ r. ⌜ CallsBytes (querying starts ends «min_periods» Correlation) (hostingPair x «x_has_map» «x_map» y «y_has_map» «y_map»)
+        (decodingPair «x_readings» «y_readings») (lending work figures present) r ⌝ }
+{
+    if x.len() % 8 != 0 {
+        return 14;
+    }
+    if y.len() % 8 != 0 {
+        return 14;
+    }
+    let n = x.len() / 8;
+    let m = y.len() / 8;
+    let checked = plan::plan_refusal(
+        trace::pair_refusal(n, x_has_map, x_map, m, y_has_map, y_map),
+        starts,
+        ends,
+        n,
+        trace::either(x_readings.len() < n, y_readings.len() < m),
+        plan::shorter(figures.len(), present.len()),
+        PearsonMoment::PLACE,
+        work.len(),
+    );
+    if checked.number != 0 {
+        return checked.number;
+    }
+    float::decode(x, x_readings);
+    float::decode(y, y_readings);
+    rolling::plan_pearson_corr(
+        &x_readings[..n],
+        x_has_map,
+        x_map,
+        &y_readings[..m],
+        y_has_map,
+        y_map,
+        starts,
+        ends,
+        min_periods,
+        work,
+        figures,
+        present,
+    )
+}
+
 // Fixed windows and weights: the trace as doubles; 0, or the number of the first refusal and every list as it was.
 #[no_mangle]
 pub extern "C" fn moments_rolling_var(
@@ -273,6 +397,76 @@ pub extern "C" fn moments_rolling_kurtosis(
         center,
         fisher,
         bias,
+        work,
+        figures,
+        present,
+    )
+}
+
+#[no_mangle]
+pub extern "C" fn moments_rolling_cov(
+    x: &[f64],
+    x_has_map: bool,
+    x_map: &[u8],
+    y: &[f64],
+    y_has_map: bool,
+    y_map: &[u8],
+    window_size: usize,
+    min_periods: usize,
+    center: bool,
+    ddof: u8,
+    work: &mut [f64],
+    figures: &mut [f64],
+    present: &mut [u8],
+) -> u32
+    ensures { λ r. ⌜ CallsFixed center «window_size» «min_periods» (Covariance ddof) (pairing x «x_has_map» «x_map» y «y_has_map» «y_map»)
+        (lending work figures present) r ⌝ }
+{
+    rolling::rolling_cov(
+        x,
+        x_has_map,
+        x_map,
+        y,
+        y_has_map,
+        y_map,
+        window_size,
+        min_periods,
+        center,
+        ddof,
+        work,
+        figures,
+        present,
+    )
+}
+
+#[no_mangle]
+pub extern "C" fn moments_rolling_pearson_corr(
+    x: &[f64],
+    x_has_map: bool,
+    x_map: &[u8],
+    y: &[f64],
+    y_has_map: bool,
+    y_map: &[u8],
+    window_size: usize,
+    min_periods: usize,
+    center: bool,
+    work: &mut [f64],
+    figures: &mut [f64],
+    present: &mut [u8],
+) -> u32
+    ensures { λ r. ⌜ CallsFixed center «window_size» «min_periods» Correlation (pairing x «x_has_map» «x_map» y «y_has_map» «y_map»)
+        (lending work figures present) r ⌝ }
+{
+    rolling::rolling_pearson_corr(
+        x,
+        x_has_map,
+        x_map,
+        y,
+        y_has_map,
+        y_map,
+        window_size,
+        min_periods,
+        center,
         work,
         figures,
         present,

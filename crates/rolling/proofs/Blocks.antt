@@ -39,7 +39,7 @@ module _ (bias has : Bool) (map : List ℕ) (values : List Float) (r : Rows) (st
   p = planBy r (length values) starts ends
 
   abbrev Answer : ℕ → Figure
-  Answer k = rowAnswer skewStored (λ z. skewFinalize z bias) has map values r starts ends k
+  Answer k = rowAnswer skewStored (λ z. skewFinalize z bias) (series has map values) (length values) r starts ends k
 
   -- ---- the turns of a block
   module _ (first until : ℕ) (work₀ : List Float) (present₀ : List ℕ) where
@@ -144,7 +144,7 @@ module _ (bias has : Bool) (map : List ℕ) (values : List Float) (r : Rows) (st
       pub work-same : length work ≡ length work₀
       pub figures-same : length figures ≡ length figures₀
       pub present-same : length present ≡ length present₀
-      pub works : Works skewStored (λ z. skewFinalize z bias) has map values r starts ends 0 first work₀ figures₀ present₀ w agg work figures present
+      pub works : Works skewStored (λ z. skewFinalize z bias) (series has map values) (length values) r starts ends 0 first work₀ figures₀ present₀ w agg work figures present
       pub slots : Slots counts corrections m2s m3s factors
       pub roots-long : length roots ≡ 32
 
@@ -157,7 +157,7 @@ module _ (bias has : Bool) (map : List ℕ) (values : List Float) (r : Rows) (st
             figures-same = refl;
             present-same = refl;
             works = record {
-              worked = record { standing = rows-can skewStored has map values r starts ends d g e refl .standing; rest = refl };
+              worked = record { standing = rows-can skewStored (series has map values) (length values) r starts ends d g e refl .standing; rest = refl };
               figures-are = fills-none (λ j. doubleOf (Answer j)) 0 figures₀;
               present-are = fills-none (λ j. byteOf (Answer j)) 0 present₀;
             };

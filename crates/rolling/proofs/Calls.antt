@@ -1,21 +1,20 @@
 -- The ends of a call: a refusal leaves every list as it was, and an accepted call's rows are those of its plan. Assumes nothing.
 use Prim.Native.Nat.{ℕ, _-_, _*_, _≤_}
 use mathlib.Core.Path.{_≡_, refl, sym, ap, _∙_, subst}
-use mathlib.Core.Bool.{Bool, true, false}
+use mathlib.Core.Bool.{Bool, true, false, _||_, true≢false}
 use mathlib.Core.List.{List}
 use borrow.Author.Tests.{ltb-false}
 use lib.Dec.{lit≤}
 use lib.ListN.{length}
-use Rattle.trace.specs.Trace.{Trace}
-use Rattle.trace.specs.Refusals.{traceRefusal}
-use Rattle.trace.proofs.Accepted.{none-of, not-refused}
+use Rattle.trace.specs.Refusals.{pairRefusal, tooMany}
+use Rattle.trace.proofs.Accepted.{none-of, not-refused, pair-fits}
 use Rattle.plan.specs.Plan.{Plan, rows}
 use Rattle.plan.specs.Bounds.{bounds}
 use Rattle.plan.specs.Refusals.{needed, planRefusal, fixedRefusal}
 use Rattle.plan.specs.Code.Accepted.{Accepted}
 use Rattle.plan.specs.Code.Reaching.{rightOf, reaching}
 use Rattle.plan.proofs.FixedWindows.{fixed-refusal, bounds-by}
-use Rattle.window.specs.Given.{Kind, Readings, Given, placesOf, givenRefusal}
+use Rattle.window.specs.Given.{Kind, Readings, Pairs, Given, placesOf, givenRefusal}
 use Rattle.window.specs.Outputs.{Lent, shortestOutput}
 use Rattle.window.proofs.Outputs.{answered-refused, numbered-refused, work-refused}
 use Rattle.rolling.specs.Moments.{Statistic, kindOf, workWidth}
@@ -24,9 +23,18 @@ use Rattle.rolling.specs.Fixed.{fixedQuery, CalledFixed}
 use Rattle.rolling.specs.Code.Rows.{planBy, Driven}
 use Rattle.rolling.specs.declared.row.Rows.{Rows}
 
+pub neither : (a b : Bool) → (a || b) ≡ false → (a ≡ false) × (b ≡ false)
+neither true b e = absurd (true≢false e)
+neither false b e = (refl, e)
+
+-- two traces that are not refused have one length
+pub one-length : (t : Given Pairs) → givenRefusal Pairs t ≡ 0 → length (t .x .readings) ≡ length (t .y .readings)
+one-length t z = pair-fits _ _ _ _ _ _ _ refl z
+
 -- what is given has no more places than a plan may have rows
 pub few-places : (kind : Kind) (t : Given kind) → givenRefusal kind t ≡ 0 → placesOf kind t ≤ 16777216
 few-places Readings t z = ltb-false _ _ (not-refused 1 _ (lit≤ tt) (none-of _ _ z .0))
+few-places Pairs t z = ltb-false _ _ (neither _ _ (not-refused 1 _ (lit≤ tt) (none-of _ _ (none-of _ _ z .0) .0)) .0)
 
 pub refused-left : (q : Query) (t : GivenTo q) (l : Lent) (number : ℕ) → Fits q t (l .outputs) → (number ≡ 0 → ⊥) → Left q t l l number
 refused-left q t l number f h =
@@ -37,16 +45,16 @@ refused-left q t l number f h =
     }
 
 -- an accepted call drives its rows
-pub driven : (r : Rows) (t : Trace) (starts ends : List ℕ) {given outputs outputs′ width work : ℕ} → given ≡ traceRefusal t → outputs ≡ outputs′
-    → Accepted given (planBy r (length (t .readings)) starts ends) (length (t .readings)) false outputs width work (r .widest)
-    → Driven r (length (t .readings)) starts ends outputs′ width work
-driven r t starts ends g o a =
+pub driven : (r : Rows) (kind : Kind) (t : Given kind) (starts ends : List ℕ) {given outputs outputs′ width work : ℕ} → given ≡ givenRefusal kind t → outputs ≡ outputs′
+    → Accepted given (planBy r (placesOf kind t) starts ends) (placesOf kind t) false outputs width work (r .widest)
+    → Driven r (placesOf kind t) starts ends outputs′ width work
+driven r kind t starts ends g o a =
     record {
       plan = a .plan;
       wide-is = a .wide-is;
-      outputs-fit = subst (λ (k : ℕ). rows (planBy r (length (t .readings)) starts ends) ≤ k) o (a .outputs-fit);
+      outputs-fit = subst (λ (k : ℕ). rows (planBy r (placesOf kind t) starts ends) ≤ k) o (a .outputs-fit);
       work-fits = a .work-fits;
-      few = few-places Readings t (sym g ∙ a .given-is);
+      few = few-places kind t (sym g ∙ a .given-is);
     }
 
 -- ---- a plan call, whose check is put together of its own numbers

@@ -27,3 +27,11 @@ puts5 l i a b c d f =
     let e : i + 3 ≡ suc (i + 2) = omega arith in
     let g : i + 4 ≡ suc (suc (i + 2)) = omega arith in
     rw (e, g, add-one, add-two)
+
+pub puts6 : (l : List Float) (i : ℕ) (a b c d f g : Float) →
+    set (set (set (set (set (set l i a) (i + 1) b) (i + 2) c) (i + 3) d) (i + 4) f) (i + 5) g ≡ sets l i (a ∷ b ∷ c ∷ d ∷ f ∷ g ∷ [])
+puts6 l i a b c d f g =
+    let e : i + 3 ≡ suc (i + 2) = omega arith in
+    let h : i + 4 ≡ suc (suc (i + 2)) = omega arith in
+    let k : i + 5 ≡ suc (suc (suc (i + 2))) = omega arith in
+    rw (e, h, k, add-one, add-two)

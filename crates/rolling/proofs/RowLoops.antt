@@ -1,4 +1,4 @@
--- The loops over rows, for any moment of readings: a row's bounds, its step and its answer go from row to row, and from the first row to
+-- The loops over rows, for any moment and any kind of entry: a row's bounds, its step and its answer go from row to row, and from the first row to
 -- the last they leave what a call leaves. Assumes nothing.
 use Prim.Native.Nat.{ℕ, _+_, _-_, _*_, _^_, _≤_, _<_, min}
 use mathlib.Core.Path.{_≡_, refl, sym, ap, _∙_, subst}
@@ -14,7 +14,6 @@ use Rattle.plan.specs.Plan.{Plan, rows, rowStart, rowEnd}
 use Rattle.plan.specs.Refusals.{needed}
 use Rattle.plan.proofs.FixedWindows.{rows-are, start-is, end-is}
 use Rattle.window.specs.Places.{Series}
-use Rattle.window.specs.Readings.{series}
 use Rattle.window.specs.Outputs.{filled, kept}
 use Rattle.window.specs.Code.Memory.{Stored}
 use Rattle.window.specs.Code.Stacks.{emptyAt, answerBy, Movable, Stepped, placeWidth}
@@ -23,7 +22,7 @@ use Rattle.window.specs.declared.Window.{Window}
 use Rattle.window.proofs.Rows.{stand-start}
 use Rattle.window.proofs.Steps.{Working, work-starts, work-done, work-listed, work-movable, work-fits, work-next, work-answer}
 use Rattle.window.proofs.Outputs.{fills-none, fills-next, fills-all}
-use Rattle.rolling.specs.Code.Rows.{planBy, RowIn, RowBounds, Driven, rowAnswer, CanWork, HasWorked, Works}
+use Rattle.rolling.specs.Code.Rows.{bothHave, planBy, RowIn, RowBounds, Driven, rowAnswer, CanWork, HasWorked, Works}
 use Rattle.rolling.specs.declared.row.Rows.{Rows}
 
 -- as many rows as `how_many` answers
@@ -53,27 +52,24 @@ module _ (r : Rows) (n : ℕ) (starts ends : List ℕ) (k : ℕ) (i : RowIn r n 
       (h, omega arith)
 
 -- ---- the turns of a block
-module _ (M : Stored Float Float) (final : M .moment .State → Figure) (has : Bool) (map : List ℕ) (values : List Float) (r : Rows) (starts ends : List ℕ)
+module _ {A : Type 0} (M : Stored Float A) (final : M .moment .State → Figure) (t : Series A) (n : ℕ) (r : Rows) (starts ends : List ℕ)
     (first until : ℕ) (work₀ figures₀ : List Float) (present₀ : List ℕ) where
-  abbrev t : Series Float
-  t = series has map values
-
   abbrev p : Plan
-  p = planBy r (length values) starts ends
+  p = planBy r n starts ends
 
   abbrev Answer : ℕ → Figure
-  Answer k = rowAnswer M final has map values r starts ends k
+  Answer k = rowAnswer M final t n r starts ends k
 
   -- where the rows from `first` up to row k are worked and their answers written
   pub record Turn (w : Window) (agg : M .moment .State) (work figures : List Float) (present : List ℕ) (k : ℕ) : Type 0 where
-    pub working : Working M t (r .«min_periods») (length values) (r .widest) p first until work₀ w agg work k
+    pub working : Working M t (r .«min_periods») n (r .widest) p first until work₀ w agg work k
     pub figures-same : length figures ≡ length figures₀
     pub present-same : length present ≡ length present₀
     pub figures-are : Fills (λ j. doubleOf (Answer j)) first k figures₀ figures
     pub present-are : Fills (λ j. byteOf (Answer j)) first k present₀ present
 
   module _ {w₀ : Window} {agg₀ : M .moment .State}
-      (can : CanWork M has map values r starts ends (min (length figures₀) (length present₀)) first until w₀ agg₀ work₀) where
+      (can : CanWork M t n r starts ends (min (length figures₀) (length present₀)) first until w₀ agg₀ work₀) where
     pub turn-starts : Turn w₀ agg₀ work₀ figures₀ present₀ first
     turn-starts =
         record {
@@ -85,7 +81,7 @@ module _ (M : Stored Float Float) (final : M .moment .State → Figure) (has : B
         }
 
     module _ {w : Window} {agg : M .moment .State} {work figures : List Float} {present : List ℕ} {k : ℕ} (v : Turn w agg work figures present k) where
-      pub turn-done : until ≤ k → Works M final has map values r starts ends first until work₀ figures₀ present₀ w agg work figures present
+      pub turn-done : until ≤ k → Works M final t n r starts ends first until work₀ figures₀ present₀ w agg work figures present
       turn-done h =
           let u = v .working .high in
           let e : k ≡ until = omega arith in
@@ -96,7 +92,7 @@ module _ (M : Stored Float Float) (final : M .moment .State → Figure) (has : B
           }
 
       module _ (more : k < until) where
-        pub turn-row : RowIn r (length values) starts ends k
+        pub turn-row : RowIn r n starts ends k
         turn-row = record { same = can .plan .same; listed = work-listed M t can (v .working) more }
 
         pub turn-there : RowThere k (length figures) (length present)
@@ -108,7 +104,7 @@ module _ (M : Stored Float Float) (final : M .moment .State → Figure) (has : B
             record { in-figures = omega arith; in-present = omega arith }
 
         module _ {s e : ℕ} (b : RowBounds p k s e) where
-          pub turn-movable : Movable M t s e (length values) (r .widest) w agg work
+          pub turn-movable : Movable M t s e n (r .widest) w agg work
           turn-movable = work-movable M t can (v .working) more (b .start-is) (b .end-is)
 
           module _ {w' : Window} {agg' : M .moment .State} {work' : List Float}
@@ -116,7 +112,7 @@ module _ (M : Stored Float Float) (final : M .moment .State → Figure) (has : B
             pub turn-fits : (M .inFront .width * w' .front ≤ length work') × (w' .front + w' .back ≤ 2 ^ 53) × (s ≤ e)
             turn-fits = work-fits M t can (v .working) more (b .start-is) (b .end-is) q same
 
-            pub turn-next : {f : Figure} {figures' : List Float} {present' : List ℕ} → f ≡ answerBy M final has (r .«min_periods») s e w' agg' work'
+            pub turn-next : {f : Figure} {figures' : List Float} {present' : List ℕ} → f ≡ answerBy M final (t .places .mapped) (r .«min_periods») s e w' agg' work'
                 → RowSet k f figures figures' present present' → Turn w' agg' work' figures' present' (k + 1)
             turn-next {f} {figures'} {present'} g o =
                 let a = work-answer M t can (v .working) more (b .start-is) (b .end-is) q same final g in
@@ -130,31 +126,39 @@ module _ (M : Stored Float Float) (final : M .moment .State → Figure) (has : B
                   present-are = fills-next (λ j. byteOf (Answer j)) first k present₀ present present' (byteOf f) (v .present-are) (ap byteOf a) (o .present-are);
                 }
 
+-- two lists of readings of one length have as many places as one of them
+pub within-both : {A : Type 0} (M : Stored Float A) (t : Series A) (xs ys : List Float) → length xs ≡ length ys
+    → {s e widest : ℕ} {w : Window} {agg : M .moment .State} {work : List Float}
+    → Movable M t s e (length xs) widest w agg work → Movable M t s e (bothHave xs ys) widest w agg work
+within-both M t xs ys same {s} {e} {widest} {w} {agg} {work} m =
+    let h : length xs ≡ bothHave xs ys = omega arith in
+    subst (λ (n : ℕ). Movable M t s e n widest w agg work) h m
+
 -- ---- all rows
-module _ (M : Stored Float Float) (has : Bool) (map : List ℕ) (values : List Float) (r : Rows) (starts ends : List ℕ) {outputs : ℕ} {work₀ : List Float}
-    (d : Driven r (length values) starts ends outputs (placeWidth M) (length work₀)) where
-  pub rows-can : {w : Window} {agg : M .moment .State} → w ≡ emptyAt 0 → agg ≡ M .moment .empty → {until : ℕ} → until ≡ rows (planBy r (length values) starts ends) →
-      CanWork M has map values r starts ends outputs 0 until w agg work₀
+module _ {A : Type 0} (M : Stored Float A) (t : Series A) (n : ℕ) (r : Rows) (starts ends : List ℕ) {outputs : ℕ} {work₀ : List Float}
+    (d : Driven r n starts ends outputs (placeWidth M) (length work₀)) where
+  pub rows-can : {w : Window} {agg : M .moment .State} → w ≡ emptyAt 0 → agg ≡ M .moment .empty → {until : ℕ} → until ≡ rows (planBy r n starts ends) →
+      CanWork M t n r starts ends outputs 0 until w agg work₀
   rows-can {w} {agg} g e {until} u =
       let z = d .few in
-      let s = stand-start M (series has map values) (r .«min_periods») (length values) (r .widest) (planBy r (length values) starts ends) agg e work₀ in
+      let s = stand-start M t (r .«min_periods») n (r .widest) (planBy r n starts ends) agg e work₀ in
       rw (g, u) (record { plan = d .plan; standing = s; rises = omega arith; listed = le-refl _; outputs-fit = d .outputs-fit; room = d .work-fits; few = omega arith })
 
-  pub rows-kept : {w : Window} {agg : M .moment .State} {work : List Float} {until : ℕ} → HasWorked M has map values r starts ends until work₀ w agg work
-      → kept 0 (needed (placeWidth M) (planBy r (length values) starts ends)) work₀ work
+  pub rows-kept : {w : Window} {agg : M .moment .State} {work : List Float} {until : ℕ} → HasWorked M t n r starts ends until work₀ w agg work
+      → kept 0 (needed (placeWidth M) (planBy r n starts ends)) work₀ work
   unfolding kept
   rows-kept v = rw (← d .wide-is) (v .rest)
 
-  module _ (final : M .moment .State → Figure) {until : ℕ} (u : until ≡ rows (planBy r (length values) starts ends)) {figures₀ figures : List Float} {present₀ present : List ℕ} {w : Window} {agg : M .moment .State} {work : List Float}
-      (v : Works M final has map values r starts ends 0 until work₀ figures₀ present₀ w agg work figures present) where
-    pub rows-figures : outputs ≤ length figures₀ → figures ≡ filled 0 (λ k. doubleOf (rowAnswer M final has map values r starts ends k)) (rows (planBy r (length values) starts ends)) figures₀
+  module _ (final : M .moment .State → Figure) {until : ℕ} (u : until ≡ rows (planBy r n starts ends)) {figures₀ figures : List Float} {present₀ present : List ℕ} {w : Window} {agg : M .moment .State} {work : List Float}
+      (v : Works M final t n r starts ends 0 until work₀ figures₀ present₀ w agg work figures present) where
+    pub rows-figures : outputs ≤ length figures₀ → figures ≡ filled 0 (λ k. doubleOf (rowAnswer M final t n r starts ends k)) (rows (planBy r n starts ends)) figures₀
     rows-figures h =
         let o = d .outputs-fit in
-        fills-all (λ k. doubleOf (rowAnswer M final has map values r starts ends k)) (rows (planBy r (length values) starts ends)) figures₀ figures (omega arith)
-        (subst (λ (j : ℕ). Fills (λ k. doubleOf (rowAnswer M final has map values r starts ends k)) 0 j figures₀ figures) u (v .figures-are))
+        fills-all (λ k. doubleOf (rowAnswer M final t n r starts ends k)) (rows (planBy r n starts ends)) figures₀ figures (omega arith)
+        (subst (λ (j : ℕ). Fills (λ k. doubleOf (rowAnswer M final t n r starts ends k)) 0 j figures₀ figures) u (v .figures-are))
 
-    pub rows-present : outputs ≤ length present₀ → present ≡ filled 0 (λ k. byteOf (rowAnswer M final has map values r starts ends k)) (rows (planBy r (length values) starts ends)) present₀
+    pub rows-present : outputs ≤ length present₀ → present ≡ filled 0 (λ k. byteOf (rowAnswer M final t n r starts ends k)) (rows (planBy r n starts ends)) present₀
     rows-present h =
         let o = d .outputs-fit in
-        fills-all (λ k. byteOf (rowAnswer M final has map values r starts ends k)) (rows (planBy r (length values) starts ends)) present₀ present (omega arith)
-        (subst (λ (j : ℕ). Fills (λ k. byteOf (rowAnswer M final has map values r starts ends k)) 0 j present₀ present) u (v .present-are))
+        fills-all (λ k. byteOf (rowAnswer M final t n r starts ends k)) (rows (planBy r n starts ends)) present₀ present (omega arith)
+        (subst (λ (j : ℕ). Fills (λ k. byteOf (rowAnswer M final t n r starts ends k)) 0 j present₀ present) u (v .present-are))

@@ -1,4 +1,4 @@
--- What only the code needs of the three moments: its contracts cite it, and no promise rests on it.
+-- What only the code needs of the moments: its contracts cite it, and no promise rests on it.
 pub mod Layouts
 pub mod Weighed
 pub mod Rows

@@ -305,11 +305,11 @@ impl KurtosisMoment {
         first: usize,
         until: usize,
     ) -> KurtosisWindow
-        requires { ⌜ CanWork kurtosisStored «has_map» (now map) (now values) rows (now starts) (now ends)
+        requires { ⌜ CanWork kurtosisStored (series «has_map» (now map) (now values)) (length (now values)) rows (now starts) (now ends)
             (min (length (now figures)) (length (now present))) first until (opening .window) (opening .«agg_back») (now work) ⌝ }
-        ensures { λ q. ⌜ Works kurtosisStored (λ z. kurtosisFinalize z (self .fisher) (self .bias)) «has_map» (entering map)
-            (entering values) rows (entering starts) (entering ends) first until (entering work) (entering figures) (entering present)
-            (q .window) (q .«agg_back») (leaving work) (leaving figures) (leaving present) ⌝ }
+        ensures { λ q. ⌜ Works kurtosisStored (λ z. kurtosisFinalize z (self .fisher) (self .bias)) (seriesIn «has_map» map values)
+            (length (entering values)) rows (entering starts) (entering ends) first until (entering work) (entering figures)
+            (entering present) (q .window) (q .«agg_back») (leaving work) (leaving figures) (leaving present) ⌝ }
     {
         let mut w = opening;
         let mut row = first;

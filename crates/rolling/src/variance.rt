@@ -315,10 +315,10 @@ impl VarianceMoment {
         first: usize,
         until: usize,
     ) -> VarWindow
-        requires { ⌜ CanWork varStored «has_map» (now map) (now values) rows (now starts) (now ends)
+        requires { ⌜ CanWork varStored (series «has_map» (now map) (now values)) (length (now values)) rows (now starts) (now ends)
             (min (length (now figures)) (length (now present))) first until (opening .window) (opening .«agg_back») (now work) ⌝ }
-        ensures { λ q. ⌜ Works varStored (λ z. varFinalize z (self .ddof)) «has_map» (entering map) (entering values) rows
-            (entering starts) (entering ends) first until (entering work) (entering figures) (entering present)
+        ensures { λ q. ⌜ Works varStored (λ z. varFinalize z (self .ddof)) (seriesIn «has_map» map values) (length (entering values))
+            rows (entering starts) (entering ends) first until (entering work) (entering figures) (entering present)
             (q .window) (q .«agg_back») (leaving work) (leaving figures) (leaving present) ⌝ }
     {
         let mut w = opening;

@@ -1,4 +1,4 @@
--- How the states of the three moments lie on the front stack: their members in the source's order. Assumes nothing.
+-- How the states of the moments lie on the front stack: their members in the source's order. Assumes nothing.
 use mathlib.Core.Path.{refl}
 use mathlib.Core.List.{[], _∷_}
 use lib.ListN.{getD}
@@ -6,8 +6,10 @@ use lib.Ieee.{Float, nan}
 use Rattle.moment.specs.declared.var_state.VarState.{VarState}
 use Rattle.moment.specs.declared.skew_state.SkewState.{SkewState}
 use Rattle.moment.specs.declared.kurtosis_state.KurtosisState.{KurtosisState}
-use Rattle.window.specs.Code.Memory.{Layout, Stored, ReadingStates, ofReadings}
-use Rattle.rolling.specs.Moments.{variance, skewness, kurtosis}
+use Rattle.moment.specs.declared.cov_state.CovState.{CovState}
+use Rattle.moment.specs.declared.pearson_state.PearsonState.{PearsonState}
+use Rattle.window.specs.Code.Memory.{Layout, Stored, ReadingStates, ofReadings, PairStates, ofPairs}
+use Rattle.rolling.specs.Moments.{variance, skewness, kurtosis, covariance, correlation}
 
 abbrev pub varLayout : Layout Float VarState
 varLayout =
@@ -39,6 +41,34 @@ kurtosisLayout =
       loaded = λ s rest. refl;
     }
 
+abbrev pub covLayout : Layout Float CovState
+covLayout =
+    record {
+      width = 4;
+      store = λ s. s .weight ∷ s .«mean_x» ∷ s .«mean_y» ∷ s .«dp_xy» ∷ [];
+      load = λ l. record { weight = getD l 0 nan; «mean_x» = getD l 1 nan; «mean_y» = getD l 2 nan; «dp_xy» = getD l 3 nan };
+      stored = λ s. refl;
+      loaded = λ s rest. refl;
+    }
+
+abbrev pub pearsonLayout : Layout Float PearsonState
+pearsonLayout =
+    record {
+      width = 6;
+      store = λ s. s .weight ∷ s .«mean_x» ∷ s .«mean_y» ∷ s .«dp_xx» ∷ s .«dp_xy» ∷ s .«dp_yy» ∷ [];
+      load = λ l.
+          record {
+            weight = getD l 0 nan;
+            «mean_x» = getD l 1 nan;
+            «mean_y» = getD l 2 nan;
+            «dp_xx» = getD l 3 nan;
+            «dp_xy» = getD l 4 nan;
+            «dp_yy» = getD l 5 nan;
+          };
+      stored = λ s. refl;
+      loaded = λ s rest. refl;
+    }
+
 abbrev pub varStates : ReadingStates
 varStates = record { moment = variance; inFront = varLayout }
 
@@ -57,3 +87,16 @@ skewStored = ofReadings skewStates
 
 abbrev pub kurtosisStored : Stored Float Float
 kurtosisStored = ofReadings kurtosisStates
+
+abbrev pub covStates : PairStates
+covStates = record { moment = covariance; inFront = covLayout }
+
+abbrev pub pearsonStates : PairStates
+pearsonStates = record { moment = correlation; inFront = pearsonLayout }
+
+-- each with pairs on the back stack
+abbrev pub covStored : Stored Float (Float × Float)
+covStored = ofPairs covStates
+
+abbrev pub pearsonStored : Stored Float (Float × Float)
+pearsonStored = ofPairs pearsonStates

@@ -1,5 +1,5 @@
--- What the row loops of the three moments say of a call's rows: where they may begin, and what they leave. Assumes nothing.
-use Prim.Native.Nat.{ℕ, _+_, _*_, _^_, _≤_, _<_}
+-- What the row loops of every moment say of a call's rows: where they may begin, and what they leave. Assumes nothing.
+use Prim.Native.Nat.{ℕ, _+_, _*_, _^_, _≤_, _<_, min}
 use mathlib.Core.Path.{_≡_}
 use mathlib.Core.Bool.{Bool}
 use mathlib.Core.List.{List}
@@ -14,6 +14,7 @@ use Rattle.plan.specs.Code.Accepted.{Planned}
 use Rattle.plan.specs.Code.Reaching.{rowsOf}
 use Rattle.window.specs.Places.{Places, Series, nonfiniteCount}
 use Rattle.window.specs.Readings.{placesBy, series}
+use Rattle.window.specs.Pairs.{pairPlaces, pairSeries}
 use Rattle.window.specs.Rows.{answerAt}
 use Rattle.window.specs.Code.Memory.{Stored}
 use Rattle.window.specs.Outputs.{Lent}
@@ -30,6 +31,17 @@ seriesIn has map values = series has (entering map) (entering values)
 
 abbrev pub placesIn : Bool → Slice ℕ → Slice Float → Places
 placesIn has map values = placesBy has (entering map) (entering values)
+
+-- the same, of two traces
+abbrev pub pairSeriesIn : Bool → Slice ℕ → Slice Float → Bool → Slice ℕ → Slice Float → Series (Float × Float)
+pairSeriesIn has map xs has' map' ys = pairSeries has (entering map) (entering xs) has' (entering map') (entering ys)
+
+abbrev pub pairPlacesIn : Bool → Slice ℕ → Slice Float → Bool → Slice ℕ → Slice Float → Places
+pairPlacesIn has map xs has' map' ys = pairPlaces has (entering map) (entering xs) has' (entering map') (entering ys)
+
+-- how many places two lists of readings both have
+abbrev pub bothHave : List Float → List Float → ℕ
+bothHave xs ys = min (length xs) (length ys)
 
 -- a range of n places
 pub record Range (a b n : ℕ) : Type 0 where
@@ -90,27 +102,26 @@ pub record Driven (r : Rows) (n : ℕ) (starts ends : List ℕ) (outputs width w
   pub work-fits : width * r .widest ≤ work
   pub few : n ≤ 16777216
 
--- row k's answer
-abbrev pub rowAnswer : (M : Stored Float Float) → (M .moment .State → Figure) → Bool → List ℕ → List Float → Rows → List ℕ → List ℕ → ℕ → Figure
-rowAnswer M final has map values r starts ends k =
-    answerAt (M .moment) final (series has map values) (r .«min_periods») (planBy r (length values) starts ends) k
+-- row k's answer, over n places
+abbrev pub rowAnswer : {A : Type 0} → (M : Stored Float A) → (M .moment .State → Figure) → Series A → ℕ → Rows → List ℕ → List ℕ → ℕ → Figure
+rowAnswer M final t n r starts ends k = answerAt (M .moment) final t (r .«min_periods») (planBy r n starts ends) k
 
 -- where the rows from `first` up to `until` may be worked
-abbrev pub CanWork : (M : Stored Float Float) → Bool → List ℕ → List Float → Rows → List ℕ → List ℕ → ℕ → ℕ → ℕ
+abbrev pub CanWork : {A : Type 0} → (M : Stored Float A) → Series A → ℕ → Rows → List ℕ → List ℕ → ℕ → ℕ → ℕ
     → Window → M .moment .State → List Float → Type 0
-CanWork M has map values r starts ends outputs first until w agg work =
-    Workable M (series has map values) (r .«min_periods») (length values) (r .widest) (planBy r (length values) starts ends) outputs first until w agg work
+CanWork M t n r starts ends outputs first until w agg work =
+    Workable M t (r .«min_periods») n (r .widest) (planBy r n starts ends) outputs first until w agg work
 
 -- the window after them
-abbrev pub HasWorked : (M : Stored Float Float) → Bool → List ℕ → List Float → Rows → List ℕ → List ℕ → ℕ
+abbrev pub HasWorked : {A : Type 0} → (M : Stored Float A) → Series A → ℕ → Rows → List ℕ → List ℕ → ℕ
     → List Float → Window → M .moment .State → List Float → Type 0
-HasWorked M has map values r starts ends until work₀ w agg work =
-    Worked M (series has map values) (r .«min_periods») (length values) (r .widest) (planBy r (length values) starts ends) until work₀ w agg work
+HasWorked M t n r starts ends until work₀ w agg work =
+    Worked M t (r .«min_periods») n (r .widest) (planBy r n starts ends) until work₀ w agg work
 
 -- the rows from `first` up to `until` worked, and their answers written
-pub record Works (M : Stored Float Float) (final : M .moment .State → Figure) (has : Bool) (map : List ℕ) (values : List Float) (r : Rows)
+pub record Works {A : Type 0} (M : Stored Float A) (final : M .moment .State → Figure) (t : Series A) (n : ℕ) (r : Rows)
     (starts ends : List ℕ) (first until : ℕ) (work₀ figures₀ : List Float) (present₀ : List ℕ)
     (w : Window) (agg : M .moment .State) (work figures : List Float) (present : List ℕ) : Type 0 where
-  pub worked : HasWorked M has map values r starts ends until work₀ w agg work
-  pub figures-are : Fills (λ k. doubleOf (rowAnswer M final has map values r starts ends k)) first until figures₀ figures
-  pub present-are : Fills (λ k. byteOf (rowAnswer M final has map values r starts ends k)) first until present₀ present
+  pub worked : HasWorked M t n r starts ends until work₀ w agg work
+  pub figures-are : Fills (λ k. doubleOf (rowAnswer M final t n r starts ends k)) first until figures₀ figures
+  pub present-are : Fills (λ k. byteOf (rowAnswer M final t n r starts ends k)) first until present₀ present

@@ -29,10 +29,26 @@ pub record Stored (C A : Type 0) : Type 1 where
 abbrev pub reading : Layout Float Float
 reading = record { width = 1; store = λ x. x ∷ []; load = λ l. getD l 0 nan; stored = λ x. refl; loaded = λ x rest. refl }
 
--- a moment of single readings, with how its states lie on the front stack
-pub record ReadingStates : Type 1 where
-  pub moment : Moment Float
+-- two doubles are one pair
+abbrev pub pair : Layout Float (Float × Float)
+pair =
+    record { width = 2; store = λ p. p .0 ∷ p .1 ∷ []; load = λ l. (getD l 0 nan, getD l 1 nan); stored = λ p. refl; loaded = λ p rest. refl }
+
+-- a moment with how its states lie on the front stack
+pub record States (A : Type 0) : Type 1 where
+  pub moment : Moment A
   pub inFront : Layout Float (moment .State)
+
+-- of single readings
+abbrev pub ReadingStates : Type 1
+ReadingStates = States Float
 
 abbrev pub ofReadings : ReadingStates → Stored Float Float
 ofReadings m = record { moment = m .moment; inBack = reading; inFront = m .inFront }
+
+-- of pairs of readings
+abbrev pub PairStates : Type 1
+PairStates = States (Float × Float)
+
+abbrev pub ofPairs : PairStates → Stored Float (Float × Float)
+ofPairs m = record { moment = m .moment; inBack = pair; inFront = m .inFront }

@@ -2,6 +2,7 @@
 use mathlib.Core.Path.{refl}
 use borrow.Author.Needs.{needs}
 use Rattle.trace.specs.Trace.{traceOf}
+use Rattle.window.specs.Given.{Readings}
 use Rattle.rolling.proofs.Calls.{driven, plan-refused, plan-called}
 use Rattle.rolling.proofs.variance.plan_var.Statement.{statement}
 use Rattle.rolling.proofs.variance.plan_var.Tie as tie
@@ -25,7 +26,7 @@ rows-requires : tie.Need-rows-requires
 rows-requires c κs =
     let k = c .before .before .before .before .before in
     let g = k .before .before .before .before .before .before .before .before .before .before .args in
-    driven _ (traceOf (g .values .now) (g .has-map) (g .map .now)) _ _ (k .before .before .array-refusal .ensures) (k .before .shorter .ensures)
+    driven _ Readings (traceOf (g .values .now) (g .has-map) (g .map .now)) _ _ (k .before .before .array-refusal .ensures) (k .before .shorter .ensures)
     (k .plan-refusal .ensures .accepted (c .before .before .before .if1 .left))
 
 same-length : tie.Need-same-length

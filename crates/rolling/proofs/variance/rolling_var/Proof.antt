@@ -3,6 +3,7 @@ use mathlib.Core.Path.{refl}
 use borrow.Author.Needs.{needs}
 use Rattle.trace.specs.Trace.{traceOf}
 use Rattle.plan.proofs.FixedWindows.{reach-accepted}
+use Rattle.window.specs.Given.{Readings}
 use Rattle.rolling.proofs.Calls.{driven, fixed-refused, fixed-called}
 use Rattle.rolling.proofs.variance.rolling_var.Statement.{statement}
 use Rattle.rolling.proofs.variance.rolling_var.Tie as tie
@@ -38,7 +39,7 @@ rows-requires : tie.Need-rows-requires
 rows-requires c κs =
     let k = c .before .before .before .before .before .before .before .before in
     let g = k .before .before .before .before .before .before .before .before .args in
-    driven _ (traceOf (g .values .now) (g .has-map) (g .map .now)) _ _ (k .before .before .array-refusal .ensures) (k .before .shorter .ensures)
+    driven _ Readings (traceOf (g .values .now) (g .has-map) (g .map .now)) _ _ (k .before .before .array-refusal .ensures) (k .before .shorter .ensures)
     (reach-accepted _ _ _ _ (c .before .before .before .before .before .right-window .ensures .0) (k .fixed-refusal .ensures .accepted (c .before .before .before .before .before .before .if1 .left) _))
 
 same-length : tie.Need-same-length

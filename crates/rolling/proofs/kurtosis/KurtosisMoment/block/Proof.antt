@@ -2,7 +2,9 @@
 use Prim.Native.Nat.{_-_}
 use native.Mathlib.Omega.{arith}
 use borrow.Author.Needs.{needs}
+use lib.ListN.{length}
 use Rattle.moment.specs.Kurtosis.{kurtosisFinalize}
+use Rattle.window.specs.Readings.{series}
 use Rattle.rolling.proofs.RowLoops.{Turn, turn-starts, turn-row, turn-there, turn-movable, turn-fits, turn-next, turn-done}
 use Rattle.rolling.specs.Code.Layouts.{kurtosisStored}
 use Rattle.rolling.proofs.kurtosis.KurtosisMoment.block.Statement.{statement}
@@ -10,7 +12,7 @@ use Rattle.rolling.proofs.kurtosis.KurtosisMoment.block.Tie as tie
 
 abbrev Inv-loop : tie.InvT-loop
 Inv-loop self rows values has-map map starts ends work₀ figures₀ present₀ first until w₀ row₀ work figures present w row =
-    Turn kurtosisStored (λ z. kurtosisFinalize z (self .fisher) (self .bias)) has-map map values rows starts ends first until work₀ figures₀ present₀ (w .window) (w .«agg_back») work figures present row
+    Turn kurtosisStored (λ z. kurtosisFinalize z (self .fisher) (self .bias)) (series has-map map values) (length values) rows starts ends first until work₀ figures₀ present₀ (w .window) (w .«agg_back») work figures present row
 
 abbrev μ-loop : tie.MeasureT-loop
 μ-loop self rows values has-map map starts ends work₀ figures₀ present₀ first until w₀ row₀ work figures present w row = until - row
@@ -19,25 +21,25 @@ abbrev start : tie.After-offsets Inv-loop μ-loop → tie.Start Inv-loop μ-loop
 start r = r .before .before .before .before .before .before .before .before .before .before
 
 loop-holds : tie.Need-loop-holds Inv-loop μ-loop
-loop-holds c = turn-starts kurtosisStored _ _ _ _ _ _ _ _ _ _ _ _ (c .before .before .before .before .before .before .before .pre)
+loop-holds c = turn-starts kurtosisStored _ _ _ _ _ _ _ _ _ _ _ (c .before .before .before .before .before .before .before .pre)
 
 offsets-requires : tie.Need-offsets-requires Inv-loop μ-loop
-offsets-requires c κs = turn-row kurtosisStored _ _ _ _ _ _ _ _ _ _ _ _ (c .before .before .before .before .before .before .before .before .before .pre) (c .before .loop .inv) (c .loop-test .taken)
+offsets-requires c κs = turn-row kurtosisStored _ _ _ _ _ _ _ _ _ _ _ (c .before .before .before .before .before .before .before .before .before .pre) (c .before .loop .inv) (c .loop-test .taken)
 
 step-requires : tie.Need-step-requires Inv-loop μ-loop
 step-requires c κs =
     let r = c .before in
-    turn-movable kurtosisStored _ _ _ _ _ _ _ _ _ _ _ _ (start r .pre) (r .before .before .loop .inv) (r .before .loop-test .taken) (r .offsets .ensures)
+    turn-movable kurtosisStored _ _ _ _ _ _ _ _ _ _ _ (start r .pre) (r .before .before .loop .inv) (r .before .loop-test .taken) (r .offsets .ensures)
 
 answer-requires : tie.Need-answer-requires Inv-loop μ-loop
 answer-requires c κs =
     let r = c .before .before .before .before .before in
     let q = c .before .before .before .step in
-    let f = turn-fits kurtosisStored _ _ _ _ _ _ _ _ _ _ _ _ (start r .pre) (r .before .before .loop .inv) (r .before .loop-test .taken) (r .offsets .ensures) (q .ensures) (q .kept .0) in
+    let f = turn-fits kurtosisStored _ _ _ _ _ _ _ _ _ _ _ (start r .pre) (r .before .before .loop .inv) (r .before .loop-test .taken) (r .offsets .ensures) (q .ensures) (q .kept .0) in
     record { front-in = f .0; few = f .1; rises = f .2 }
 
 write-requires : tie.Need-write-requires Inv-loop μ-loop
-write-requires c κs = let r = c .before .before .before .before .before .before .before .before in turn-there kurtosisStored _ _ _ _ _ _ _ _ _ _ _ _ (start r .pre) (r .before .before .loop .inv) (r .before .loop-test .taken)
+write-requires c κs = let r = c .before .before .before .before .before .before .before .before in turn-there kurtosisStored _ _ _ _ _ _ _ _ _ _ _ (start r .pre) (r .before .before .loop .inv) (r .before .loop-test .taken)
 
 add-row : tie.Need-add-row Inv-loop μ-loop
 add-row c = let h = c .before .before .before .before .before .before .before .before .before .before .before .before .before .before .loop-test .taken in omega (arith, start (c .before .before .before .before .before .before .before .before .before .before .before .before .before) .fits)
@@ -49,7 +51,7 @@ loop-again : tie.Need-loop-again Inv-loop μ-loop
 loop-again c =
     let r = c .before .before .before .before .before .before .before .before .before .before .before .before .before in
     let q = c .before .before .before .before .before .before .before .before .before .before .before .step in
-    turn-next kurtosisStored _ _ _ _ _ _ _ _ _ _ _ _ (start r .pre) (r .before .before .loop .inv) (r .before .loop-test .taken) (r .offsets .ensures) (q .ensures) (q .kept .0)
+    turn-next kurtosisStored _ _ _ _ _ _ _ _ _ _ _ (start r .pre) (r .before .before .loop .inv) (r .before .loop-test .taken) (r .offsets .ensures) (q .ensures) (q .kept .0)
     (c .before .before .before .before .before .before .before .answer .ensures) (c .before .before .before .before .write .ensures)
 
 same-length : tie.Need-same-length Inv-loop μ-loop
@@ -62,7 +64,7 @@ same-length-3 : tie.Need-same-length-3 Inv-loop μ-loop
 same-length-3 c = c .before .loop .inv .present-same
 
 returns : tie.Need-returns Inv-loop μ-loop
-returns c = turn-done kurtosisStored _ _ _ _ _ _ _ _ _ _ _ _ (c .before .before .before .before .before .before .before .before .before .pre) (c .before .loop .inv) (c .loop-test .left)
+returns c = turn-done kurtosisStored _ _ _ _ _ _ _ _ _ _ _ (c .before .before .before .before .before .before .before .before .before .pre) (c .before .loop .inv) (c .loop-test .left)
 
 pub block-spec : {M : Type 1} → statement M
 block-spec =

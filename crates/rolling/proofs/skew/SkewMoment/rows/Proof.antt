@@ -167,12 +167,12 @@ returns c =
     record {
       fits = record { answers = refl; counts = refl };
       written = record {
-        answers-are = column-is (rows-figures skewStored _ _ _ _ _ _ (s .pre) (λ z. skewFinalize z (g .self .bias)) u v (omega arith))
-            (rows-present skewStored _ _ _ _ _ _ (s .pre) (λ z. skewFinalize z (g .self .bias)) u v (omega arith))
+        answers-are = column-is (rows-figures skewStored _ _ _ _ _ (s .pre) (λ z. skewFinalize z (g .self .bias)) u v (omega arith))
+            (rows-present skewStored _ _ _ _ _ (s .pre) (λ z. skewFinalize z (g .self .bias)) u v (omega arith))
             then refl;
         counts-are = refl;
       };
-      work-kept = rows-kept skewStored _ _ _ _ _ _ (s .pre) (v .worked);
+      work-kept = rows-kept skewStored _ _ _ _ _ (s .pre) (v .worked);
     }
 
 pub rows-spec : {M : Type 1} → statement M

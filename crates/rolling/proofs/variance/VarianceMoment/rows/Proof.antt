@@ -24,7 +24,7 @@ block-requires c κs =
     let s = c .before .before .before .before .before .before .before .before .before .before .before .before .before in
     let g = s .args in
     let h = c .before .before .before in
-    rows-can varStored _ _ _ _ _ _ (s .pre) (h .before .before .empty-at .ensures) (h .before .empty .ensures) (h .how-many .ensures ∙ many-rows (g .rows) (length (g .values .now)) (g .starts .now) (g .ends .now))
+    rows-can varStored _ _ _ _ _ (s .pre) (h .before .before .empty-at .ensures) (h .before .empty .ensures) (h .how-many .ensures ∙ many-rows (g .rows) (length (g .values .now)) (g .starts .now) (g .ends .now))
 
 same-length : tie.Need-same-length
 same-length c = search needs
@@ -44,10 +44,10 @@ returns c =
     record {
       fits = record { answers = refl; counts = refl };
       written = record {
-        answers-are = column-is (rows-figures varStored _ _ _ _ _ _ (s .pre) (λ z. varFinalize z (g .self .ddof)) u v (omega arith)) (rows-present varStored _ _ _ _ _ _ (s .pre) (λ z. varFinalize z (g .self .ddof)) u v (omega arith)) then refl;
+        answers-are = column-is (rows-figures varStored _ _ _ _ _ (s .pre) (λ z. varFinalize z (g .self .ddof)) u v (omega arith)) (rows-present varStored _ _ _ _ _ (s .pre) (λ z. varFinalize z (g .self .ddof)) u v (omega arith)) then refl;
         counts-are = refl;
       };
-      work-kept = rows-kept varStored _ _ _ _ _ _ (s .pre) (v .worked);
+      work-kept = rows-kept varStored _ _ _ _ _ (s .pre) (v .worked);
     }
 
 pub rows-spec : {M : Type 1} → statement M

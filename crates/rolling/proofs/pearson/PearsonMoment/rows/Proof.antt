@@ -1,0 +1,68 @@
+-- From a fresh window on, every row. Assumes nothing.
+use mathlib.Core.Path.{refl, _∙_}
+use native.Mathlib.Omega.{arith}
+use lib.ListN.{length}
+use Rattle.rolling.specs.Moments.{correlationFinalize}
+use Rattle.window.proofs.Outputs.{column-is, _then_}
+use Rattle.rolling.specs.Code.Layouts.{pearsonStored}
+use Rattle.rolling.proofs.RowLoops.{many-rows, rows-can, rows-kept, rows-figures, rows-present}
+use borrow.Author.Needs.{needs}
+use Rattle.rolling.proofs.pearson.PearsonMoment.rows.Statement.{statement}
+use Rattle.rolling.proofs.pearson.PearsonMoment.rows.Tie as tie
+
+empty-at-requires : tie.Need-empty-at-requires
+empty-at-requires c κs = search needs
+
+empty-requires : tie.Need-empty-requires
+empty-requires c κs = search needs
+
+how-many-requires : tie.Need-how-many-requires
+how-many-requires c κs = search needs
+
+block-requires : tie.Need-block-requires
+block-requires c κs =
+    let g = c .before .before .before .before .before .before .before .before .before .before .before .before .before .before .before .args in
+    let p = c .before .before .before .before .before .before .before .before .before .before .before .before .before .before .before .pre in
+    let u = c .before .before .before .how-many .ensures
+    ∙ many-rows (g .rows) (length (g .x .now)) (g .starts .now) (g .ends .now) in (
+      p .0,
+      rows-can pearsonStored _ _ _ _ _ (p .1) (c .before .before .before .before .before .empty-at .ensures)
+          (c .before .before .before .before .empty .ensures) u,
+    )
+
+same-length : tie.Need-same-length
+same-length c = search needs
+
+same-length-2 : tie.Need-same-length-2
+same-length-2 c = search needs
+
+same-length-3 : tie.Need-same-length-3
+same-length-3 c = search needs
+
+returns : tie.Need-returns
+returns c =
+    let g = c .before .before .before .before .before .before .before .before .before .before .before .before .before .before .before .before .before .before .before .before .before .before .args in
+    let d = c .before .before .before .before .before .before .before .before .before .before .before .before .before .before .before .before .before .before .before .before .before .before .pre .1 in
+    let u = c .before .before .before .before .before .before .before .before .before .before .how-many .ensures
+    ∙ many-rows (g .rows) (length (g .x .now)) (g .starts .now) (g .ends .now) in
+    let v = c .before .before .before .before .before .before .block .ensures in
+    let f = rows-figures pearsonStored _ _ _ _ _ d correlationFinalize u v (omega arith) in
+    let b = rows-present pearsonStored _ _ _ _ _ d correlationFinalize u v (omega arith) in
+    record {
+      fits = record { answers = refl; counts = refl };
+      written = record { answers-are = column-is f b then refl; counts-are = refl };
+      work-kept = rows-kept pearsonStored _ _ _ _ _ d (v .worked);
+    }
+
+pub rows-spec : {M : Type 1} → statement M
+rows-spec =
+    tie.close
+    (tie.spec
+    empty-at-requires
+    empty-requires
+    how-many-requires
+    block-requires
+    same-length
+    same-length-2
+    same-length-3
+    returns)
