@@ -3,7 +3,7 @@
 
 Both are loaded into one process and called in turn, now the one first and now the other, with the same lists, so that whatever slows the
 machine for a while slows both. A line has the medians in ns a row and new divided by old. Exit 1 where an answer or a byte that is left
-in a list of outputs differs.
+in a list of outputs differs. An entry that either build lacks is left out, and said so.
 """
 import argparse, array, ctypes, math, os, random, statistics, subprocess, sys, tempfile, time
 
@@ -43,11 +43,21 @@ def lent(of, values):
 
 double, word, byte, size_t, flag = ctypes.c_double, ctypes.c_uint32, ctypes.c_uint8, ctypes.c_size_t, ctypes.c_bool
 trace = lent(double, [18 + 4 * math.sin(i % 1440 / 229) + rng.random() for i in range(n)])
-nine_in_ten = [sum((rng.random() < 0.9) << k for k in range(8)) for _ in range(-(-n // 8))]
-maps = {"no map": [flag(False), *lent(byte, [0])], "map": [flag(True), *lent(byte, nine_in_ten)]}
-readings, figures, present, work = lent(double, [0] * n), lent(double, [0] * n), lent(byte, [0] * n), lent(double, [0] * (6 * min(n, 4096)))
-lists = [work, figures, present]
+second = lent(double, [18 + 3 * math.sin(i % 1440 / 229) + rng.random() for i in range(n)])
+
+
+def nine_in_ten():
+    return [flag(True), *lent(byte, [sum((rng.random() < 0.9) << k for k in range(8)) for _ in range(-(-n // 8))])]
+
+
+none, first_map, second_map = [flag(False), *lent(byte, [0])], nine_in_ten(), nine_in_ten()
+maps = {"no map": none, "map": first_map}
+pair_maps = {"no map": (none, none), "one map": (first_map, none), "both maps": (first_map, second_map)}
+readings, second_readings = lent(double, [0] * n), lent(double, [0] * n)
+figures, present, work = lent(double, [0] * n), lent(byte, [0] * n), lent(double, [0] * (8 * min(n, 4096)))
+lists, outputs = [work, figures, present], (readings, second_readings, figures, present)
 settings = {"var": [byte(1)], "skew": [flag(False)], "kurtosis": [flag(True), flag(False)]}
+pair_settings = {"cov": [byte(1)], "pearson_corr": []}
 plans = {str(size): [(max(0, i + 1 - size), i + 1) for i in range(n)] for size in (8, 128, 4096)} | {"uneven": list(uneven())}
 
 cases = []
@@ -57,34 +67,46 @@ for name, rows in plans.items():
         for tag, mapped in maps.items():
             cases.append((f"plan {name}, {figure}, {tag}", f"moments_plan_{figure}",
                           [trace[0], size_t(8 * n), *readings, *mapped, *starts, *ends, size_t(1), *setting, *sum(lists, [])]))
+    for figure, setting in pair_settings.items():
+        for tag, (mapped, other) in pair_maps.items():
+            traces = [trace[0], size_t(8 * n), *readings, *mapped, second[0], size_t(8 * n), *second_readings, *other]
+            cases.append((f"plan {name}, {figure}, {tag}", f"moments_plan_{figure}",
+                          [*traces, *starts, *ends, size_t(1), *setting, *sum(lists, [])]))
 for size in (8, 128, 4096):
     for figure, setting in settings.items():
         for tag, mapped in maps.items():
             cases.append((f"fixed {size}, {figure}, {tag}", f"moments_rolling_{figure}",
                           [*trace, *mapped, size_t(size), size_t(1), flag(False), *setting, *sum(lists, [])]))
+    for figure, setting in pair_settings.items():
+        for tag, (mapped, other) in pair_maps.items():
+            cases.append((f"fixed {size}, {figure}, {tag}", f"moments_rolling_{figure}",
+                          [*trace, *mapped, *second, *other, size_t(size), size_t(1), flag(False), *setting, *sum(lists, [])]))
 
 bad, ratios = 0, []
 with tempfile.TemporaryDirectory() as room:
     libraries = [load(folder, room) for folder in asked.builds]
-print(f"{n} readings, medians of {asked.turns} turns, ns a row\n{'':32}      old      new    ratio")
+print(f"{n} readings, medians of {asked.turns} turns, ns a row\n{'':36}      old      new    ratio")
 for name, entry, given in cases:
     if asked.filter not in name:
+        continue
+    if not all(hasattr(library, entry) for library in libraries):
+        print(f"{name:36} left out: a build has no {entry}")
         continue
     times, left = ([], []), [None, None]
     for turn in range(-1, asked.turns):
         for side in ((0, 1), (1, 0))[turn % 2]:
             function = libraries[side][entry]
             if turn < 0:  # not timed: what each leaves in lists that held something else
-                for whole, _ in (readings, figures, present):
+                for whole, _ in outputs:
                     ctypes.memset(whole, 0xAA, ctypes.sizeof(whole))
-                left[side] = function(*given), *(bytes(whole) for whole, _ in (readings, figures, present))
+                left[side] = function(*given), *(bytes(whole) for whole, _ in outputs)
                 continue
             began = time.perf_counter_ns()
             function(*given)
             times[side].append((time.perf_counter_ns() - began) / n)
     old, new = [statistics.median(side) for side in times]
     ratios.append(new / old)
-    print(f"{name:32} {old:8.2f} {new:8.2f} {new / old:8.3f}", flush=True)
+    print(f"{name:36} {old:8.2f} {new:8.2f} {new / old:8.3f}", flush=True)
     if left[0] != left[1] or left[0][0] != 0:
         print(f"{name}: the answers differ, or the call is refused ({left[0][0]}, {left[1][0]})"); bad += 1
 if not ratios:

@@ -2,25 +2,32 @@
 use oracle::maps;
 use oracle::rng::Rng;
 
-/// Two traces and a map in which nine places in ten are valid, padded with noise to a multiple of 64 bytes, as Arrow pads its buffers.
+/// Two traces and a map of each in which nine places in ten are valid, padded with noise to a multiple of 64 bytes, as Arrow pads its
+/// buffers.
 pub struct Input {
     pub n: usize,
     pub x: Vec<f64>,
     pub y: Vec<f64>,
     pub map: Vec<u8>,
+    /// The second trace's, for windows of both.
+    pub y_map: Vec<u8>,
 }
 impl Input {
     pub fn new(n: usize) -> Self {
         let mut r = Rng(42);
         let x: Vec<f64> = (0..n).map(|i| 18.0 + 4.0 * ((i % 1440) as f64 / 229.0).sin() + r.unit()).collect();
         let y = x.iter().map(|x| x * 0.5 + r.unit()).collect();
-        let mut map = vec![0; n.div_ceil(8)];
-        for i in (0..n).filter(|_| r.chance(9, 10)) {
-            map[i / 8] |= 1 << (i % 8);
-        }
-        let behind = map.len().next_multiple_of(64) - map.len();
-        map.extend(maps::padding(&mut r, 2, behind));
-        Input { n, x, y, map }
+        let mut any = || {
+            let mut map = vec![0; n.div_ceil(8)];
+            for i in (0..n).filter(|_| r.chance(9, 10)) {
+                map[i / 8] |= 1 << (i % 8);
+            }
+            let behind = map.len().next_multiple_of(64) - map.len();
+            map.extend(maps::padding(&mut r, 2, behind));
+            map
+        };
+        let (map, y_map) = (any(), any());
+        Input { n, x, y, map, y_map }
     }
     /// Without a map and with it, and what to call that.
     pub fn maps(&self) -> [(Option<&[u8]>, &'static str); 2] {

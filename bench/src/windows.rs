@@ -7,7 +7,7 @@ use oracle::second::setting;
 use oracle::Figure;
 use std::hint::black_box;
 
-const SIZES: [usize; 3] = [8, 128, 4096];
+pub const SIZES: [usize; 3] = [8, 128, 4096];
 /// The size at which what differs little from the other lines is measured: biased figures, functions that allocate.
 const MIDDLE: usize = 128;
 const VARIANCE: (&str, Figure) = ("variance", Figure::Var { ddof: 1 });
@@ -20,7 +20,7 @@ fn figures(size: usize) -> Vec<(&'static str, Figure)> {
     let biased = if size == MIDDLE { &BIASED[..] } else { &[] };
     [&[VARIANCE, SKEWNESS, KURTOSIS], biased].concat()
 }
-fn name(size: usize) -> String {
+pub fn name(size: usize) -> String {
     if size < 1000 {
         size.to_string()
     } else {
@@ -29,18 +29,18 @@ fn name(size: usize) -> String {
 }
 
 /// What our entries are lent.
-struct Lent {
-    readings: Vec<f64>,
-    work: Vec<f64>,
-    figures: Vec<f64>,
-    present: Vec<u8>,
+pub struct Lent {
+    pub readings: Vec<f64>,
+    pub work: Vec<f64>,
+    pub figures: Vec<f64>,
+    pub present: Vec<u8>,
 }
 impl Lent {
-    fn new(n: usize, readings: usize, work: usize) -> Self {
+    pub fn new(n: usize, readings: usize, work: usize) -> Self {
         Lent { readings: vec![0.0; readings], work: vec![0.0; work], figures: vec![0.0; n], present: vec![0; n] }
     }
     /// Whether each row's answer is the Rust's.
-    fn compare(self, rust: Vec<Option<f64>>) -> impl Iterator<Item = bool> {
+    pub fn compare(self, rust: Vec<Option<f64>>) -> impl Iterator<Item = bool> {
         assert_eq!(rust.len(), self.figures.len());
         rust.into_iter().zip(self.figures).zip(self.present).map(|((rust, figure), present)| match rust {
             None => present == 0 && figure.to_bits() == 0,
@@ -94,7 +94,7 @@ fn of_plan(bench: &mut Bench, input: &Input, bytes: &[u8], plan_name: &str, size
     }
 }
 
-fn windows(size: usize) -> [(Window, String); 2] {
+pub fn windows(size: usize) -> [(Window, String); 2] {
     [(Window::trailing(size), name(size)), (Window::centered(size), format!("{} centred", name(size)))]
 }
 

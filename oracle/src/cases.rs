@@ -1,5 +1,5 @@
 //! The calls on windows that `words` stores: those by hand, then random ones of every number and figure, then maps of other lengths.
-use crate::account::afresh;
+use crate::account::{afresh, Readings};
 use crate::host::{Case, Room, EASY};
 use crate::rng::Rng;
 use crate::{fixed, maps, offsets, plan, same_row, windows, Figure};
@@ -180,7 +180,7 @@ fn fixed_by_hand(r: &mut Rng) -> Vec<windows::Case> {
             v.push(Case::new(f, &far, Some(&[0x5F, 0x07]), 3, 2, centre));
             // a window worked afresh in rising order gives other bits in some row
             let rows: Vec<(usize, usize)> = (0..9).map(|i| offsets(i, 5, 9, centre)).collect();
-            let y = telling(r, |x| fixed(x, None, 5, 3, centre, f), |x| afresh(x, None, &rows, f, 3));
+            let y = telling(r, |x| fixed(x, None, 5, 3, centre, f), |x| afresh(&Readings { x, map: None, figure: f }, &rows, 3));
             v.push(Case::new(f, &y, None, 5, 3, centre));
             v.push(Case::new(f, &y, Some(&[0xFF, 0xFF]), 5, 3, centre));
         }

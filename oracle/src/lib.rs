@@ -11,6 +11,8 @@ pub mod cases;
 pub mod host;
 pub mod maps;
 pub mod model;
+pub mod pair_cases;
+pub mod pairs;
 pub mod record;
 pub mod refusal;
 pub mod rng;
@@ -50,6 +52,22 @@ impl Figure {
             Figure::Var { .. } => 4,
             Figure::Skew { .. } => 5,
             Figure::Kurt { .. } => 6,
+        }
+    }
+}
+
+/// Which figure of pairs is asked, with what its `finalize` takes.
+#[derive(Clone, Copy, Debug, PartialEq)]
+pub enum PairFigure {
+    Cov { ddof: u8 },
+    Pearson,
+}
+impl PairFigure {
+    /// Doubles of work a window place (document 02, request 2).
+    pub fn entry(self) -> usize {
+        match self {
+            PairFigure::Cov { .. } => 6,
+            PairFigure::Pearson => 8,
         }
     }
 }

@@ -149,3 +149,36 @@ pub fn pair(n: usize, nm: Option<usize>, m: usize, mm: Option<usize>) -> u32 {
     }
     0
 }
+/// Of each trace how many readings, or bytes, it has, and how many bytes its map, if there is one.
+pub type Pair = [(usize, Option<usize>); 2];
+/// Fixed windows of two traces, by their readings: 1, 2 and 3 as above, then as of one.
+pub fn fixed_pair([(n, nm), (m, mm)]: Pair, size: usize, outs: (usize, usize), entry: usize, work: usize) -> u32 {
+    match pair(n, nm, m, mm) {
+        0 => fixed(n, None, size, outs, entry, work),
+        r => r,
+    }
+}
+/// The host call of two traces, by their bytes: 14 for either before all; 12 for either reading list too.
+#[allow(clippy::too_many_arguments)]
+pub fn host_pair(
+    [(x, xm), (y, ym)]: Pair,
+    starts: &[usize],
+    ends: &[usize],
+    readings: [usize; 2],
+    outs: (usize, usize),
+    entry: usize,
+    work: usize,
+) -> u32 {
+    if !x.is_multiple_of(8) || !y.is_multiple_of(8) {
+        return 14;
+    }
+    let n = x / 8;
+    match pair(n, xm, y / 8, ym) {
+        0 => {}
+        r => return r,
+    }
+    match plan(n, None, starts, ends, outs, entry, work) {
+        0 | 13 if readings.iter().any(|list| *list < n) => 12,
+        r => r,
+    }
+}

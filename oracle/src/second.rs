@@ -1,9 +1,9 @@
 //! A second implementation beside the Rust, reached by function pointers: `fuzz` asks both. With the feature `host` it is our
 //! libmoments.a, by the crate `moments` of ../host.
 use crate::host::Call;
-use crate::windows;
+use crate::{pairs, windows};
 #[cfg(feature = "host")]
-use crate::Figure;
+use crate::{Figure, PairFigure};
 
 /// What a call answers.
 #[derive(Debug)]
@@ -24,12 +24,15 @@ impl Answer {
 pub type PlanFn = fn(&Call, &mut [f64], &mut [f64], &mut [f64], &mut [u8]) -> Answer;
 /// call (of a figure, or with weights), work, figures out, present out
 pub type WindowsFn = fn(&windows::Call, &mut [f64], &mut [f64], &mut [u8]) -> Answer;
+/// call (over a plan or fixed windows), readings of both out (none for fixed windows), work, figures out, present out
+pub type PairsFn = fn(&pairs::Case, [&mut [f64]; 2], &mut [f64], &mut [f64], &mut [u8]) -> Answer;
 
 #[derive(Clone, Copy)]
 pub struct Impl {
     pub plan: PlanFn,
     pub fixed: WindowsFn,
     pub weighted: Option<WindowsFn>,
+    pub pairs: PairsFn,
 }
 
 /// A demonstration: the work-slice model of src/model.rs, which has no weights.
@@ -51,7 +54,7 @@ pub fn demo() -> Impl {
             let x = c.readings();
             readings[..x.len()].copy_from_slice(&x);
             let rows = c.starts.iter().zip(c.ends).map(|(a, b)| (*a as usize, *b as usize));
-            crate::model::plan_into(&x, c.map(), rows, c.figure, c.min, work, |i, r| put(figures, present, i, r), |_, _| {});
+            crate::model::plan_into(&x, c.map(), rows, c.figure, c.min, work, |i, r| put(figures, present, i, r), &mut ());
         }
         Answer::Number(number)
     }
@@ -60,11 +63,23 @@ pub fn demo() -> Impl {
         if number == 0 {
             let n = c.x.len();
             let rows = (0..n).map(|i| crate::offsets(i, c.size, n, c.centre));
-            crate::model::plan_into(c.x, c.map(), rows, c.figure, c.min, work, |i, r| put(figures, present, i, r), |_, _| {});
+            crate::model::plan_into(c.x, c.map(), rows, c.figure, c.min, work, |i, r| put(figures, present, i, r), &mut ());
         }
         Answer::Number(number)
     }
-    Impl { plan, fixed, weighted: None }
+    fn pairs(c: &pairs::Case, readings: [&mut [f64]; 2], work: &mut [f64], figures: &mut [f64], present: &mut [u8]) -> Answer {
+        let number = c.refusal();
+        if number == 0 {
+            let (x, y) = (c.x.readings(), c.y.readings());
+            if c.decodes() {
+                readings.into_iter().zip([&x, &y]).for_each(|(list, x)| list[..x.len()].copy_from_slice(x));
+            }
+            let (maps, rows) = ([c.x.map(), c.y.map()], c.rows().into_iter());
+            crate::model::pairs_into([&x, &y], maps, rows, c.figure, c.min, work, |i, r| put(figures, present, i, r), &mut ());
+        }
+        Answer::Number(number)
+    }
+    Impl { plan, fixed, weighted: None, pairs }
 }
 
 #[cfg(not(feature = "host"))]
@@ -73,7 +88,7 @@ pub fn second() -> Option<Impl> {
 }
 #[cfg(feature = "host")]
 pub fn second() -> Option<Impl> {
-    Some(Impl { plan: ours::plan, fixed: ours::windows, weighted: Some(ours::windows) })
+    Some(Impl { plan: ours::plan, fixed: ours::windows, weighted: Some(ours::windows), pairs: ours::pairs })
 }
 
 /// A figure and a minimum as ../host has them.
@@ -87,13 +102,23 @@ pub fn setting(figure: Figure, min: usize) -> moments::Setting {
     };
     setting.min_periods(min)
 }
+#[cfg(feature = "host")]
+pub fn pair_setting(figure: PairFigure, min: usize) -> moments::Setting<moments::PairFigure> {
+    let setting = match figure {
+        PairFigure::Cov { ddof } => moments::Setting::cov(ddof),
+        PairFigure::Pearson => moments::Setting::pearson_corr(),
+    };
+    setting.min_periods(min)
+}
 
 #[cfg(feature = "host")]
 mod ours {
-    use super::{setting, Answer};
+    use super::{pair_setting, setting, Answer};
     use crate::host::Call;
-    use crate::{windows, Figure};
-    use moments::{abi, plan_into, rolling_into, rolling_var_weights_into, Lists, Plan, Refusal, Window};
+    use crate::pairs::{self, Windows};
+    use crate::{windows, Figure, PairFigure};
+    use moments::{abi, plan_into, plan_pair_into, rolling_into, rolling_pair_into, rolling_var_weights_into};
+    use moments::{Encoded, Lists, Plan, Refusal, Window};
 
     fn answer(result: Result<(), Refusal>) -> Answer {
         let Err(refusal) = result else { return Answer::Words { number: 0, row: None } };
@@ -146,6 +171,57 @@ mod ours {
                 (_, Figure::Var { ddof }) => abi::moments_rolling_var(t, n, false, mp, mn, size, min, centre, ddof, wp, wn, vp, vn, pp, pn),
                 (_, Figure::Skew { bias }) => abi::moments_rolling_skew(t, n, false, mp, mn, size, min, centre, bias, wp, wn, vp, vn, pp, pn),
                 (_, Figure::Kurt { fisher, bias }) => abi::moments_rolling_kurtosis(t, n, false, mp, mn, size, min, centre, fisher, bias, wp, wn, vp, vn, pp, pn),
+            }
+        })
+    }
+
+    #[rustfmt::skip]
+    pub fn pairs(c: &pairs::Case, readings: [&mut [f64]; 2], work: &mut [f64], figures: &mut [f64], present: &mut [u8]) -> Answer {
+        let (a, b) = if c.decodes() { (vec![], vec![]) } else { (c.x.readings(), c.y.readings()) };
+        let [x_readings, y_readings] = readings;
+        if [&c.x, &c.y].iter().all(|trace| trace.has_map || trace.map.is_empty()) {
+            let (setting, lists) = (pair_setting(c.figure, c.min), Lists { work, figures, present });
+            return answer(match &c.windows {
+                Windows::Plan { starts, ends } => {
+                    let x = Encoded { bytes: c.x.bytes(), readings: x_readings, map: c.x.map() };
+                    let y = Encoded { bytes: c.y.bytes(), readings: y_readings, map: c.y.map() };
+                    plan_pair_into(x, y, Plan::new(starts, ends), setting, lists)
+                }
+                Windows::Fixed { size, centre } => {
+                    rolling_pair_into(&a, c.x.map(), &b, c.y.map(), Window { size: *size, center: *centre }, setting, lists)
+                }
+            });
+        }
+        let (xh, xm, xmn, yh, ym, ymn) = (c.x.has_map, c.x.map.as_ptr(), c.x.map.len(), c.y.has_map, c.y.map.as_ptr(), c.y.map.len());
+        let (wp, wn, vp, vn) = (work.as_mut_ptr(), work.len(), figures.as_mut_ptr(), figures.len());
+        let (pp, pn) = (present.as_mut_ptr(), present.len());
+        // SAFETY: as above.
+        Answer::Number(unsafe {
+            match &c.windows {
+                Windows::Plan { starts, ends } => {
+                    let (x, xn, xr, xrn) = (c.x.bytes().as_ptr(), c.x.bytes().len(), x_readings.as_mut_ptr(), x_readings.len());
+                    let (y, yn, yr, yrn) = (c.y.bytes().as_ptr(), c.y.bytes().len(), y_readings.as_mut_ptr(), y_readings.len());
+                    let (sp, sn, ep, en, min) = (starts.as_ptr(), starts.len(), ends.as_ptr(), ends.len(), c.min);
+                    match c.figure {
+                        PairFigure::Cov { ddof } => abi::moments_plan_cov(
+                            x, xn, xr, xrn, xh, xm, xmn, y, yn, yr, yrn, yh, ym, ymn, sp, sn, ep, en, min, ddof, wp, wn, vp, vn, pp, pn,
+                        ),
+                        PairFigure::Pearson => abi::moments_plan_pearson_corr(
+                            x, xn, xr, xrn, xh, xm, xmn, y, yn, yr, yrn, yh, ym, ymn, sp, sn, ep, en, min, wp, wn, vp, vn, pp, pn,
+                        ),
+                    }
+                }
+                Windows::Fixed { size, centre } => {
+                    let (x, xn, y, yn, size, centre, min) = (a.as_ptr(), a.len(), b.as_ptr(), b.len(), *size, *centre, c.min);
+                    match c.figure {
+                        PairFigure::Cov { ddof } => abi::moments_rolling_cov(
+                            x, xn, xh, xm, xmn, y, yn, yh, ym, ymn, size, min, centre, ddof, wp, wn, vp, vn, pp, pn,
+                        ),
+                        PairFigure::Pearson => abi::moments_rolling_pearson_corr(
+                            x, xn, xh, xm, xmn, y, yn, yh, ym, ymn, size, min, centre, wp, wn, vp, vn, pp, pn,
+                        ),
+                    }
+                }
             }
         })
     }

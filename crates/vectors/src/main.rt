@@ -10,6 +10,7 @@ use libc::STDOUT_FILENO;
 mod arrays;
 mod fixed;
 mod lent;
+mod pairs;
 mod plans;
 mod states;
 mod words;
@@ -31,6 +32,8 @@ fn agrees(kind: u8, rec: &[u8]) -> bool {
         7 => plans::agrees(rec),
         8..=9 => fixed::agrees(rec),
         10 => fixed::bounds(rec),
+        11 => pairs::agrees(rec),
+        12 => pairs::agrees_fixed(rec),
         _ => arrays::agrees(kind, rec),
     }
 }
@@ -93,4 +96,6 @@ fn main() {
     replay(8, b"fixed");
     replay(9, b"weighted");
     replay(10, b"bounds");
+    replay(11, b"paired");
+    replay(12, b"paired_fixed");
 }

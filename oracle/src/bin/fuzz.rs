@@ -1,15 +1,16 @@
-//! Random window calls of a second implementation (src/second.rs) against the Rust: plans by the host call, fixed windows and
-//! weights (the other entries: `face`). Compared: the number, and what the safe functions of ../host say of the first refused
-//! row of a plan; both output lists to the last place, figures by their bits, a NaN being 7FF8000000000000; the readings that an
-//! accepted call decodes; and that nothing else is written: no list on a refusal, and otherwise no place past the last row, past
-//! the needed work, past the readings or beside a list. Each run also makes the calls at 16,777,216 readings or rows and one more.
-//! usage: fuzz [--demo] CALLS SEED [plan] [fixed] [weighted]
+//! Random window calls of a second implementation (src/second.rs) against the Rust: plans by the host call, fixed windows and weights
+//! (the other entries: `face`); those of two traces, which the Rust lacks, against the account over its states. Compared: the number, and
+//! what the safe functions of ../host say of the first refused row of a plan; both output lists to the last place, figures by their bits,
+//! a NaN being 7FF8000000000000; the readings that an accepted call decodes; and that nothing else is written: no list on a refusal, and
+//! otherwise no place past the last row, past the needed work, past the readings or beside a list. Each run also makes the calls at
+//! 16,777,216 readings or rows and one more.
+//! usage: fuzz [--demo] CALLS SEED [plan] [fixed] [weighted] [pair-plan] [pair-fixed]
 //! (CALLS are made of the kinds that are named, in turn, or of every kind. --demo asks the model of src/model.rs in place
 //! of libmoments.a; it has no weights.)
 use oracle::host::{Call, Case, Room};
 use oracle::refusal::LIMIT;
 use oracle::rng::Rng;
-use oracle::second::{Answer, Impl, PlanFn, WindowsFn};
+use oracle::second::{Answer, Impl, PairsFn, PlanFn, WindowsFn};
 use oracle::*;
 use std::collections::BTreeMap;
 use std::fmt::Debug;
@@ -45,30 +46,37 @@ impl<T: Clone> Guarded<T> {
 /// All that a call may be lent; what a call does not have is empty.
 #[derive(Clone)]
 struct Lists {
-    readings: Guarded<f64>,
+    /// Of each trace.
+    readings: [Guarded<f64>; 2],
     work: Guarded<f64>,
     figures: Guarded<f64>,
     present: Guarded<u8>,
 }
 impl Lists {
-    fn new(r: &mut Rng, room: Room) -> Self {
+    /// For a trace, or for two, of which the second's readings take so many places.
+    fn new(r: &mut Rng, room: Room, second: usize) -> Self {
         let mut any = |n| Guarded::new(n, || f64::from_bits(r.u64()));
-        let (readings, work, figures) = (any(room.readings), any(room.work), any(room.figures));
+        let (readings, work, figures) = ([any(room.readings), any(second)], any(room.work), any(room.figures));
         Lists { readings, work, figures, present: Guarded::new(room.present, || r.u64() as u8) }
     }
 }
 /// What the Rust and document 01 say: the number, the plan's row that is refused and what is to be said of it, the decoded
-/// readings, the rows' answers and the doubles of work needed.
+/// readings of each trace, the rows' answers and the doubles of work needed.
 struct Wanted {
     number: u32,
     row: Option<(usize, Vec<usize>)>,
-    readings: Vec<f64>,
+    readings: [Vec<f64>; 2],
     rows: Vec<Option<f64>>,
     need: usize,
 }
 impl Wanted {
     fn refused(number: u32) -> Self {
-        Wanted { number, row: None, readings: vec![], rows: vec![], need: 0 }
+        Wanted { number, row: None, readings: Default::default(), rows: vec![], need: 0 }
+    }
+    /// What the lists of readings hold, each beside what is wanted there: the first trace's, then the second's.
+    fn decoded<'a>(&'a self, after: &'a Lists) -> impl Iterator<Item = (f64, f64)> + 'a {
+        let lists = after.readings.iter().zip(&self.readings);
+        lists.flat_map(|(list, wanted)| list.held().iter().copied().zip(wanted.iter().copied()))
     }
     fn differs(&self, answer: &Answer, before: &Lists, after: &Lists) -> Option<String> {
         if answer.number() != self.number {
@@ -79,8 +87,10 @@ impl Wanted {
                 return Some(format!("row and numbers {row:?}, wanted {:?}", self.row));
             }
         }
+        let readings = |k: usize| before.readings[k].changed(&after.readings[k], self.readings[k].len(), |x| x.to_bits());
         for (name, changed) in [
-            ("readings", before.readings.changed(&after.readings, self.readings.len(), |x| x.to_bits())),
+            ("readings", readings(0)),
+            ("readings of the second trace", readings(1)),
             ("work", before.work.changed(&after.work, self.need, |x| x.to_bits())),
             ("figures", before.figures.changed(&after.figures, self.rows.len(), |x| x.to_bits())),
             ("present", before.present.changed(&after.present, self.rows.len(), |x| *x)),
@@ -89,8 +99,8 @@ impl Wanted {
                 return Some(format!("wrote {name} at {i}, where it may not"));
             }
         }
-        for (i, (got, x)) in after.readings.held().iter().zip(&self.readings).enumerate() {
-            if !same(*got, *x) {
+        for (i, (got, x)) in self.decoded(after).enumerate() {
+            if !same(got, x) {
                 return Some(format!("reading {i}: {:016X}, wanted {:016X}", got.to_bits(), x.to_bits()));
             }
         }
@@ -111,6 +121,8 @@ struct Seen {
     calls: BTreeMap<&'static str, (u64, u64, BTreeMap<u32, u64>)>,
     /// Window sizes at which something begins, ends or wraps, of the calls that are accepted.
     sizes: BTreeMap<&'static str, BTreeMap<&'static str, u64>>,
+    /// Which of two traces have a map, of the calls that are accepted, and whether a valid pair has a member that is not finite.
+    pairs: BTreeMap<&'static str, BTreeMap<&'static str, u64>>,
     present: u64,
     nans: u64,
     missing: u64,
@@ -122,6 +134,14 @@ struct Seen {
     differing: u64,
 }
 impl Seen {
+    fn count_size(&mut self, name: &'static str, n: usize, size: usize, centre: bool) {
+        let sizes = self.sizes.entry(name).or_default();
+        let edges = [("0", 0), ("1", 1), ("n", n), ("n + 1", n + 1), ("2^63", 1 << 63), ("2^64 - 1", usize::MAX)];
+        for (edge, _) in edges.iter().filter(|(_, edge)| *edge == size) {
+            *sizes.entry(edge).or_default() += 1;
+        }
+        *sizes.entry(if centre { "centred" } else { "trailing" }).or_default() += 1;
+    }
     fn tell(&mut self, name: &'static str, given: impl Debug, wanted: &Wanted, answer: &Answer, before: &Lists, after: &Lists) {
         let what = wanted.differs(answer, before, after);
         self.refused_rows.0 += wanted.row.is_some() as u64;
@@ -137,7 +157,7 @@ impl Seen {
             }
         }
         let Some(what) = what else {
-            for (got, x) in after.readings.held().iter().zip(&wanted.readings).filter(|(_, x)| x.is_nan()) {
+            for (got, x) in wanted.decoded(after).filter(|(_, x)| x.is_nan()) {
                 self.nan_readings.0 += 1;
                 self.nan_readings.1 += (got.to_bits() != x.to_bits()) as u64;
             }
@@ -161,12 +181,11 @@ fn plan_name(f: Figure) -> &'static str {
     }
 }
 /// The first row that is refused, and for 5 its bounds, for 6 its end and the readings, for 7 its bounds and those before.
-fn refused_row(call: &Call, number: u32) -> Option<(usize, Vec<usize>)> {
+fn refused_row(rows: Vec<(usize, usize)>, n: usize, number: u32) -> Option<(usize, Vec<usize>)> {
     if !(5..=7).contains(&number) {
         return None;
     }
-    let n = call.trace.len() / 8;
-    let refusal::FirstRow { row, bounds: (s, e), prev, .. } = refusal::first_row(call.rows().into_iter(), n)?;
+    let refusal::FirstRow { row, bounds: (s, e), prev, .. } = refusal::first_row(rows.into_iter(), n)?;
     let said = match (number, prev) {
         (5, _) => vec![s, e],
         (6, _) => vec![e, n],
@@ -175,12 +194,12 @@ fn refused_row(call: &Call, number: u32) -> Option<(usize, Vec<usize>)> {
     Some((row, said))
 }
 fn plan_call(seen: &mut Seen, r: &mut Rng, f: PlanFn, call: Call, room: Room) {
-    let before = Lists::new(r, room);
+    let before = Lists::new(r, room, 0);
     let mut after = before.clone();
-    let answer = f(&call, after.readings.lent(), after.work.lent(), after.figures.lent(), after.present.lent());
+    let answer = f(&call, after.readings[0].lent(), after.work.lent(), after.figures.lent(), after.present.lent());
     let wanted = match call.refusal(room) {
-        0 => Wanted { readings: call.readings(), rows: call.answers(), need: call.need(), ..Wanted::refused(0) },
-        number => Wanted { row: refused_row(&call, number), ..Wanted::refused(number) },
+        0 => Wanted { readings: [call.readings(), vec![]], rows: call.answers(), need: call.need(), ..Wanted::refused(0) },
+        number => Wanted { row: refused_row(call.rows(), call.trace.len() / 8, number), ..Wanted::refused(number) },
     };
     seen.maps.count(&[(call.trace.len() / 8, call.map())], wanted.number);
     seen.tell(plan_name(call.figure), call, &wanted, &answer, &before, &after);
@@ -235,7 +254,7 @@ fn windows_name(c: &windows::Call) -> &'static str {
     }
 }
 fn windows_call(seen: &mut Seen, r: &mut Rng, f: WindowsFn, call: windows::Call, room: Room) {
-    let before = Lists::new(r, room);
+    let before = Lists::new(r, room, 0);
     let mut after = before.clone();
     let answer = f(&call, after.work.lent(), after.figures.lent(), after.present.lent());
     let name = windows_name(&call);
@@ -245,12 +264,7 @@ fn windows_call(seen: &mut Seen, r: &mut Rng, f: WindowsFn, call: windows::Call,
     };
     seen.maps.count(&[(call.x.len(), call.map())], wanted.number);
     if wanted.number == 0 {
-        let (n, sizes) = (call.x.len(), seen.sizes.entry(name).or_default());
-        let edges = [("0", 0), ("1", 1), ("n", n), ("n + 1", n + 1), ("2^63", 1 << 63), ("2^64 - 1", usize::MAX)];
-        for (edge, _) in edges.iter().filter(|(_, size)| *size == call.size) {
-            *sizes.entry(edge).or_default() += 1;
-        }
-        *sizes.entry(if call.centre { "centred" } else { "trailing" }).or_default() += 1;
+        seen.count_size(name, call.x.len(), call.size, call.centre);
     }
     let bits = |v: &[f64]| v.iter().map(|v| v.to_bits()).collect::<Vec<u64>>();
     let (x, w) = (bits(&call.x[..call.x.len().min(400)]), call.weights.map(bits));
@@ -308,21 +322,108 @@ fn windows_limits(seen: &mut Seen, r: &mut Rng, fixed: Option<WindowsFn>, weight
     }
 }
 
+fn pairs_name(case: &pairs::Case) -> &'static str {
+    match (case.decodes(), case.figure) {
+        (true, PairFigure::Cov { .. }) => "pair-plan cov",
+        (true, PairFigure::Pearson) => "pair-plan pearson",
+        (false, PairFigure::Cov { .. }) => "pair-fixed cov",
+        (false, PairFigure::Pearson) => "pair-fixed pearson",
+    }
+}
+fn pairs_call(seen: &mut Seen, r: &mut Rng, f: PairsFn, case: &pairs::Case) {
+    let [first, second] = [&case.x, &case.y].map(|trace| if case.decodes() { trace.decoded } else { 0 });
+    let room = Room { readings: first, work: case.work, figures: case.figures, present: case.present };
+    let before = Lists::new(r, room, second);
+    let mut after = before.clone();
+    let readings = after.readings.each_mut().map(Guarded::lent);
+    let answer = f(case, readings, after.work.lent(), after.figures.lent(), after.present.lent());
+    let (name, number) = (pairs_name(case), case.refusal());
+    let mut wanted = Wanted::refused(number);
+    if number == 0 {
+        (wanted.rows, wanted.need) = (case.answers(), case.need());
+        let counts = seen.pairs.entry(name).or_default();
+        *counts.entry(case.mapped()).or_default() += 1;
+        *counts.entry("with a bad pair").or_default() += case.has_bad() as u64;
+    }
+    match &case.windows {
+        pairs::Windows::Fixed { size, centre } if number == 0 => seen.count_size(name, case.x.len(), *size, *centre),
+        pairs::Windows::Fixed { .. } => {}
+        pairs::Windows::Plan { .. } if number == 0 => wanted.readings = [case.x.readings(), case.y.readings()],
+        pairs::Windows::Plan { .. } => wanted.row = refused_row(case.rows(), case.x.len(), number),
+    }
+    seen.maps.count(&[(case.x.len(), case.x.map()), (case.y.len(), case.y.map())], number);
+    seen.tell(name, case, &wanted, &answer, &before, &after);
+}
+/// A random call on two traces, over a plan or fixed windows.
+fn any_pairs(seen: &mut Seen, r: &mut Rng, f: PairsFn, plan: bool) {
+    let (most, count) = match r.below(200) {
+        0 => (2000, 300),
+        1..=20 => (300, 24),
+        _ => (24, 24),
+    };
+    let mut case = if plan { pairs::Case::any_plan(r, most, count) } else { pairs::Case::any_fixed(r, most) };
+    for trace in [&mut case.x, &mut case.y] {
+        if trace.has_map {
+            trace.map = maps::lent(r, std::mem::take(&mut trace.map), trace.len());
+        }
+        *trace = std::mem::take(trace).shifted(r.below(8));
+    }
+    pairs_call(seen, r, f, &case);
+}
+/// 16,777,216 readings of both pass, and one more of either is 1, also where the lengths differ and a map is too short; as many rows of a
+/// plan pass and one more is 4.
+fn pairs_limits(seen: &mut Seen, r: &mut Rng, f: PairsFn, plan: bool) {
+    use pairs::{Case, Trace};
+    let x: Vec<f64> = (0..LIMIT + 1).map(|i| (i % 1000) as f64 - 400.0).collect();
+    let y: Vec<f64> = (0..LIMIT + 1).map(|i| (i % 977) as f64 * 0.5).collect();
+    let (ones, short) = (vec![0xFF; LIMIT / 8 + 64], vec![0xFF; LIMIT / 8]);
+    let far = [(0, 3), (2, 9), (LIMIT - 70, LIMIT - 60), (LIMIT - 65, LIMIT)];
+    for (figure, map) in [(PairFigure::Cov { ddof: 1 }, None), (PairFigure::Pearson, Some(&ones[..]))] {
+        for (n, x_map, m, y_map) in [
+            (LIMIT, None, LIMIT, map),
+            (LIMIT + 1, None, LIMIT + 1, map),
+            (LIMIT + 1, Some(&short[..]), LIMIT, None),
+            (3, Some(&[][..]), LIMIT + 1, Some(&short[..])),
+        ] {
+            let (x, y) = (Trace::new(&x[..n], x_map), Trace::new(&y[..m], y_map));
+            let mut case = if plan { Case::plan(figure, 1, x, y, &far) } else { Case::fixed(figure, 2, x, y, 4, map.is_some()) };
+            pairs_call(seen, r, f, &case);
+            if plan && n > m {
+                // 14 of the second trace before 1 of the first
+                case.y.edit().pop();
+                pairs_call(seen, r, f, &case);
+            }
+        }
+        if !plan {
+            let case = Case::fixed(figure, 2, Trace::new(&x[..LIMIT], None), Trace::new(&y[..LIMIT], None), usize::MAX, true);
+            pairs_call(seen, r, f, &Case { work: 4 * figure.entry(), ..case });
+            continue;
+        }
+        let step = LIMIT / 8;
+        let mut rows: Vec<(usize, usize)> = (0..LIMIT).map(|i| (i / step, i / step + 1 + i % step / (step / 2))).collect();
+        for _ in 0..2 {
+            pairs_call(seen, r, f, &Case::plan(figure, 1, Trace::new(&x[..9], None), Trace::new(&y[..9], None), &rows));
+            rows.push((9, 3));
+        }
+    }
+}
+
 fn main() {
     let demo = std::env::args().any(|a| a == "--demo");
     let nums: Vec<u64> = std::env::args().skip(1).filter_map(|a| a.parse().ok()).collect();
     let named: Vec<String> = std::env::args().skip(1).filter(|a| a != "--demo" && a.parse::<u64>().is_err()).collect();
     let [calls, seed] = nums[..] else {
-        eprintln!("usage: fuzz [--demo] CALLS SEED [plan] [fixed] [weighted]");
+        eprintln!("usage: fuzz [--demo] CALLS SEED [plan] [fixed] [weighted] [pair-plan] [pair-fixed]");
         std::process::exit(1);
     };
     let asked = if demo { Some(second::demo()) } else { second::second() };
-    let Some(Impl { plan, fixed, weighted }) = asked else {
+    let Some(Impl { plan, fixed, weighted, pairs }) = asked else {
         eprintln!("build with --features host, or give --demo");
         std::process::exit(1);
     };
     let mut kinds = vec!["plan", "fixed"];
     kinds.extend(weighted.map(|_| "weighted"));
+    kinds.extend(["pair-plan", "pair-fixed"]);
     if let Some(name) = named.iter().find(|n| !kinds.contains(&n.as_str())) {
         eprintln!("no calls of {name} here, only of {kinds:?}");
         std::process::exit(1);
@@ -335,16 +436,23 @@ fn main() {
         limits(&mut seen, &mut r, plan);
     }
     windows_limits(&mut seen, &mut r, fixed, weighted);
+    for kind in kinds.iter().filter(|kind| kind.starts_with("pair-")) {
+        pairs_limits(&mut seen, &mut r, pairs, *kind == "pair-plan");
+    }
     for i in 0..calls {
         match (kinds[i as usize % kinds.len()], fixed, weighted) {
             ("fixed", Some(f), _) => any_windows(&mut seen, &mut r, f, windows::Case::any),
             ("weighted", _, Some(f)) => any_windows(&mut seen, &mut r, f, windows::Case::any_weighted),
+            (kind @ ("pair-plan" | "pair-fixed"), _, _) => any_pairs(&mut seen, &mut r, pairs, kind == "pair-plan"),
             _ => any_plan(&mut seen, &mut r, plan),
         }
     }
-    println!("{:<16}{:>10}{:>10}  by number", "entry", "calls", "differing");
+    println!("{:<20}{:>10}{:>10}  by number", "entry", "calls", "differing");
     for (name, (calls, differing, numbers)) in &seen.calls {
-        println!("{name:<16}{calls:>10}{differing:>10}  {numbers:?}");
+        println!("{name:<20}{calls:>10}{differing:>10}  {numbers:?}");
+    }
+    for (name, counts) in &seen.pairs {
+        println!("accepted calls of {name} by their maps: {counts:?}");
     }
     for (name, sizes) in &seen.sizes {
         println!("accepted windows of {name}: {sizes:?}");

@@ -37,6 +37,34 @@ fn setting(f: Figure) -> String {
         Figure::Kurt { fisher, bias } => format!("fig=kurt ddof=0 biased={} fisher={}", bias as u8, fisher as u8),
     }
 }
+fn pair_setting(f: PairFigure) -> String {
+    match f {
+        PairFigure::Cov { ddof } => format!("fig=cov ddof={ddof}"),
+        PairFigure::Pearson => "fig=pearson ddof=0".into(),
+    }
+}
+/// A call on two traces as another language may make it: whole readings, decoded already.
+fn pair_record(r: &mut Rng, mut case: pairs::Case) -> String {
+    for trace in [&mut case.x, &mut case.y] {
+        trace.whole();
+        if trace.has_map {
+            trace.map = maps::lent(r, std::mem::take(&mut trace.map), trace.len());
+        }
+    }
+    let pairs::Case { figure, x, y, windows, min, work, figures, present } = &case;
+    let wide = |v: &[u32]| nums(&v.iter().map(|x| *x as usize).collect::<Vec<_>>());
+    let (kind, windows, rows_given) = match windows {
+        pairs::Windows::Plan { starts, ends } => ("pair-plan", String::new(), format!("starts={} ends={} ", wide(starts), wide(ends))),
+        pairs::Windows::Fixed { size, centre } => ("pair-fixed", format!("size={size} centre={} ", *centre as u8), String::new()),
+    };
+    let traces = [("x", x), ("y", y)].map(|(k, t)| format!("{k}={} {k}map={} ", list(&t.readings()), map(t.map()))).concat();
+    let answer = match case.refusal() {
+        0 => rows(&case.answers()),
+        number => format!("refusal={number} v= p="),
+    };
+    let setting = pair_setting(*figure);
+    format!("{kind} {setting} min={min} {windows}{traces}{rows_given}outv={figures} outp={present} work={work} => {answer}")
+}
 fn rows(v: &[Option<f64>]) -> String {
     let f: Vec<f64> = v.iter().map(|x| x.unwrap_or(0.0)).collect();
     let p: String = v.iter().map(|x| if x.is_some() { '1' } else { '0' }).collect();
@@ -223,18 +251,29 @@ fn record(r: &mut Rng, kind: &str) -> String {
             let (s, e) = offsets(i, size, n, centre);
             write!(o, "bounds size={size} centre={} n={n} i={i} => start={s} end={e}", centre as u8).unwrap();
         }
+        "pair-plan" => {
+            let case = pairs::Case::any_plan(r, 24, 16);
+            o = pair_record(r, case);
+        }
+        "pair-fixed" => {
+            let case = pairs::Case::any_fixed(r, 24);
+            o = pair_record(r, case);
+        }
         _ => panic!("unknown kind {kind}"),
     }
     o
 }
 
+const KINDS: [&str; 13] = [
+    "root", "new", "insert", "combine", "finalize", "whole", "range", "plan", "fixed", "weighted", "bounds", "pair-plan", "pair-fixed",
+];
 fn main() {
     let mut args = std::env::args().skip(1);
     let seed: u64 = args.next().map_or(1, |s| s.parse().unwrap());
     let count: usize = args.next().map_or(200, |s| s.parse().unwrap());
     let mut kinds: Vec<String> = args.collect();
     if kinds.is_empty() {
-        kinds = ["root", "new", "insert", "combine", "finalize", "whole", "range", "plan", "fixed", "weighted", "bounds"].iter().map(|s| s.to_string()).collect();
+        kinds = KINDS.iter().map(|s| s.to_string()).collect();
     }
     let mut out = std::io::BufWriter::new(std::io::stdout().lock());
     for k in kinds {

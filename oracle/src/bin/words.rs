@@ -109,9 +109,9 @@ enum Pair {
 fn list(words: Vec<u64>) -> Pair {
     Pair::List(words.len(), words)
 }
-/// A record of plan, fixed or weighted: the figure and the setting, whether a map is lent, the number, the doubles of work that
+/// A record of a call on windows: the figure and the setting, whether a map is lent, the number, the doubles of work that
 /// are free, then the pairs, then the lists.
-fn window_record(figure: [u64; 4], min: usize, has_map: bool, number: u32, free: usize, pairs: [Pair; 8]) -> Vec<u64> {
+fn window_record<const N: usize>(figure: [u64; 4], min: usize, has_map: bool, number: u32, free: usize, pairs: [Pair; N]) -> Vec<u64> {
     let mut words = figure.to_vec();
     words.extend([min as u64, has_map as u64, number as u64, free as u64]);
     // a record's words are counted from its length on: nine before these pairs
@@ -141,6 +141,14 @@ fn setting(figure: Figure) -> [u64; 4] {
         Figure::Kurt { fisher, bias } => [2, 0, bias as u64, fisher as u64],
     }
 }
+/// A trace's bytes, eight a word, lowest first.
+fn packed(trace: &[u8]) -> Pair {
+    let eight = |b: &[u8]| b.iter().rev().fold(0, |w, b| w << 8 | *b as u64);
+    Pair::List(trace.len(), trace.chunks(8).map(eight).collect())
+}
+fn wide(v: &[u32]) -> Vec<u64> {
+    v.iter().map(|x| *x as u64).collect()
+}
 fn plan_record(r: &mut Rng, case: &Case) -> Vec<u64> {
     let (call, room) = (case.call(), case.room);
     let mut lent = Lent::new(r, room);
@@ -154,10 +162,8 @@ fn plan_record(r: &mut Rng, case: &Case) -> Vec<u64> {
         }
         lent.answered(call.answers());
     }
-    let eight = |b: &[u8]| b.iter().rev().fold(0, |w, b| w << 8 | *b as u64);
-    let wide = |v: &[u32]| v.iter().map(|x| *x as u64).collect::<Vec<u64>>();
     let pairs = [
-        Pair::List(call.trace.len(), call.trace.chunks(8).map(eight).collect()),
+        packed(call.trace),
         list(bytes(Some(call.map))),
         list(wide(call.starts)),
         list(wide(call.ends)),
@@ -190,6 +196,54 @@ fn fixed_record(r: &mut Rng, case: &windows::Case) -> Vec<u64> {
     ];
     let figure = if call.weights.is_some() { [3, 0, 0, 0] } else { setting(call.figure) };
     window_record(figure, call.min, call.has_map, number, free, pairs)
+}
+/// A record of paired or paired_fixed: as those of one trace, with the second trace, its map and its readings behind the first's lists.
+fn pair_record(r: &mut Rng, case: &pairs::Case) -> Vec<u64> {
+    let [first, second] = [&case.x, &case.y].map(|trace| if case.decodes() { trace.decoded } else { 0 });
+    let room = Room { readings: first.max(second), work: case.work, figures: case.figures, present: case.present };
+    let mut lent = Lent::new(r, room);
+    let number = case.refusal();
+    let decoded = |trace: &pairs::Trace, places: usize| {
+        if !case.decodes() {
+            return Pair::Numbers(0, 0);
+        }
+        let mut readings = lent.held[..places].to_vec();
+        if number == 0 {
+            readings.iter_mut().zip(trace.readings()).for_each(|(to, x)| *to = canon(x));
+        }
+        list(readings)
+    };
+    let (x_readings, y_readings) = (decoded(&case.x, first), decoded(&case.y, second));
+    let mut free = 0;
+    if number == 0 {
+        free = case.need();
+        lent.answered(case.answers());
+    }
+    let (starts, ends) = match &case.windows {
+        pairs::Windows::Plan { starts, ends } => (list(wide(starts)), list(wide(ends))),
+        pairs::Windows::Fixed { size, centre } => (Pair::Numbers(0, 0), Pair::Numbers(*size, *centre as usize)),
+    };
+    let trace = |trace: &pairs::Trace| if case.decodes() { packed(trace.bytes()) } else { list(bits(&trace.readings())) };
+    let map = |trace: &pairs::Trace| list(bytes(Some(&trace.map)));
+    let pairs = [
+        trace(&case.x),
+        map(&case.x),
+        starts,
+        ends,
+        Pair::List(case.work, lent.held),
+        x_readings,
+        list(lent.figures),
+        list(lent.present),
+        trace(&case.y),
+        map(&case.y),
+        y_readings,
+    ];
+    let second = case.y.has_map as u64;
+    let figure = match case.figure {
+        PairFigure::Cov { ddof } => [0, ddof as u64, second, 0],
+        PairFigure::Pearson => [1, 0, second, 0],
+    };
+    window_record(figure, case.min, case.x.has_map, number, free, pairs)
 }
 
 /// The roots of a square a modulo 2^54 (a is 1 modulo 8), those from 2^53 up.
@@ -445,6 +499,8 @@ fn records(r: &mut Rng, kind: &str) -> Vec<Vec<u64>> {
                 out.push(fixed_record(r, &case));
             }
         }
+        "paired" => out.extend(pair_cases::plans(r).iter().map(|case| pair_record(r, case))),
+        "paired_fixed" => out.extend(pair_cases::fixed(r).iter().map(|case| pair_record(r, case))),
         "bounds" => {
             for (size, centre, n, i) in bounds(r) {
                 // past the last row the Rust is not asked: ours is empty there, at the end
@@ -457,7 +513,9 @@ fn records(r: &mut Rng, kind: &str) -> Vec<Vec<u64>> {
     out
 }
 
-const KINDS: [&str; 11] = ["root", "new", "insert", "combine", "finalize", "whole", "range", "plan", "fixed", "weighted", "bounds"];
+const KINDS: [&str; 13] = [
+    "root", "new", "insert", "combine", "finalize", "whole", "range", "plan", "fixed", "weighted", "bounds", "paired", "paired_fixed",
+];
 fn main() {
     let mut args = std::env::args().skip(1);
     let (Some(seed), Some(folder)) = (args.next().and_then(|s| s.parse::<u64>().ok()), args.next()) else {

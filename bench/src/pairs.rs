@@ -1,0 +1,103 @@
+//! Windows of two traces, plans and fixed ones, beside the oracle's Rust of the same account (`oracle::model`): the source has none. That
+//! Rust is lent what ours is lent, in lists of its own, and leaves a NaN the bits that it has.
+use crate::input::Input;
+use crate::measure::{Aim, Bench, Case};
+use crate::windows::{name, windows as fixed_windows, Lent, SIZES};
+use moments::{plan_pair_into, rolling_pair_into, Encoded, Lists, Plan, Window};
+use oracle::model::pairs_into;
+use oracle::second::pair_setting;
+use oracle::PairFigure;
+use std::hint::black_box;
+
+/// Correlation pays our root in every row.
+const FIGURES: [(&str, PairFigure, f64); 2] =
+    [("Covariance windows", PairFigure::Cov { ddof: 1 }, 1.0), ("Correlation windows", PairFigure::Pearson, 1.8)];
+
+/// What both are lent.
+struct Both {
+    rust: Lent,
+    ours: Lent,
+    second: Vec<f64>,
+}
+impl Both {
+    fn new(n: usize, readings: usize, work: usize) -> Self {
+        Both { rust: Lent::new(n, 0, work), ours: Lent::new(n, readings, work), second: vec![0.0; readings] }
+    }
+    fn compare(self) -> impl Iterator<Item = bool> {
+        let Lent { figures, present, .. } = self.rust;
+        self.ours.compare(figures.into_iter().zip(present).map(|(figure, present)| (present == 1).then_some(figure)).collect())
+    }
+}
+impl Input {
+    /// Without a map, with the first trace's, and with both.
+    fn pair_maps(&self) -> [([Option<&[u8]>; 2], &'static str); 3] {
+        let (x, y) = (Some(&self.map[..]), Some(&self.y_map[..]));
+        [([None, None], "no map"), ([x, None], "one map"), ([x, y], "both maps")]
+    }
+    fn rust(&self, maps: [Option<&[u8]>; 2], rows: impl Iterator<Item = (usize, usize)> + Clone, figure: PairFigure, lent: &mut Lent) {
+        let Lent { work, figures, present, .. } = lent;
+        let put = |i: usize, row: Option<f64>| (figures[i], present[i]) = (row.unwrap_or(0.0), row.is_some() as u8);
+        pairs_into([&self.x, &self.y], maps, rows, figure, 1, work, put, &mut ());
+    }
+}
+
+/// A figure with the section of its lines and the ratio that is aimed at.
+#[derive(Clone, Copy)]
+struct Asked {
+    section: &'static str,
+    figure: PairFigure,
+    aim: Aim,
+}
+
+pub fn windows(bench: &mut Bench, input: &Input) {
+    let encode = |trace: &[f64]| trace.iter().flat_map(|x| x.to_le_bytes()).collect::<Vec<u8>>();
+    let bytes = [encode(&input.x), encode(&input.y)];
+    let plans = SIZES.map(|size| (name(size), input.trailing(size))).into_iter().chain([("uneven".into(), input.uneven())]);
+    let plans: Vec<_> = plans.collect();
+    for (section, figure, most) in FIGURES {
+        let asked = Asked { section, figure, aim: Aim::AtMost(most) };
+        for (plan_name, (starts, ends)) in &plans {
+            of_plan(bench, input, &bytes, asked, plan_name, Plan::new(starts, ends));
+        }
+        SIZES.into_iter().flat_map(fixed_windows).for_each(|(window, name)| of_fixed(bench, input, asked, &name, window));
+    }
+}
+fn of_plan(bench: &mut Bench, input: &Input, [x, y]: &[Vec<u8>; 2], asked: Asked, plan_name: &str, plan: Plan<'_>) {
+    let (n, Asked { section, figure, aim }) = (input.n, asked);
+    let setting = pair_setting(figure, 1);
+    for (maps, tag) in input.pair_maps() {
+        bench.run(
+            Case { section, name: format!("plan {plan_name}, {tag}"), aim, n },
+            || Both::new(n, n, setting.work(plan.widest())),
+            |both| {
+                let rows = plan.starts.iter().zip(plan.ends).map(|(start, end)| (*start as usize, *end as usize));
+                black_box(input.rust(maps, rows, figure, &mut both.rust));
+            },
+            |Both { ours: Lent { readings, work, figures, present }, second, .. }| {
+                let x = Encoded { bytes: x, readings, map: maps[0] };
+                let y = Encoded { bytes: y, readings: second, map: maps[1] };
+                black_box(plan_pair_into(x, y, plan, setting, Lists { work, figures, present })).expect("accepted");
+            },
+            Both::compare,
+        );
+    }
+}
+fn of_fixed(bench: &mut Bench, input: &Input, asked: Asked, window_name: &str, window: Window) {
+    let (n, Asked { section, figure, aim }, Window { size, center }) = (input.n, asked, window);
+    let setting = pair_setting(figure, 1);
+    for (maps, tag) in input.pair_maps() {
+        bench.run(
+            Case { section, name: format!("fixed {window_name}, {tag}"), aim, n },
+            || Both::new(n, 0, setting.work(size.min(n))),
+            |both| {
+                let rows = (0..n).map(|i| oracle::offsets(i, size, n, center));
+                black_box(input.rust(maps, rows, figure, &mut both.rust));
+            },
+            |Both { ours: Lent { work, figures, present, .. }, .. }| {
+                let lists = Lists { work, figures, present };
+                black_box(rolling_pair_into(&input.x, maps[0], &input.y, maps[1], window, setting, lists)).expect("accepted");
+            },
+            Both::compare,
+        );
+    }
+}
