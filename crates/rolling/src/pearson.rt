@@ -7,6 +7,8 @@ ghost use Prim.Native.Nat.{_*_, _≤_, min};
 ghost use lib.ListN.{length};
 ghost use Rattle.trace.specs.Slices.{entering, leaving};
 ghost use Rattle.moment.specs.Pearson.{pearsonEmpty, pearsonNew, pearsonCombine};
+ghost use Rattle.trace.specs.Trace.{bothAt};
+ghost use Rattle.window.specs.Places.{chosenCount};
 ghost use Rattle.window.specs.Window.{orNan};
 ghost use Rattle.window.specs.Pairs.{pairing, pairPlaces, pairSeries};
 ghost use Rattle.window.specs.Code.Stacks.{answerBy, topOf, Flippable, Flipped, Appendable, Appended, Tallied};
@@ -178,8 +180,28 @@ impl PearsonMoment {
         Tally { valid, nonfinite }
     }
 
-    // The tally of places that leave a window with so many pairs that are not finite. Without any, and without a map of either trace,
-    // nothing is looked at.
+    fn count_valid(
+        x_has_map: bool,
+        x_map: &[u8],
+        y_has_map: bool,
+        y_map: &[u8],
+        a: usize,
+        b: usize,
+    ) -> usize
+        requires { ⌜ a ≤ b ⌝ }
+        ensures { λ r. ⌜ r ≡ chosenCount (bothAt «x_has_map» (entering «x_map») «y_has_map» (entering «y_map»)) a b ⌝ }
+    {
+        let mut valid: usize = 0;
+        let mut i = a;
+        while i < b {
+            valid += trace::both(x_has_map, x_map, y_has_map, y_map, i) as usize;
+            i += 1;
+        }
+        valid
+    }
+
+    // The tally of places that leave a window with so many pairs that are not finite. Without any, no pair is looked at; without a map
+    // of either trace, nothing is.
     fn tally_leaving(
         x: &[f64],
         x_has_map: bool,
@@ -202,6 +224,10 @@ impl PearsonMoment {
                     nonfinite: 0,
                 };
             }
+            return Tally {
+                valid: PearsonMoment::count_valid(x_has_map, x_map, y_has_map, y_map, a, b),
+                nonfinite: 0,
+            };
         }
         PearsonMoment::tally_range(x, x_has_map, x_map, y, y_has_map, y_map, a, b)
     }

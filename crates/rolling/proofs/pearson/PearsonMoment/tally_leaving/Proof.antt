@@ -21,12 +21,31 @@ returns c =
       nonfinite-is = sym (c .before .before .before .before .before .before .before .pre .none (c .before .before .if1 .taken));
     }
 
+count-valid-requires : tie.Need-count-valid-requires
+count-valid-requires c κs = search needs
+
+returns-2 : tie.Need-returns-2
+returns-2 c =
+    record {
+      valid-is = c .count-valid .ensures;
+      nonfinite-is = sym (c .before .before .before .before .before .before .before .before .pre .none
+          (c .before .before .before .if1 .taken));
+    }
+
 tally-range-requires : tie.Need-tally-range-requires
 tally-range-requires c κs = search needs
 
-returns-2 : tie.Need-returns-2
-returns-2 c = search needs
+returns-3 : tie.Need-returns-3
+returns-3 c = search needs
 
 pub tally-leaving-spec : {M : Type 1} → statement M
 tally-leaving-spec =
-    tie.close (tie.spec either-requires sub-t13 returns tally-range-requires returns-2)
+    tie.close
+    (tie.spec
+    either-requires
+    sub-t13
+    returns
+    count-valid-requires
+    returns-2
+    tally-range-requires
+    returns-3)
