@@ -1,5 +1,6 @@
-// Calls with fixed windows: one, of which all three demands speak, two of the same windows, setting and figure, of which the third does;
-// and with weights, of which the first two speak. Of two calls the law of maps speaks too, with weights as well.
+// Calls with fixed windows: one, of which all three demands speak, two of the same windows, setting and figure, of which the third does,
+// and those of two traces, as a host's; and with weights, of which the first two speak. Of two calls the law of maps speaks too, with
+// weights as well.
 ghost use Rattle.trace.specs.Slices.{entering};
 ghost use Rattle.trace.specs.Trace.{tracing};
 ghost use Rattle.window.specs.Pairs.{pairing};
