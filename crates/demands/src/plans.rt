@@ -1,6 +1,7 @@
 // Plan calls with the trace as doubles, which a program in Rattle makes: as a host's, with nothing to decode.
 ghost use Rattle.trace.specs.Trace.{tracing};
-ghost use Rattle.rolling.specs.Moments.{Variance, Skewness, Kurtosis};
+ghost use Rattle.window.specs.Pairs.{pairing};
+ghost use Rattle.rolling.specs.Moments.{Variance, Skewness, Kurtosis, Covariance, Correlation};
 ghost use Rattle.rolling.specs.Calls.{querying, lending};
 ghost use Rattle.demands.specs.Meets.{MeetsPlan, MeetTwoPlans};
 use crate::Numbers;
@@ -240,6 +241,193 @@ pub fn two_plans_kurtosis(
         y_work,
         y_figures,
         y_present,
+    );
+    Numbers { first, second }
+}
+
+pub fn plan_cov(
+    x: &[f64],
+    x_has_map: bool,
+    x_map: &[u8],
+    y: &[f64],
+    y_has_map: bool,
+    y_map: &[u8],
+    starts: &[u32],
+    ends: &[u32],
+    min_periods: usize,
+    ddof: u8,
+    work: &mut [f64],
+    figures: &mut [f64],
+    present: &mut [u8],
+) -> u32
+    ensures { λ r. ⌜ MeetsPlan (querying starts ends «min_periods» (Covariance ddof)) (pairing x «x_has_map» «x_map» y «y_has_map» «y_map»)
+        (lending work figures present) r ⌝ }
+{
+    rolling::plan_cov(
+        x,
+        x_has_map,
+        x_map,
+        y,
+        y_has_map,
+        y_map,
+        starts,
+        ends,
+        min_periods,
+        ddof,
+        work,
+        figures,
+        present,
+    )
+}
+
+pub fn two_plans_cov(
+    x: &[f64],
+    x_has_map: bool,
+    x_map: &[u8],
+    y: &[f64],
+    y_has_map: bool,
+    y_map: &[u8],
+    u: &[f64],
+    u_has_map: bool,
+    u_map: &[u8],
+    v: &[f64],
+    v_has_map: bool,
+    v_map: &[u8],
+    starts: &[u32],
+    ends: &[u32],
+    min_periods: usize,
+    ddof: u8,
+    work: &mut [f64],
+    figures: &mut [f64],
+    present: &mut [u8],
+    other_work: &mut [f64],
+    other_figures: &mut [f64],
+    other_present: &mut [u8],
+) -> Numbers
+    ensures { λ r. ⌜ MeetTwoPlans (querying starts ends «min_periods» (Covariance ddof))
+        (pairing x «x_has_map» «x_map» y «y_has_map» «y_map») (pairing u «u_has_map» «u_map» v «v_has_map» «v_map»)
+        (lending work figures present) (lending «other_work» «other_figures» «other_present») (r .first) (r .second) ⌝ }
+{
+    let first = rolling::plan_cov(
+        x,
+        x_has_map,
+        x_map,
+        y,
+        y_has_map,
+        y_map,
+        starts,
+        ends,
+        min_periods,
+        ddof,
+        work,
+        figures,
+        present,
+    );
+    let second = rolling::plan_cov(
+        u,
+        u_has_map,
+        u_map,
+        v,
+        v_has_map,
+        v_map,
+        starts,
+        ends,
+        min_periods,
+        ddof,
+        other_work,
+        other_figures,
+        other_present,
+    );
+    Numbers { first, second }
+}
+
+pub fn plan_pearson_corr(
+    x: &[f64],
+    x_has_map: bool,
+    x_map: &[u8],
+    y: &[f64],
+    y_has_map: bool,
+    y_map: &[u8],
+    starts: &[u32],
+    ends: &[u32],
+    min_periods: usize,
+    work: &mut [f64],
+    figures: &mut [f64],
+    present: &mut [u8],
+) -> u32
+    ensures { λ r. ⌜ MeetsPlan (querying starts ends «min_periods» Correlation) (pairing x «x_has_map» «x_map» y «y_has_map» «y_map»)
+        (lending work figures present) r ⌝ }
+{
+    rolling::plan_pearson_corr(
+        x,
+        x_has_map,
+        x_map,
+        y,
+        y_has_map,
+        y_map,
+        starts,
+        ends,
+        min_periods,
+        work,
+        figures,
+        present,
+    )
+}
+
+pub fn two_plans_pearson_corr(
+    x: &[f64],
+    x_has_map: bool,
+    x_map: &[u8],
+    y: &[f64],
+    y_has_map: bool,
+    y_map: &[u8],
+    u: &[f64],
+    u_has_map: bool,
+    u_map: &[u8],
+    v: &[f64],
+    v_has_map: bool,
+    v_map: &[u8],
+    starts: &[u32],
+    ends: &[u32],
+    min_periods: usize,
+    work: &mut [f64],
+    figures: &mut [f64],
+    present: &mut [u8],
+    other_work: &mut [f64],
+    other_figures: &mut [f64],
+    other_present: &mut [u8],
+) -> Numbers
+    ensures { λ r. ⌜ MeetTwoPlans (querying starts ends «min_periods» Correlation)
+        (pairing x «x_has_map» «x_map» y «y_has_map» «y_map») (pairing u «u_has_map» «u_map» v «v_has_map» «v_map»)
+        (lending work figures present) (lending «other_work» «other_figures» «other_present») (r .first) (r .second) ⌝ }
+{
+    let first = rolling::plan_pearson_corr(
+        x,
+        x_has_map,
+        x_map,
+        y,
+        y_has_map,
+        y_map,
+        starts,
+        ends,
+        min_periods,
+        work,
+        figures,
+        present,
+    );
+    let second = rolling::plan_pearson_corr(
+        u,
+        u_has_map,
+        u_map,
+        v,
+        v_has_map,
+        v_map,
+        starts,
+        ends,
+        min_periods,
+        other_work,
+        other_figures,
+        other_present,
     );
     Numbers { first, second }
 }

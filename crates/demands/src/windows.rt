@@ -1,8 +1,10 @@
-// Calls with fixed windows: one, of which all three demands speak, two of the same windows, setting and figure, of which the third does;
-// and with weights, of which the first two speak. Of two calls the law of maps speaks too, with weights as well.
+// Calls with fixed windows: one, of which all three demands speak, two of the same windows, setting and figure, of which the third does,
+// and those of two traces, as a host's; and with weights, of which the first two speak. Of two calls the law of maps speaks too, with
+// weights as well.
 ghost use Rattle.trace.specs.Slices.{entering};
 ghost use Rattle.trace.specs.Trace.{tracing};
-ghost use Rattle.rolling.specs.Moments.{Variance, Skewness, Kurtosis};
+ghost use Rattle.window.specs.Pairs.{pairing};
+ghost use Rattle.rolling.specs.Moments.{Variance, Skewness, Kurtosis, Covariance, Correlation};
 ghost use Rattle.rolling.specs.Calls.{lending};
 ghost use Rattle.weighted.specs.Weights.{lendingColumn};
 ghost use Rattle.demands.specs.Meets.{MeetsFixed, MeetTwoFixed, MeetsWeights, MeetTwoWeights};
@@ -243,6 +245,193 @@ pub fn two_rolling_kurtosis(
         y_work,
         y_figures,
         y_present,
+    );
+    Numbers { first, second }
+}
+
+pub fn rolling_cov(
+    x: &[f64],
+    x_has_map: bool,
+    x_map: &[u8],
+    y: &[f64],
+    y_has_map: bool,
+    y_map: &[u8],
+    window_size: usize,
+    min_periods: usize,
+    center: bool,
+    ddof: u8,
+    work: &mut [f64],
+    figures: &mut [f64],
+    present: &mut [u8],
+) -> u32
+    ensures { λ r. ⌜ MeetsFixed center «window_size» «min_periods» (Covariance ddof) (pairing x «x_has_map» «x_map» y «y_has_map» «y_map»)
+        (lending work figures present) r ⌝ }
+{
+    moments::moments_rolling_cov(
+        x,
+        x_has_map,
+        x_map,
+        y,
+        y_has_map,
+        y_map,
+        window_size,
+        min_periods,
+        center,
+        ddof,
+        work,
+        figures,
+        present,
+    )
+}
+
+pub fn two_rolling_cov(
+    x: &[f64],
+    x_has_map: bool,
+    x_map: &[u8],
+    y: &[f64],
+    y_has_map: bool,
+    y_map: &[u8],
+    u: &[f64],
+    u_has_map: bool,
+    u_map: &[u8],
+    v: &[f64],
+    v_has_map: bool,
+    v_map: &[u8],
+    window_size: usize,
+    min_periods: usize,
+    center: bool,
+    ddof: u8,
+    work: &mut [f64],
+    figures: &mut [f64],
+    present: &mut [u8],
+    other_work: &mut [f64],
+    other_figures: &mut [f64],
+    other_present: &mut [u8],
+) -> Numbers
+    ensures { λ r. ⌜ MeetTwoFixed center «window_size» «min_periods» (Covariance ddof)
+        (pairing x «x_has_map» «x_map» y «y_has_map» «y_map») (pairing u «u_has_map» «u_map» v «v_has_map» «v_map»)
+        (lending work figures present) (lending «other_work» «other_figures» «other_present») (r .first) (r .second) ⌝ }
+{
+    let first = moments::moments_rolling_cov(
+        x,
+        x_has_map,
+        x_map,
+        y,
+        y_has_map,
+        y_map,
+        window_size,
+        min_periods,
+        center,
+        ddof,
+        work,
+        figures,
+        present,
+    );
+    let second = moments::moments_rolling_cov(
+        u,
+        u_has_map,
+        u_map,
+        v,
+        v_has_map,
+        v_map,
+        window_size,
+        min_periods,
+        center,
+        ddof,
+        other_work,
+        other_figures,
+        other_present,
+    );
+    Numbers { first, second }
+}
+
+pub fn rolling_pearson_corr(
+    x: &[f64],
+    x_has_map: bool,
+    x_map: &[u8],
+    y: &[f64],
+    y_has_map: bool,
+    y_map: &[u8],
+    window_size: usize,
+    min_periods: usize,
+    center: bool,
+    work: &mut [f64],
+    figures: &mut [f64],
+    present: &mut [u8],
+) -> u32
+    ensures { λ r. ⌜ MeetsFixed center «window_size» «min_periods» Correlation (pairing x «x_has_map» «x_map» y «y_has_map» «y_map»)
+        (lending work figures present) r ⌝ }
+{
+    moments::moments_rolling_pearson_corr(
+        x,
+        x_has_map,
+        x_map,
+        y,
+        y_has_map,
+        y_map,
+        window_size,
+        min_periods,
+        center,
+        work,
+        figures,
+        present,
+    )
+}
+
+pub fn two_rolling_pearson_corr(
+    x: &[f64],
+    x_has_map: bool,
+    x_map: &[u8],
+    y: &[f64],
+    y_has_map: bool,
+    y_map: &[u8],
+    u: &[f64],
+    u_has_map: bool,
+    u_map: &[u8],
+    v: &[f64],
+    v_has_map: bool,
+    v_map: &[u8],
+    window_size: usize,
+    min_periods: usize,
+    center: bool,
+    work: &mut [f64],
+    figures: &mut [f64],
+    present: &mut [u8],
+    other_work: &mut [f64],
+    other_figures: &mut [f64],
+    other_present: &mut [u8],
+) -> Numbers
+    ensures { λ r. ⌜ MeetTwoFixed center «window_size» «min_periods» Correlation
+        (pairing x «x_has_map» «x_map» y «y_has_map» «y_map») (pairing u «u_has_map» «u_map» v «v_has_map» «v_map»)
+        (lending work figures present) (lending «other_work» «other_figures» «other_present») (r .first) (r .second) ⌝ }
+{
+    let first = moments::moments_rolling_pearson_corr(
+        x,
+        x_has_map,
+        x_map,
+        y,
+        y_has_map,
+        y_map,
+        window_size,
+        min_periods,
+        center,
+        work,
+        figures,
+        present,
+    );
+    let second = moments::moments_rolling_pearson_corr(
+        u,
+        u_has_map,
+        u_map,
+        v,
+        v_has_map,
+        v_map,
+        window_size,
+        min_periods,
+        center,
+        other_work,
+        other_figures,
+        other_present,
     );
     Numbers { first, second }
 }
