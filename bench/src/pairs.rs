@@ -1,5 +1,5 @@
 //! Windows of two traces, plans and fixed ones, beside the oracle's Rust of the same account (`oracle::model`): the source has none. That
-//! Rust is lent what ours is lent, in lists of its own, and leaves a NaN the bits that it has.
+//! Rust is lent what ours is lent, in lists of its own, decodes the bytes of a plan's traces too, and leaves a NaN the bits that it has.
 use crate::input::Input;
 use crate::measure::{Aim, Bench, Case};
 use crate::windows::{name, windows as fixed_windows, Lent, SIZES};
@@ -13,31 +13,43 @@ use std::hint::black_box;
 const FIGURES: [(&str, PairFigure, f64); 2] =
     [("Covariance windows", PairFigure::Cov { ddof: 1 }, 1.0), ("Correlation windows", PairFigure::Pearson, 1.8)];
 
-/// What both are lent.
+/// What each of the two is lent, with the list of the second trace's readings.
 struct Both {
-    rust: Lent,
-    ours: Lent,
-    second: Vec<f64>,
+    rust: (Lent, Vec<f64>),
+    ours: (Lent, Vec<f64>),
 }
 impl Both {
     fn new(n: usize, readings: usize, work: usize) -> Self {
-        Both { rust: Lent::new(n, 0, work), ours: Lent::new(n, readings, work), second: vec![0.0; readings] }
+        let lent = || (Lent::new(n, readings, work), vec![0.0; readings]);
+        Both { rust: lent(), ours: lent() }
     }
     fn compare(self) -> impl Iterator<Item = bool> {
-        let Lent { figures, present, .. } = self.rust;
-        self.ours.compare(figures.into_iter().zip(present).map(|(figure, present)| (present == 1).then_some(figure)).collect())
+        let Lent { figures, present, .. } = self.rust.0;
+        self.ours.0.compare(figures.into_iter().zip(present).map(|(figure, present)| (present == 1).then_some(figure)).collect())
     }
+}
+/// What a host in Rust does with the bytes of a trace.
+fn decode(bytes: &[u8], readings: &mut [f64]) {
+    let words = bytes.chunks_exact(8).map(|word| f64::from_le_bytes(word.try_into().expect("eight bytes")));
+    readings.iter_mut().zip(words).for_each(|(reading, x)| *reading = x);
+}
+type Maps<'a> = [Option<&'a [u8]>; 2];
+fn rust(
+    traces: [&[f64]; 2],
+    maps: Maps,
+    rows: impl Iterator<Item = (usize, usize)> + Clone,
+    figure: PairFigure,
+    lent: &mut Lent,
+) {
+    let Lent { work, figures, present, .. } = lent;
+    let put = |i: usize, row: Option<f64>| (figures[i], present[i]) = (row.unwrap_or(0.0), row.is_some() as u8);
+    pairs_into(traces, maps, rows, figure, 1, work, put, &mut ());
 }
 impl Input {
     /// Without a map, with the first trace's, and with both.
-    fn pair_maps(&self) -> [([Option<&[u8]>; 2], &'static str); 3] {
+    fn pair_maps(&self) -> [(Maps<'_>, &'static str); 3] {
         let (x, y) = (Some(&self.map[..]), Some(&self.y_map[..]));
         [([None, None], "no map"), ([x, None], "one map"), ([x, y], "both maps")]
-    }
-    fn rust(&self, maps: [Option<&[u8]>; 2], rows: impl Iterator<Item = (usize, usize)> + Clone, figure: PairFigure, lent: &mut Lent) {
-        let Lent { work, figures, present, .. } = lent;
-        let put = |i: usize, row: Option<f64>| (figures[i], present[i]) = (row.unwrap_or(0.0), row.is_some() as u8);
-        pairs_into([&self.x, &self.y], maps, rows, figure, 1, work, put, &mut ());
     }
 }
 
@@ -71,9 +83,14 @@ fn of_plan(bench: &mut Bench, input: &Input, [x, y]: &[Vec<u8>; 2], asked: Asked
             || Both::new(n, n, setting.work(plan.widest())),
             |both| {
                 let rows = plan.starts.iter().zip(plan.ends).map(|(start, end)| (*start as usize, *end as usize));
-                black_box(input.rust(maps, rows, figure, &mut both.rust));
+                let (lent, second) = &mut both.rust;
+                let mut first = std::mem::take(&mut lent.readings);
+                decode(x, &mut first);
+                decode(y, second);
+                rust([&first, second], maps, rows, figure, lent);
+                lent.readings = first;
             },
-            |Both { ours: Lent { readings, work, figures, present }, second, .. }| {
+            |Both { ours: (Lent { readings, work, figures, present }, second), .. }| {
                 let x = Encoded { bytes: x, readings, map: maps[0] };
                 let y = Encoded { bytes: y, readings: second, map: maps[1] };
                 black_box(plan_pair_into(x, y, plan, setting, Lists { work, figures, present })).expect("accepted");
@@ -91,9 +108,9 @@ fn of_fixed(bench: &mut Bench, input: &Input, asked: Asked, window_name: &str, w
             || Both::new(n, 0, setting.work(size.min(n))),
             |both| {
                 let rows = (0..n).map(|i| oracle::offsets(i, size, n, center));
-                black_box(input.rust(maps, rows, figure, &mut both.rust));
+                rust([&input.x, &input.y], maps, rows, figure, &mut both.rust.0);
             },
-            |Both { ours: Lent { work, figures, present, .. }, .. }| {
+            |Both { ours: (Lent { work, figures, present, .. }, _), .. }| {
                 let lists = Lists { work, figures, present };
                 black_box(rolling_pair_into(&input.x, maps[0], &input.y, maps[1], window, setting, lists)).expect("accepted");
             },
