@@ -208,8 +208,9 @@ pub extern "C" fn moments_plan_cov(
     figures: &mut [f64],
     present: &mut [u8],
 ) -> u32
-    ensures { λ r. ⌜ CallsBytes (querying starts ends «min_periods» (Covariance ddof)) (hostingPair x «x_has_map» «x_map» y «y_has_map» «y_map»)
-        (decodingPair «x_readings» «y_readings») (lending work figures present) r ⌝ }
+    ensures { λ r. ⌜ CallsBytes (querying starts ends «min_periods» (Covariance ddof))
+        (hostingPair x «x_has_map» «x_map» y «y_has_map» «y_map») (decodingPair «x_readings» «y_readings»)
+        (lending work figures present) r ⌝ }
 {
     if x.len() % 8 != 0 {
         return 14;
@@ -268,8 +269,9 @@ pub extern "C" fn moments_plan_pearson_corr(
     figures: &mut [f64],
     present: &mut [u8],
 ) -> u32
-    ensures { λ r. ⌜ CallsBytes (querying starts ends «min_periods» Correlation) (hostingPair x «x_has_map» «x_map» y «y_has_map» «y_map»)
-        (decodingPair «x_readings» «y_readings») (lending work figures present) r ⌝ }
+    ensures { λ r. ⌜ CallsBytes (querying starts ends «min_periods» Correlation)
+        (hostingPair x «x_has_map» «x_map» y «y_has_map» «y_map») (decodingPair «x_readings» «y_readings»)
+        (lending work figures present) r ⌝ }
 {
     if x.len() % 8 != 0 {
         return 14;
