@@ -50,8 +50,9 @@ abbrev By : (kind : Kind) → Host kind → Plan → ℕ → ℕ → ℕ → Boo
 By kind h p outputs width work short =
     planRefusal (givenRefusal kind (decodedOf kind h)) p (placesOf kind (decodedOf kind h)) short outputs width work
 
-module _ (kind : Kind) (h : Host kind) (p : Plan) {short : Bool} {n outputs outputs′ width work number wide given : ℕ} (whole : oddBytes kind h ≡ false)
-    (places-are : n ≡ placesOf kind (decodedOf kind h)) (given-is : given ≡ givenRefusal kind (decodedOf kind h)) (outputs-is : outputs ≡ outputs′)
+module _ (kind : Kind) (h : Host kind) (p : Plan) {short : Bool} {n outputs outputs′ width work number wide given : ℕ}
+    (whole : oddBytes kind h ≡ false) (places-are : n ≡ placesOf kind (decodedOf kind h))
+    (given-is : given ≡ givenRefusal kind (decodedOf kind h)) (outputs-is : outputs ≡ outputs′)
     (checks : Checks given p n short outputs width work number wide) where
   told : number ≡ By kind h p outputs′ width work short
   told = checks .number-is ∙ rw (given-is, outputs-is, places-are)

@@ -91,6 +91,7 @@ pub record CalledBytes (q : Query) (h : Host (kindOf (q .statistic))) (r₀ r₁
 abbrev pub hosting : Slice ℕ → Bool → Slice ℕ → ByteTrace
 hosting bytes has map = record { bytes = entering bytes; mapped = has; map = entering map }
 
+-- two traces of them
 abbrev pub hostingPair : Slice ℕ → Bool → Slice ℕ → Slice ℕ → Bool → Slice ℕ → BytePair
 hostingPair x hasX mapX y hasY mapY = record { x = hosting x hasX mapX; y = hosting y hasY mapY }
 

@@ -242,7 +242,7 @@ pub valid-in-both : validCount (seriesOf Pairs (both (mapped (1 ∷ 3 ∷ 5 ∷ 
 unfolding entriesFrom validAt bothAt
 valid-in-both = refl
 
--- ---- `AcceptedCall`, by each entry and for each figure
+-- ---- `AcceptedCall`, by each kind of call, and for each figure
 pub cov7-call : AcceptedCall (covarianceBy p7 1 1) pair7 cov7Left
 cov7-call = planCall cov7-accepted
 
@@ -372,6 +372,24 @@ either-map-counts all =
     (ones-places, λ i s e v. (refl, refl)) in
     let bits : _≡_ {A = ℕ} 0xBFC5555555555555 0xBFC5555555555556 = ap firstBits same in
     omega arith
+
+-- a map in the first trace of one pair and in the second of the other: both go by the rule for a map, and miss the same place
+abbrev firstMapped : TracePair
+firstMapped = both (mapped (0 ∷ 0 ∷ 0 ∷ 1 ∷ []) 13) (whole (0 ∷ 0 ∷ 1 ∷ 0 ∷ []))
+
+abbrev secondMapped : TracePair
+secondMapped = both (whole (0 ∷ 0 ∷ 0 ∷ 1 ∷ [])) (mapped (0 ∷ 0 ∷ 1 ∷ 0 ∷ []) 13)
+
+either-places : (i : ℕ) → i < 4 → seriesOf Pairs firstMapped .places .valid i ≡ seriesOf Pairs secondMapped .places .valid i
+unfolding validAt bothAt
+either-places zero h = refl
+either-places (suc zero) h = refl
+either-places (suc (suc zero)) h = refl
+either-places (suc (suc (suc zero))) h = refl
+either-places (suc (suc (suc (suc i)))) h = absurd (omega arith)
+
+pub alike-either-map : Alike Pairs firstMapped secondMapped
+alike-either-map = record { long = refl; places = either-places; mapped = refl }
 
 -- `Alike` is said of neither: a map in the second trace and none, and places that one second trace misses
 pub not-alike-pair-maps : Alike Pairs noMaps ones → ⊥

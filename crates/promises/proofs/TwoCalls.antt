@@ -1,6 +1,6 @@
--- The rows of two accepted calls that depend on the same are the same, for every figure: the law that demand 3, the statement for pairs of
--- traces and the law of maps cite. It is proved in a stronger form: where the same rows move both windows, which is so where both go by the
--- rule for a map or neither does. Assumes nothing.
+-- Two accepted calls have the same answers in every row in whose window they are given the same, for every figure: the law that demand 3,
+-- the statement for pairs of traces and the law of maps cite. It is proved in a stronger form: where the same rows move both windows, which
+-- is so where both go by the rule for a map or neither does. Assumes nothing.
 use Prim.Native.Nat.{ℕ, zero, suc, _-_, _≤_, _<_}
 use mathlib.Core.Path.{_≡_, refl, sym, _∙_}
 use mathlib.Core.Bool.{Bool, true, false, _||_}

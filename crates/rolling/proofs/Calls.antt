@@ -6,7 +6,6 @@ use mathlib.Core.List.{List}
 use borrow.Author.Tests.{ltb-false}
 use lib.Dec.{lit≤}
 use lib.ListN.{length}
-use Rattle.trace.specs.Refusals.{pairRefusal, tooMany}
 use Rattle.trace.proofs.Accepted.{none-of, not-refused, pair-fits}
 use Rattle.plan.specs.Plan.{Plan, rows}
 use Rattle.plan.specs.Bounds.{bounds}

@@ -9,7 +9,6 @@ use Rattle.float.specs.Operators.{zero64}
 use Rattle.moment.specs.declared.var_state.VarState.{VarState}
 use Rattle.moment.specs.declared.skew_state.SkewState.{SkewState}
 use Rattle.moment.specs.declared.kurtosis_state.KurtosisState.{KurtosisState}
-use Rattle.moment.specs.declared.cov_state.CovState.{CovState}
 use Rattle.moment.specs.declared.pearson_state.PearsonState.{PearsonState}
 use Rattle.moment.specs.declared.Figure.{Figure}
 use Rattle.moment.specs.declared.Figure.the-variants.{Missing, Present}
@@ -45,8 +44,8 @@ covariance = pairMoment covEmpty covNew covCombine
 abbrev pub correlation : Moment (Float × Float)
 correlation = pairMoment pearsonEmpty pearsonNew pearsonCombine
 
--- "Covariance is missing when the valid count is at most ddof, correlation when it is 0": the weight is the valid count. A `finalize` that is
--- NaN is present
+-- "Covariance is missing when the valid count is at most ddof, correlation when it is 0": the weight is the valid count. A `finalize` that
+-- is NaN is present
 abbrev pub correlationFinalize : PearsonState → Figure
 correlationFinalize s = cond (eq (s .weight) zero64) Missing (Present (pearsonFinalize s))
 

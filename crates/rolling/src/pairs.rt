@@ -15,6 +15,7 @@ pub(crate) fn is_finite(x: f64, y: f64) -> bool
     false
 }
 
+// Whether both traces have place i, and a member there is not finite.
 pub(crate) fn is_nonfinite(
     x: &[f64],
     x_has_map: bool,

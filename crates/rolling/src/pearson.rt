@@ -180,6 +180,7 @@ impl PearsonMoment {
         Tally { valid, nonfinite }
     }
 
+    // How many places from a up to b both traces have: no pair is looked at.
     fn count_valid(
         x_has_map: bool,
         x_map: &[u8],

@@ -4,7 +4,7 @@ use Prim.Native.Nat.{ℕ, suc, _+_, _-_, _*_, _≤_, _<_}
 use mathlib.Core.Path.{_≡_, refl, sym, ap, _∙_}
 use mathlib.Core.Bool.{Bool, true, false, not, _||_, true≢false}
 use mir.Val.{boolByte}
-use mathlib.Core.List.{List, [], _∷_, _++_}
+use mathlib.Core.List.{List, [], _∷_}
 use native.Mathlib.Nat.{mul-suc, add-zero, zero-add}
 use native.Mathlib.Numerals.{add-one}
 use native.Mathlib.Omega.{arith}
@@ -17,7 +17,8 @@ use Rattle.window.specs.Places.{Series, validCount}
 use Rattle.window.specs.Pairs.{pairOf, finitePair, insertedPair, nonfinitePair, pairSeries}
 use Rattle.window.specs.Code.Memory.{PairStates, ofPairs, pair, inMemory}
 use Rattle.window.specs.Code.Stacks.{Flippable, Flipped, Appendable, Appended}
-use Rattle.window.proofs.Stacks.{memory-length, Flip, flip-start, flip-turn, flip-done, Append, append-start, append-room, append-nonfinite-le, append-hit, append-miss, append-done}
+use Rattle.window.proofs.Stacks.{memory-length, Flip, flip-start, flip-turn, flip-done, Append, append-start, append-room}
+use Rattle.window.proofs.Stacks.{append-nonfinite-le, append-hit, append-miss, append-done}
 
 -- without a map of either every place is valid
 pub unmapped-both : (has has' : Bool) (map map' : List ℕ) → (has || has') ≡ false → (i : ℕ) → bothAt has map has' map' i ≡ true
@@ -57,7 +58,12 @@ module _ (m : PairStates) (l₀ : List Float) (base n : ℕ) where
 
     pub flipping-start : (agg : m .moment .State) → agg ≡ m .moment .empty → Flipping l₀ agg 0 n
     flipping-start agg e =
-        record { low = omega arith; place = zero-add (W * n); same = refl; each = λ B s. flip-start (ofPairs m) l₀ base n B (many B s) agg e }
+        record {
+          low = omega arith;
+          place = zero-add (W * n);
+          same = refl;
+          each = λ B s. flip-start (ofPairs m) l₀ base n B (many B s) agg e;
+        }
 
     next-place : (at j : ℕ) → at + W * suc j ≡ W * n → at + W + W * j ≡ W * n
     next-place at j e = let p = simp mul-suc at e in omega arith
@@ -103,8 +109,8 @@ module _ (m : PairStates) (has : Bool) (map : List ℕ) (xs : List Float) (has' 
     pub appending-nonfinite : nonfinite ≤ nonfinite₀ + (i - a)
     appending-nonfinite = append-nonfinite-le (ofPairs m) t l₀ n nonfinite₀ s₀ a e p more fits
 
-    hit : bothAt has map has' map' i ≡ true → (x y : Float) → (x, y) ≡ insertedPair xs ys i → (u : m .moment .State) → u ≡ m .moment .insert s (x, y)
-        → (b : Bool) → finitePair (pairOf xs ys i) ≡ b → (k : ℕ) → k ≡ nonfinite + boolByte (not b)
+    hit : bothAt has map has' map' i ≡ true → (x y : Float) → (x, y) ≡ insertedPair xs ys i → (u : m .moment .State)
+        → u ≡ m .moment .insert s (x, y) → (b : Bool) → finitePair (pairOf xs ys i) ≡ b → (k : ℕ) → k ≡ nonfinite + boolByte (not b)
         → Appending (set (set l (2 * many) x) (2 * many + 1) y) (many + 1) k u (i + 1)
     unfolding nonfinitePair
     hit v x y f u g b c k d =

@@ -103,7 +103,8 @@ pub record Driven (r : Rows) (n : ℕ) (starts ends : List ℕ) (outputs width w
   pub few : n ≤ 16777216
 
 -- row k's answer, over n places
-abbrev pub rowAnswer : {A : Type 0} → (M : Stored Float A) → (M .moment .State → Figure) → Series A → ℕ → Rows → List ℕ → List ℕ → ℕ → Figure
+abbrev pub rowAnswer : {A : Type 0} → (M : Stored Float A) → (M .moment .State → Figure) → Series A → ℕ → Rows → List ℕ → List ℕ
+    → ℕ → Figure
 rowAnswer M final t n r starts ends k = answerAt (M .moment) final t (r .«min_periods») (planBy r n starts ends) k
 
 -- where the rows from `first` up to `until` may be worked

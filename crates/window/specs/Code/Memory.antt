@@ -32,7 +32,13 @@ reading = record { width = 1; store = λ x. x ∷ []; load = λ l. getD l 0 nan;
 -- two doubles are one pair
 abbrev pub pair : Layout Float (Float × Float)
 pair =
-    record { width = 2; store = λ p. p .0 ∷ p .1 ∷ []; load = λ l. (getD l 0 nan, getD l 1 nan); stored = λ p. refl; loaded = λ p rest. refl }
+    record {
+      width = 2;
+      store = λ p. p .0 ∷ p .1 ∷ [];
+      load = λ l. (getD l 0 nan, getD l 1 nan);
+      stored = λ p. refl;
+      loaded = λ p rest. refl;
+    }
 
 -- a moment with how its states lie on the front stack
 pub record States (A : Type 0) : Type 1 where

@@ -25,7 +25,8 @@ returns c =
 
 rows-requires : tie.Need-rows-requires
 rows-requires c κs =
-    let g = c .before .before .before .before .before .before .before .before .before .before .before .before .before .before .before .before .before .args in
+    let g = c .before .before .before .before .before .before .before .before .before .before .before .before .before .before
+    .before .before .before .args in
     let t : TracePair = record {
       x = traceOf (g .x .now) (g .x-has-map) (g .x-map .now);
       y = traceOf (g .y .now) (g .y-has-map)
@@ -46,7 +47,10 @@ same-length-3 c = search needs
 
 returns-2 : tie.Need-returns-2
 returns-2 c =
-    plan-called _ _ _ (c .before .before .before .before .before .before .before .before .before .before .before .before .before .before .pair-refusal .ensures) (c .before .before .before .before .before .before .before .before .before .before .before .before .before .shorter .ensures) (c .before .before .before .before .before .before .before .before .before .before .before .before .plan-refusal .ensures .number-is)
+    plan-called _ _ _ (c .before .before .before .before .before .before .before .before .before .before .before .before .before
+    .before .pair-refusal .ensures)
+    (c .before .before .before .before .before .before .before .before .before .before .before .before .before .shorter .ensures)
+    (c .before .before .before .before .before .before .before .before .before .before .before .before .plan-refusal .ensures .number-is)
     (c .before .before .before .before .before .before .before .before .before .before .if1 .left)
     (c .before .before .before .before .before .before .rows .ensures)
 

@@ -38,7 +38,8 @@ slice-aggregate-rows-2 c = search needs
 
 rows-requires : tie.Need-rows-requires
 rows-requires c κs =
-    let g = c .before .before .before .before .before .before .before .before .before .before .before .before .before .before .before .before .before .before .args in
+    let g = c .before .before .before .before .before .before .before .before .before .before .before .before .before .before
+    .before .before .before .before .args in
     let t : TracePair = record {
       x = traceOf (g .x .now) (g .x-has-map) (g .x-map .now);
       y = traceOf (g .y .now) (g .y-has-map)
@@ -65,7 +66,12 @@ same-length-3 c = search needs
 returns-2 : tie.Need-returns-2
 returns-2 c =
     fixed-called _ _ _ _ _ _
-    (c .before .before .before .before .before .before .before .before .before .before .before .before .before .before .before .before .before .pair-refusal .ensures) (c .before .before .before .before .before .before .before .before .before .before .before .before .before .before .before .before .shorter .ensures) (c .before .before .before .before .before .before .before .before .before .before .before .before .before .before .before .fixed-refusal .ensures .number-is)
+    (c .before .before .before .before .before .before .before .before .before .before .before .before .before .before .before
+    .before .before .pair-refusal .ensures)
+    (c .before .before .before .before .before .before .before .before .before .before .before .before .before .before .before
+    .before .shorter .ensures)
+    (c .before .before .before .before .before .before .before .before .before .before .before .before .before .before
+    .before .fixed-refusal .ensures .number-is)
     _ _ (c .before .before .before .before .before .before .before .before .before .before .before .before .right-window .ensures .0)
     (c .before .before .before .before .before .before .before .before .before .before .before .before .before .if1 .left)
     (c .before .before .before .before .before .before .rows .ensures)

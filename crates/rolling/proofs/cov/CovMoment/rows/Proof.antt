@@ -21,8 +21,10 @@ how-many-requires c κs = search needs
 
 block-requires : tie.Need-block-requires
 block-requires c κs =
-    let g = c .before .before .before .before .before .before .before .before .before .before .before .before .before .before .before .args in
-    let p = c .before .before .before .before .before .before .before .before .before .before .before .before .before .before .before .pre in
+    let g = c .before .before .before .before .before .before .before .before .before .before .before .before .before .before
+    .before .args in
+    let p = c .before .before .before .before .before .before .before .before .before .before .before .before .before .before
+    .before .pre in
     let u = c .before .before .before .how-many .ensures
     ∙ many-rows (g .rows) (length (g .x .now)) (g .starts .now) (g .ends .now) in (
       p .0,
@@ -41,8 +43,10 @@ same-length-3 c = search needs
 
 returns : tie.Need-returns
 returns c =
-    let g = c .before .before .before .before .before .before .before .before .before .before .before .before .before .before .before .before .before .before .before .before .before .before .args in
-    let d = c .before .before .before .before .before .before .before .before .before .before .before .before .before .before .before .before .before .before .before .before .before .before .pre .1 in
+    let g = c .before .before .before .before .before .before .before .before .before .before .before .before .before .before
+    .before .before .before .before .before .before .before .before .args in
+    let d = c .before .before .before .before .before .before .before .before .before .before .before .before .before .before
+    .before .before .before .before .before .before .before .before .pre .1 in
     let u = c .before .before .before .before .before .before .before .before .before .before .how-many .ensures
     ∙ many-rows (g .rows) (length (g .x .now)) (g .starts .now) (g .ends .now) in
     let v = c .before .before .before .before .before .before .block .ensures in

@@ -1,6 +1,5 @@
 -- Row after row the window holds the account, and the lists its answers. Assumes nothing.
 use Prim.Native.Nat.{_-_}
-use mathlib.Core.Path.{sym}
 use native.Mathlib.Omega.{arith}
 use lib.ListN.{length}
 use Rattle.rolling.specs.Moments.{correlationFinalize}

@@ -10,7 +10,8 @@ use Rattle.rolling.proofs.pearson.PearsonMoment.trim.Tie as tie
 
 tally-below-requires : tie.Need-tally-below-requires
 tally-below-requires c κs =
-    let p = c .before .before .before .before .before .before .before .pre in record { starts = p .starts; inside = p .start-in; counted = p .held .numbers }
+    let p = c .before .before .before .before .before .before
+    .before .pre in record { starts = p .starts; inside = p .start-in; counted = p .held .numbers }
 
 trimmed-requires : tie.Need-trimmed-requires
 trimmed-requires c κs =
@@ -36,7 +37,9 @@ same-length c = search needs
 returns : tie.Need-returns
 returns c =
     trim-flips pearsonStored _
-    (c .before .before .before .before .before .before .before .before .before .before .before .before .before .before .before .before .pre) (trims (c .before .before .before .before .before .before .before)) (c .before .before .before .before .before .if1 .taken) (c .before .before .before .flip .ensures) (c .empty .ensures)
+    (c .before .before .before .before .before .before .before .before .before .before .before .before .before .before .before
+    .before .pre) (trims (c .before .before .before .before .before .before .before))
+    (c .before .before .before .before .before .if1 .taken) (c .before .before .before .flip .ensures) (c .empty .ensures)
 
 empty-requires-2 : tie.Need-empty-requires-2
 empty-requires-2 c κs = search needs
