@@ -42,7 +42,7 @@ def layer(place):
     return max(0, min(parted, 48) - 2 * max(0, place - MENDED))
 
 
-def chamber():
+def pairs():
     """Hundredths of a degree on the floor and on the top shelf, hour by hour."""
     draw, shared = noise(2), 0
     for place in range(HOURS):
@@ -63,7 +63,7 @@ LOOSE = {hour(18, 6, 15) + since: "nan" if since % 3 else "inf" for since in ran
 
 
 if __name__ == "__main__":
-    floor, shelf = zip(*chamber())
+    floor, shelf = zip(*pairs())
     write({
         "floor.csv": trace(START, floor, noise(31), FLOOR_GAPS, LOOSE),
         "top_shelf.csv": trace(START, shelf, noise(32), SHELF_GAPS, {}),

@@ -41,8 +41,8 @@ fn by_hand(r: &mut Rng) -> Vec<Case> {
     let mut v = Vec::new();
     let h = 1.7e308;
     // an overflow, and pairs with a bad member, left behind by a gap
-    let far = [h, -h, h, 1.0, 2.0, 4.0, 9.0, NAN, 1.0, 3.0, 5.0, 8.0];
-    let floor = [1.0, h, -h, 2.0, 7.0, 3.0, INF, 1.0, -INF, 3.0, 1.0, 4.0];
+    let huge = [h, -h, h, 1.0, 2.0, 4.0, 9.0, NAN, 1.0, 3.0, 5.0, 8.0];
+    let other = [1.0, h, -h, 2.0, 7.0, 3.0, INF, 1.0, -INF, 3.0, 1.0, 4.0];
     let gaps = [(0, 3), (1, 3), (3, 6), (4, 9), (9, 11), (9, 12)];
     let (x, y) = (any(r, 9), any(r, 9));
     for f in BOTH {
@@ -65,10 +65,10 @@ fn by_hand(r: &mut Rng) -> Vec<Case> {
         v.push(plan(1, without(&[1.0, 2.0, 3.0, 4.0]), without(&[8.0, 6.0, 4.0, 2.0]), &[(0, 2), (0, 4), (2, 4)]));
         // no spread in one trace: correlation is present and NaN
         v.push(plan(1, without(&[2.0; 4]), without(&x[..4]), &[(0, 2), (0, 4), (3, 4)]));
-        v.push(plan(1, without(&far), without(&floor), &gaps));
-        v.push(plan(1, with(&far, &[0x7F, 0x0F]), without(&floor), &gaps));
-        v.push(plan(1, without(&far), with(&floor, &[0xBF, 0x0E]), &gaps));
-        v.push(plan(1, with(&far, &[0x7F, 0x0F]), with(&floor, &[0xBF, 0x0E]), &gaps));
+        v.push(plan(1, without(&huge), without(&other), &gaps));
+        v.push(plan(1, with(&huge, &[0x7F, 0x0F]), without(&other), &gaps));
+        v.push(plan(1, without(&huge), with(&other, &[0xBF, 0x0E]), &gaps));
+        v.push(plan(1, with(&huge, &[0x7F, 0x0F]), with(&other, &[0xBF, 0x0E]), &gaps));
         // a place is valid where both have it: no place has both, or some
         v.push(plan(1, with(&x, &[0x55, 1]), with(&y, &[0xAA, 0]), &[(0, 4), (2, 9)]));
         v.push(plan(1, with(&x, &[0x5F, 1]), with(&y, &[0xFA, 1]), &[(0, 4), (2, 9), (3, 9)]));

@@ -1,4 +1,5 @@
-// Replays the answers of the Rust, stored in data/, and says for each kind how many agree.
+// Replays the answers of the Rust, and of pairs those of the account over its states, stored in data/, and says for each kind how many
+// agree.
 //
 // The lists were made by `words 1 crates/vectors/data` of oracle/ (seed 1), whose FORMAT.md, 'Word
 // lists', has the form; that command makes them again. What a call of C's reads is not known to a
