@@ -44,19 +44,33 @@ InsertsCount {S} {A} weight insert = (xs : List A) (s : S) (a : ℕ) → weight 
 abbrev pub CombineCounts : {S : Type 0} → (S → Float) → (S → S → S) → Type 0
 CombineCounts {S} weight combine = (s o : S) (a b : ℕ) → a ≤ 2 ^ 53 → b ≤ 2 ^ 53 → weight s ≡ ofNat64 a → weight o ≡ ofNat64 b → weight (combine s o) ≡ ofNat64 (a + b)
 
-module _ {S A : Type 0} (weight : S → Float) (insert : S → A → S) (raises : (s : S) (x : A) → weight (insert s x) ≡ weight s ⊕ one64) where
+-- an insert raises a weight that counts by one
+abbrev pub OneMore : {S A : Type 0} → (S → Float) → (S → A → S) → Type 0
+OneMore {S} {A} weight insert = (s : S) (x : A) (n : ℕ) → n < 2 ^ 53 → weight s ≡ ofNat64 n → weight (insert s x) ≡ ofNat64 (n + 1)
+
+-- so does one that raises every weight by 1.0 ..
+pub raising : {S A : Type 0} (weight : S → Float) (insert : S → A → S) → ((s : S) (x : A) → weight (insert s x) ≡ weight s ⊕ one64)
+    → OneMore weight insert
+raising weight insert raises s x n h e = raises s x ∙ raised _ n h e
+
+-- .. and one that combines with a state of weight one
+pub combining : {S A : Type 0} (weight : S → Float) (combine : S → S → S) (new : A → S) → CombineCounts weight combine
+    → ((x : A) → weight (new x) ≡ ofNat64 1) → OneMore weight (λ s x. combine s (new x))
+combining weight combine new adds one s x n h e = adds s (new x) n 1 (omega arith) (omega arith) e (one x)
+
+module _ {S A : Type 0} (weight : S → Float) (insert : S → A → S) (more : OneMore weight insert) where
   -- n entries put into a state of weight a give one of weight a + n
   pub inserts-count : InsertsCount weight insert
   inserts-count [] s a e h = e ∙ ap ofNat64 (sym (add-zero a))
   inserts-count (x ∷ xs) s a e h =
-      inserts-count xs (insert s x) (a + 1) (raises s x ∙ raised _ a (omega arith) e) (omega arith)
+      inserts-count xs (insert s x) (a + 1) (more s x a (omega arith) e) (omega arith)
       ∙ ap ofNat64 (let k : a + 1 + length xs ≡ a + suc (length xs) = omega arith in k)
 
   -- the same in falling order
   pub falls-count : (xs : List A) (s : S) → weight s ≡ ofNat64 0 → length xs ≤ 2 ^ 53 → weight (foldr (λ x t. insert t x) s xs) ≡ ofNat64 (length xs)
   falls-count [] s e h = e
   falls-count (x ∷ xs) s e h =
-      raises _ x ∙ raised _ (length xs) (omega arith) (falls-count xs s e (omega arith))
+      more _ x (length xs) (omega arith) (falls-count xs s e (omega arith))
       ∙ ap ofNat64 (let k : length xs + 1 ≡ suc (length xs) = omega arith in k)
 
   -- a window: one part inserted in rising order, combined with another inserted in falling order
@@ -135,22 +149,27 @@ pub var-raises : (s : VarState) (x : Float) → varInsert s x .weight ≡ s .wei
 var-raises s x = var-cleared _
 
 pub var-inserts-count : InsertsCount varWeight varInsert
-var-inserts-count = inserts-count varWeight varInsert var-raises
+var-inserts-count = inserts-count varWeight varInsert (raising varWeight varInsert var-raises)
 
 pub skew-raises : (s : SkewState) (x : Float) → skewInsert s x .weight ≡ s .weight ⊕ one64
 skew-raises s x = skew-cleared _
 
 pub skew-inserts-count : InsertsCount skewWeight skewInsert
-skew-inserts-count = inserts-count skewWeight skewInsert skew-raises
+skew-inserts-count = inserts-count skewWeight skewInsert (raising skewWeight skewInsert skew-raises)
 
 pub kurtosis-inserts-count : InsertsCount kurtosisWeight kurtosisInsert
-kurtosis-inserts-count = inserts-count kurtosisWeight kurtosisInsert (λ s x. kurtosis-cleared _)
+kurtosis-inserts-count =
+    inserts-count kurtosisWeight kurtosisInsert (raising kurtosisWeight kurtosisInsert (λ s x. kurtosis-cleared _))
 
 pub cov-inserts-count : InsertsCount covWeight (λ s (p : Float × Float). covInsert s (p .0) (p .1))
-cov-inserts-count = inserts-count covWeight (λ s p. covInsert s (p .0) (p .1)) (λ s p. refl)
+cov-inserts-count =
+    inserts-count covWeight (λ s p. covInsert s (p .0) (p .1))
+    (raising covWeight (λ s (p : Float × Float). covInsert s (p .0) (p .1)) (λ s p. refl))
 
 pub pearson-inserts-count : InsertsCount pearsonWeight (λ s (p : Float × Float). pearsonInsert s (p .0) (p .1))
-pearson-inserts-count = inserts-count pearsonWeight (λ s p. pearsonInsert s (p .0) (p .1)) (λ s p. refl)
+pearson-inserts-count =
+    inserts-count pearsonWeight (λ s p. pearsonInsert s (p .0) (p .1))
+    (raising pearsonWeight (λ s (p : Float × Float). pearsonInsert s (p .0) (p .1)) (λ s p. refl))
 
 -- ---- `combine` adds counts
 pub var-combine-count : CombineCounts varWeight varCombine
@@ -159,7 +178,7 @@ var-combine-count s o a b h k p q = merged-count varWeight s o (varMerge s o) a 
 
 pub var-parts-count : (xs ys : List Float) → length xs + length ys ≤ 2 ^ 53
     → varCombine (foldl varInsert varEmpty xs) (foldr (λ x s. varInsert s x) varEmpty ys) .weight ≡ ofNat64 (length xs + length ys)
-var-parts-count = parts-count varWeight varInsert var-raises varCombine var-combine-count varEmpty zero-is
+var-parts-count = parts-count varWeight varInsert (raising varWeight varInsert var-raises) varCombine var-combine-count varEmpty zero-is
 
 pub skew-combine-count : CombineCounts skewWeight skewCombine
 unfolding skewCombine

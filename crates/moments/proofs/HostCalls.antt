@@ -18,10 +18,10 @@ use Rattle.trace.proofs.Accepted.{pair-fits}
 use Rattle.plan.specs.Plan.{Plan}
 use Rattle.plan.specs.Refusals.{planRefusal}
 use Rattle.plan.specs.Code.Accepted.{Checks}
+use Rattle.plan.proofs.Plans.{neither}
 use Rattle.window.specs.Given.{Kind, Readings, Pairs, placesOf, givenRefusal}
 use Rattle.window.specs.Outputs.{Lent, filled}
 use Rattle.rolling.specs.Calls.{Query, GivenTo, Called}
-use Rattle.rolling.proofs.Calls.{neither}
 use Rattle.moments.specs.HostCall.{ByteTrace, readingCount, decoded, BytePair, Host, decodedOf, oddBytes}
 
 -- 14 before all

@@ -52,6 +52,7 @@ decodedOf Pairs t = record { x = decoded (t .x); y = decoded (t .y) }
 abbrev pub noWhole : ByteTrace → Bool
 noWhole t = not (eqb (length (t .bytes) % 8) 0)
 
+-- by the kind: of two traces "14 where either trace's bytes are no whole readings" (ABI.md)
 abbrev pub oddBytes : (kind : Kind) → Host kind → Bool
 oddBytes Readings t = noWhole t
 oddBytes Pairs t = noWhole (t .x) || noWhole (t .y)
@@ -65,6 +66,7 @@ ReadingLists Pairs = List Float × List Float
 abbrev pub shortList : ByteTrace → List Float → Bool
 shortList t l = ltb (length l) (readingCount t)
 
+-- by the kind: of two traces "either reading list"
 abbrev pub shortLists : (kind : Kind) → Host kind → ReadingLists kind → Bool
 shortLists Readings t l = shortList t l
 shortLists Pairs t l = shortList (t .x) (l .0) || shortList (t .y) (l .1)
@@ -74,6 +76,7 @@ shortLists Pairs t l = shortList (t .x) (l .0) || shortList (t .y) (l .1)
 abbrev pub decodedList : ℕ → ByteTrace → List Float → List Float
 decodedList number t l = filled number (readingAt (t .bytes)) (readingCount t) l
 
+-- by the kind: of two traces each into its own list
 abbrev pub decodedLists : (kind : Kind) → ℕ → Host kind → ReadingLists kind → ReadingLists kind
 decodedLists Readings number t l = decodedList number t l
 decodedLists Pairs number t l = (decodedList number (t .x) (l .0), decodedList number (t .y) (l .1))
@@ -91,7 +94,7 @@ pub record CalledBytes (q : Query) (h : Host (kindOf (q .statistic))) (r₀ r₁
 abbrev pub hosting : Slice ℕ → Bool → Slice ℕ → ByteTrace
 hosting bytes has map = record { bytes = entering bytes; mapped = has; map = entering map }
 
--- two traces of them
+-- the bytes and maps of two traces
 abbrev pub hostingPair : Slice ℕ → Bool → Slice ℕ → Slice ℕ → Bool → Slice ℕ → BytePair
 hostingPair x hasX mapX y hasY mapY = record { x = hosting x hasX mapX; y = hosting y hasY mapY }
 

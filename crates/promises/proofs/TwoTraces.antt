@@ -15,7 +15,8 @@ use Rattle.moment.specs.declared.Figure.{Figure}
 use Rattle.moment.specs.declared.Figure.the-variants.{Missing, Present}
 use Rattle.moment.specs.Cov.{covEmpty, covNew, covCombine, covFinalize}
 use Rattle.moment.specs.Pearson.{pearsonEmpty, pearsonNew, pearsonCombine, pearsonFinalize}
-use Rattle.moment.proofs.Weights.{CombineCounts, covWeight, pearsonWeight, cov-combine-count, pearson-combine-count, at-zero}
+use Rattle.moment.proofs.Weights.{CombineCounts, combining, parts-count, covWeight, pearsonWeight, cov-combine-count}
+use Rattle.moment.proofs.Weights.{pearson-combine-count, at-zero}
 use Rattle.moment.proofs.Figures.{cov-missing}
 use Rattle.plan.specs.Plan.{Plan, rows}
 use Rattle.plan.specs.Code.Accepted.{Planned}
@@ -37,30 +38,11 @@ use Rattle.promises.proofs.FigureRows.{ByWeight, figure-row}
 module _ {S : Type 0} (weight : S → Float) (empty : S) (new : List (Float × Float) → S) (combine : S → S → S)
     (none : weight empty ≡ ofNat64 0) (one : (p : Float × Float) → weight (new (p ∷ [])) ≡ ofNat64 1)
     (adds : CombineCounts weight combine) where
-  abbrev M : Moment (Float × Float)
-  M = pairMoment empty new combine
-
-  -- one pair more
-  more : (s : S) (p : Float × Float) (n m : ℕ) → n < 2 ^ 53 → n + 1 ≡ m → weight s ≡ ofNat64 n → weight (M .insert s p) ≡ ofNat64 m
-  more s p n m h k e = adds s (new (p ∷ [])) n 1 (omega arith) (omega arith) e (one p) ∙ ap ofNat64 k
-
-  rises : (xs : List (Float × Float)) (s : S) (a : ℕ) → weight s ≡ ofNat64 a → a + length xs ≤ 2 ^ 53
-      → weight (rising M s xs) ≡ ofNat64 (a + length xs)
-  rises [] s a e h = e ∙ ap ofNat64 (let k : a ≡ a + 0 = omega arith in k)
-  rises (x ∷ xs) s a e h =
-      rises xs (M .insert s x) (suc a) (more s x a (suc a) (omega arith) (omega arith) e) (omega arith)
-      ∙ ap ofNat64 (let k : suc a + length xs ≡ a + suc (length xs) = omega arith in k)
-
-  falls : (xs : List (Float × Float)) → length xs ≤ 2 ^ 53 → weight (falling M xs) ≡ ofNat64 (length xs)
-  falls [] h = none
-  falls (x ∷ xs) h = more (falling M xs) x (length xs) (suc (length xs)) (omega arith) (omega arith) (falls xs (omega arith))
-
   pub pairs-count : (xs ys : List (Float × Float)) → length xs + length ys ≤ 2 ^ 53
-      → weight (combine (rising M empty xs) (falling M ys)) ≡ ofNat64 (length xs + length ys)
-  pairs-count xs ys h =
-      adds _ _ (length xs) (length ys) (omega arith) (omega arith)
-      (rises xs empty 0 none (omega arith) ∙ ap ofNat64 (let k : 0 + length xs ≡ length xs = omega arith in k))
-      (falls ys (omega arith))
+      → weight (combine (rising (pairMoment empty new combine) empty xs) (falling (pairMoment empty new combine) ys))
+      ≡ ofNat64 (length xs + length ys)
+  pairs-count =
+      parts-count weight (pairMoment empty new combine .insert) (combining weight combine (λ p. new (p ∷ [])) adds one) combine adds empty none
 
 cov-one : (p : Float × Float) → covWeight (covNew (p ∷ [])) ≡ ofNat64 1
 unfolding covNew

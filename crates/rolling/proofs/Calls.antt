@@ -1,7 +1,7 @@
 -- The ends of a call: a refusal leaves every list as it was, and an accepted call's rows are those of its plan. Assumes nothing.
 use Prim.Native.Nat.{ℕ, _-_, _*_, _≤_}
 use mathlib.Core.Path.{_≡_, refl, sym, ap, _∙_, subst}
-use mathlib.Core.Bool.{Bool, true, false, _||_, true≢false}
+use mathlib.Core.Bool.{Bool, true, false}
 use mathlib.Core.List.{List}
 use borrow.Author.Tests.{ltb-false}
 use lib.Dec.{lit≤}
@@ -12,6 +12,7 @@ use Rattle.plan.specs.Bounds.{bounds}
 use Rattle.plan.specs.Refusals.{needed, planRefusal, fixedRefusal}
 use Rattle.plan.specs.Code.Accepted.{Accepted}
 use Rattle.plan.specs.Code.Reaching.{rightOf, reaching}
+use Rattle.plan.proofs.Plans.{neither}
 use Rattle.plan.proofs.FixedWindows.{fixed-refusal, bounds-by}
 use Rattle.window.specs.Given.{Kind, Readings, Pairs, Given, placesOf, givenRefusal}
 use Rattle.window.specs.Outputs.{Lent, shortestOutput}
@@ -21,10 +22,6 @@ use Rattle.rolling.specs.Calls.{Query, query, GivenTo, Fits, Left, Calle
 use Rattle.rolling.specs.Fixed.{fixedQuery, CalledFixed}
 use Rattle.rolling.specs.Code.Rows.{planBy, Driven}
 use Rattle.rolling.specs.declared.row.Rows.{Rows}
-
-pub neither : (a b : Bool) → (a || b) ≡ false → (a ≡ false) × (b ≡ false)
-neither true b e = absurd (true≢false e)
-neither false b e = (refl, e)
 
 -- two traces that are not refused have one length
 pub one-length : (t : Given Pairs) → givenRefusal Pairs t ≡ 0 → length (t .x .readings) ≡ length (t .y .readings)

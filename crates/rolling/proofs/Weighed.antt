@@ -12,7 +12,7 @@ use Rattle.float.proofs.Counts.{zero-is}
 use Rattle.moment.specs.declared.Figure.the-variants.{Missing}
 use Rattle.moment.specs.Var.{varInserted}
 use Rattle.moment.specs.Skew.{skewInserted}
-use Rattle.moment.proofs.Weights.{inserts-count, falls-count, var-raises, var-inserted, skew-raises, skew-inserted}
+use Rattle.moment.proofs.Weights.{raising, inserts-count, falls-count, var-raises, var-inserted, skew-raises, skew-inserted}
 use Rattle.window.specs.Places.{Series, entries}
 use Rattle.window.specs.Window.{front, back}
 use Rattle.window.specs.Readings.{series}
@@ -47,7 +47,7 @@ module _ (m : ReadingStates) (q : Weighs m) where
   rising-weight t base w agg work held h =
       let b = back-many t w (held .numbers) in
       let k : 0 + length (back t (account w)) ≡ w .back = omega arith in
-      ap (q .weight) (held .agg-is) ∙ inserts-count (q .weight) (m .moment .insert) (q .raises) (back t (account w)) (m .moment .empty) 0 (q .none) (omega arith) ∙ ap ofNat64 k
+      ap (q .weight) (held .agg-is) ∙ inserts-count (q .weight) (m .moment .insert) (raising (q .weight) (m .moment .insert) (q .raises)) (back t (account w)) (m .moment .empty) 0 (q .none) (omega arith) ∙ ap ofNat64 k
 
   pub weighed : (t : Series Float) (base : ℕ) (w : Window) (agg : m .moment .State) (work : List Float) → Held (ofReadings m) t base w agg work →
       m .inFront .width * w .front ≤ length work → w .front + w .back ≤ 2 ^ 53 → Weighed m (q .weight) w agg work
@@ -58,7 +58,7 @@ module _ (m : ReadingStates) (q : Weighs m) where
         few = h;
         back-is = rising-weight t base w agg work held (omega arith);
         front-is = ap (q .weight) (top-is (ofReadings m) (λ z. Missing) t base w agg work held)
-            ∙ falls-count (q .weight) (m .moment .insert) (q .raises) (front t (account w)) (m .moment .empty) (q .none) (omega arith) ∙ ap ofNat64 (sym f);
+            ∙ falls-count (q .weight) (m .moment .insert) (raising (q .weight) (m .moment .insert) (q .raises)) (front t (account w)) (m .moment .empty) (q .none) (omega arith) ∙ ap ofNat64 (sym f);
       }
 
   -- a turn of a flip inserts and clears nothing
@@ -70,7 +70,7 @@ module _ (m : ReadingStates) (q : Weighs m) where
       let h = can .few in
       let k : length (drop j B) ≡ n - j = rw (length-drop, length-take, length-drop) (omega arith) in
       let low = f .low in
-      q .plain agg x (length (drop j B)) (omega arith) (ap (q .weight) (f .agg-is) ∙ falls-count (q .weight) (m .moment .insert) (q .raises) (drop j B) (m .moment .empty) (q .none) (omega arith))
+      q .plain agg x (length (drop j B)) (omega arith) (ap (q .weight) (f .agg-is) ∙ falls-count (q .weight) (m .moment .insert) (raising (q .weight) (m .moment .insert) (q .raises)) (drop j B) (m .moment .empty) (q .none) (omega arith))
 
   -- nor does a turn of an append
   pub append-inserted : (has : Bool) (map : List ℕ) (values l₀ : List Float) (n nonfinite₀ : ℕ) (s₀ : m .moment .State) (a e : ℕ) {l : List Float} {many nonfinite : ℕ} {s : m .moment .State} {i : ℕ} →
@@ -83,4 +83,4 @@ module _ (m : ReadingStates) (q : Weighs m) where
       let h = can .few in
       let g = can .many-le in
       let low = f .low in
-      q .plain s x (n + length l) (omega arith) (ap (q .weight) (f .now .agg-is) ∙ inserts-count (q .weight) (m .moment .insert) (q .raises) l s₀ n w (omega arith))
+      q .plain s x (n + length l) (omega arith) (ap (q .weight) (f .now .agg-is) ∙ inserts-count (q .weight) (m .moment .insert) (raising (q .weight) (m .moment .insert) (q .raises)) l s₀ n w (omega arith))
