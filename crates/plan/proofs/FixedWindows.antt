@@ -6,7 +6,7 @@ use mathlib.Core.Bool.{Bool, true, false, cond, _||_}
 use mathlib.Core.List.{List}
 use native.Mathlib.Nat.{le-refl, le-trans}
 use native.Mathlib.Omega.{arith}
-use borrow.Author.Tests.{eq-eqb, le-ltb, ltb-false, eqb-true, eqb-false}
+use borrow.Author.Tests.{eq-eqb, le-ltb, ltb-true, ltb-false, eqb-true, eqb-false}
 use lib.Dec.{eqb, ltb, lit≤}
 use lib.ListN.{length, getD}
 use Rattle.float.proofs.Cases.{apart, Or, here, there, order}
@@ -14,7 +14,7 @@ use Rattle.float.proofs.Tables.{table-length, table-place, table-same}
 use Rattle.trace.specs.Refusals.{refusal, _orElse_, tooMany}
 use Rattle.trace.proofs.Accepted.{none-of, not-refused}
 use Rattle.plan.specs.Plan.{Plan, rows, rowStart, rowEnd}
-use Rattle.plan.specs.Bounds.{boundsAt, bounds}
+use Rattle.plan.specs.Bounds.{boundsAt, bounds, raised, nextOffsets}
 use Rattle.plan.specs.Refusals.{wrongLists, rowsRefusal, widest, planRefusal, fixedRefusal}
 use Rattle.plan.specs.Code.Accepted.{Planned, Accepted}
 use Rattle.plan.specs.Code.Reaching.{rightOf, reaching, rowsOf}
@@ -46,6 +46,37 @@ module _ (left right n : ℕ) (starts ends : List ℕ) where
         → (fixed ≡ false → k < length ends) × (fixed ≡ true → k ≤ n)
     end-listed true w p h = let i : k < n = rw (table-length (λ i. i - left) n) at h in (λ e. apart (sym e), λ e. omega arith)
     end-listed false w p h = let i = p .same in (λ e. omega arith, λ e. apart e)
+
+-- ---- a step
+-- a bound is raised by at most one, and not lowered
+pub raised-one : (len bound : ℕ) → (bound ≤ raised len bound) × (raised len bound ≤ bound + 1)
+raised-one len bound = go (ltb bound len)
+  where
+    go : (b : Bool) → (bound ≤ cond b (bound + 1) bound) × (cond b (bound + 1) bound ≤ bound + 1)
+    go true = (omega arith, omega arith)
+    go false = (omega arith, omega arith)
+
+-- below the end a bound moves on, and at the end it stays
+raised-is : (len bound : ℕ) → bound ≤ len → raised len bound ≡ min len (bound + 1)
+raised-is len bound h = go (ltb bound len) refl
+  where
+    go : (b : Bool) → ltb bound len ≡ b → cond b (bound + 1) bound ≡ min len (bound + 1)
+    go true e = let o = ltb-true bound len e in omega arith
+    go false e = let o = ltb-false bound len e in omega arith
+
+-- the step of a row that reaches so far is the next row
+module _ (left right n i : ℕ) (h : i < n) where
+  next-start : cond (ltb i left) (i - left) (raised n (i - left)) ≡ (i + 1) - left
+  next-start = go (ltb i left) refl
+    where
+      go : (b : Bool) → ltb i left ≡ b → cond b (i - left) (raised n (i - left)) ≡ (i + 1) - left
+      go true e = let o = ltb-true i left e in omega arith
+      go false e = let o = ltb-false i left e in raised-is n (i - left) (omega arith) ∙ omega arith
+
+  pub next-reaches : nextOffsets i (i - left, min n (i + right)) left n ≡ ((i + 1) - left, min n (i + 1 + right))
+  next-reaches =
+      let e : min n (min n (i + right) + 1) ≡ min n (i + 1 + right) = omega arith in
+      rw (next-start, raised-is n (min n (i + right)) (omega arith), e)
 
 -- ---- rows that reach `left` places before their own and `right` from it on
 module _ (left right n : ℕ) where

@@ -1,4 +1,5 @@
--- Document 01, "Fixed windows (006, 004, 005)": their bounds as a plan. Assumes nothing.
+-- Document 01, "Fixed windows (006, 004, 005)": their bounds as a plan; document 02, request 3: how a row's bounds come from those of the row
+-- before. Assumes nothing.
 use Prim.Native.Nat.{ℕ, _+_, _-_, _/_, min}
 use mathlib.Core.Bool.{Bool, cond}
 use lib.Dec.{eqb, ltb}
@@ -28,3 +29,13 @@ offsetsAt center windowSize n i = cond (ltb i n) (boundsAt center windowSize n i
 unfoldable pub bounds : Bool → ℕ → ℕ → Plan
 unfolding table
 bounds center windowSize n = planOf (table (λ i. boundsAt center windowSize n i .0) n) (table (λ i. boundsAt center windowSize n i .1) n)
+
+-- Document 02, request 3, "each row's start and end shall come from the pair and row number before": a bound stepped on, no further than
+-- the end of len places
+abbrev pub raised : ℕ → ℕ → ℕ
+raised len bound = cond (ltb bound len) (bound + 1) bound
+
+-- "Hold the previous pair and step it on": of row i's pair the next row's, where windows start `left` places before their own and there
+-- are len places. Until row i has `left` places before it, the start stays.
+abbrev pub nextOffsets : ℕ → ℕ × ℕ → ℕ → ℕ → ℕ × ℕ
+nextOffsets i at left len = (cond (ltb i left) (at .0) (raised len (at .0)), raised len (at .1))

@@ -1,7 +1,8 @@
-// The rows of fixed windows: 006's `det_offsets` and `det_offsets_center`, by how far a window reaches to each side of its own place.
+// The rows of fixed windows: 006's `det_offsets` and `det_offsets_center`, by how far a window reaches to each side of its own place, and
+// a row's window from the one before.
 ghost use mathlib.Core.Path.{_≡_};
 ghost use Prim.Native.Nat.{min, _+_, _-_, _≤_};
-ghost use Rattle.plan.specs.Bounds.{offsetsAt};
+ghost use Rattle.plan.specs.Bounds.{offsetsAt, raised, nextOffsets};
 ghost use Rattle.plan.specs.Code.Reaching.{rightOf};
 use crate::shorter;
 
@@ -22,7 +23,7 @@ pub fn right_window(center: bool, window_size: usize) -> usize
 }
 
 // Where the fixed window of a row starts, `left` places before the row's own.
-pub fn start_of(left: usize, row: usize) -> usize
+fn start_of(left: usize, row: usize) -> usize
     ensures { λ r. ⌜ r ≡ row - left ⌝ }
 {
     if row < left { 0 } else { row - left }
@@ -52,5 +53,29 @@ pub fn det_offsets(i: usize, window_size: usize, len: usize, center: bool) -> Of
     Offsets {
         start: start_of(window_size - right, i),
         end: end_of(right, len, i),
+    }
+}
+
+// A bound stepped on, no further than `len`.
+fn raised(len: usize, bound: usize) -> usize
+    ensures { λ r. ⌜ r ≡ raised len bound ⌝ }
+{
+    if bound < len { bound + 1 } else { bound }
+}
+
+// The window of the row behind row i, from row i's own, where windows start `left` places before their own and there are `len` places.
+pub fn next_offsets(i: usize, at: Offsets, left: usize, len: usize) -> Offsets
+    ensures { λ r. ⌜ (r .start, r .end) ≡ nextOffsets i (at .start, at .end) left len ⌝ }
+{
+    let end = raised(len, at.end);
+    if i < left {
+        return Offsets {
+            start: at.start,
+            end,
+        };
+    }
+    Offsets {
+        start: raised(len, at.start),
+        end,
     }
 }

@@ -12,8 +12,8 @@ mod rows;
 pub use bounds::Offsets;
 pub use bounds::det_offsets;
 pub use bounds::end_of;
+pub use bounds::next_offsets;
 pub use bounds::right_window;
-pub use bounds::start_of;
 pub use rows::place;
 pub use rows::row_refusal;
 
