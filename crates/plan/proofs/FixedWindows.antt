@@ -20,32 +20,10 @@ use Rattle.plan.specs.Code.Accepted.{Planned, Accepted}
 use Rattle.plan.specs.Code.Reaching.{rightOf, reaching, rowsOf}
 use Rattle.plan.proofs.Plans.{first-stands, none-then, wide-all, rows-in-order, widest-under}
 
--- ---- a row of either kind, by what `row_start` and `row_end` answer
-module _ (left right n : ℕ) (starts ends : List ℕ) where
-  pub rows-are : (fixed : Bool) → cond fixed n (length starts) ≡ rows (rowsOf fixed left right n starts ends)
-  rows-are true = sym (table-length (λ i. i - left) n)
-  rows-are false = refl
-
-  module _ (k : ℕ) where
-    pub start-is : (fixed : Bool) (s : ℕ) → k < rows (rowsOf fixed left right n starts ends) → s ≡ cond fixed (k - left) (getD starts k 0)
-        → s ≡ rowStart (rowsOf fixed left right n starts ends) k
-    start-is true s h e = e ∙ sym (table-place (λ i. i - left) n k 0 (rw (table-length (λ i. i - left) n) at h))
-    start-is false s h e = e
-
-    pub end-is : (fixed : Bool) (e : ℕ) → k < rows (rowsOf fixed left right n starts ends) → e ≡ cond fixed (min n (k + right)) (getD ends k 0)
-        → e ≡ rowEnd (rowsOf fixed left right n starts ends) k
-    end-is true e h f = f ∙ sym (table-place (λ i. min n (i + right)) n k 0 (rw (table-length (λ i. i - left) n) at h))
-    end-is false e h f = f
-
-    -- a plan's lists have the row, and a fixed window's place is one of the series
-    pub start-listed : (fixed : Bool) → k < rows (rowsOf fixed left right n starts ends) → fixed ≡ false → k < length starts
-    start-listed true h e = apart (sym e)
-    start-listed false h e = h
-
-    pub end-listed : (fixed : Bool) (w : ℕ) → Planned n w (rowsOf fixed left right n starts ends) → k < rows (rowsOf fixed left right n starts ends)
-        → (fixed ≡ false → k < length ends) × (fixed ≡ true → k ≤ n)
-    end-listed true w p h = let i : k < n = rw (table-length (λ i. i - left) n) at h in (λ e. apart (sym e), λ e. omega arith)
-    end-listed false w p h = let i = p .same in (λ e. omega arith, λ e. apart e)
+-- as many rows as places, or as are listed
+pub rows-are : (left right n : ℕ) (starts ends : List ℕ) (fixed : Bool) → cond fixed n (length starts) ≡ rows (rowsOf fixed left right n starts ends)
+rows-are left right n starts ends true = sym (table-length (λ i. i - left) n)
+rows-are left right n starts ends false = refl
 
 -- ---- a step
 -- a bound is raised by at most one, and not lowered
@@ -64,8 +42,8 @@ raised-is len bound h = go (ltb bound len) refl
     go true e = let o = ltb-true bound len e in omega arith
     go false e = let o = ltb-false bound len e in omega arith
 
--- the step of a row that reaches so far is the next row
-module _ (left right n i : ℕ) (h : i < n) where
+-- the step of a row that starts `left` places before its own and ends at x or with the places
+module _ (left x n i : ℕ) (h : i < n) where
   next-start : cond (ltb i left) (i - left) (raised n (i - left)) ≡ (i + 1) - left
   next-start = go (ltb i left) refl
     where
@@ -73,10 +51,10 @@ module _ (left right n i : ℕ) (h : i < n) where
       go true e = let o = ltb-true i left e in omega arith
       go false e = let o = ltb-false i left e in raised-is n (i - left) (omega arith) ∙ omega arith
 
-  pub next-reaches : nextOffsets i (i - left, min n (i + right)) left n ≡ ((i + 1) - left, min n (i + 1 + right))
+  pub next-reaches : nextOffsets i (i - left, min n x) left n ≡ ((i + 1) - left, min n (x + 1))
   next-reaches =
-      let e : min n (min n (i + right) + 1) ≡ min n (i + 1 + right) = omega arith in
-      rw (next-start, raised-is n (min n (i + right)) (omega arith), e)
+      let e : min n (min n x + 1) ≡ min n (x + 1) = omega arith in
+      rw (next-start, raised-is n (min n x) (omega arith), e)
 
 -- ---- rows that reach `left` places before their own and `right` from it on
 module _ (left right n : ℕ) where
@@ -86,6 +64,13 @@ module _ (left right n : ℕ) where
   abbrev E : ℕ → ℕ
   E i = min n (i + right)
 
+  -- row k's window
+  pub start-at : (k : ℕ) → k < n → rowStart (reaching left right n) k ≡ k - left
+  start-at k h = table-place S n k 0 h
+
+  pub end-at : (k : ℕ) → k < n → rowEnd (reaching left right n) k ≡ min n (k + right)
+  end-at k h = table-place E n k 0 h
+
   reaching-planned : (w : ℕ) → min (left + right) n ≤ w → Planned n w (reaching left right n)
   reaching-planned w h =
       let l = table-length S n in
@@ -93,14 +78,14 @@ module _ (left right n : ℕ) where
         same = l ∙ sym (table-length E n);
         row = λ k o.
             let i : k < n = rw l at o in
-            rw (table-place S n k 0 i, table-place E n k 0 i) (omega arith, omega arith, omega arith);
+            rw (start-at k i, end-at k i) (omega arith, omega arith, omega arith);
         rising = λ j k g o.
             let i : k < n = rw l at o in
-            rw (table-place S n j 0 (omega arith), table-place E n j 0 (omega arith), table-place S n k 0 i, table-place E n k 0 i) (omega arith, omega arith);
+            rw (start-at j (omega arith), end-at j (omega arith), start-at k i, end-at k i) (omega arith, omega arith);
       }
 
   wide-at : (k : ℕ) → k < n → rowEnd (reaching left right n) k - rowStart (reaching left right n) k ≡ E k - S k
-  wide-at k h = rw (table-place S n k 0 h, table-place E n k 0 h)
+  wide-at k h = rw (start-at k h, end-at k h)
 
   -- the row of place `left`, or the last one, is as wide as any
   some-wide : (k : ℕ) → k < n → min (left + right) n ≤ E k - S k → min (left + right) n ≤ widest (reaching left right n) n

@@ -26,6 +26,7 @@ use crate::row;
 use crate::row::Rows;
 use moment::CovState;
 use moment::Figure;
+use plan::Offsets;
 use window::Window;
 
 pub struct CovMoment {
@@ -484,7 +485,7 @@ impl CovMoment {
         Figure::Missing
     }
 
-    // The rows from `first` up to `until`, from the window that stands before them; the window after them.
+    // The rows from `first` up to `until`, from the window that stands before them and the bounds `at` of the first; the window after them.
     fn block(
         self,
         rows: Rows,
@@ -500,21 +501,22 @@ impl CovMoment {
         figures: &mut [f64],
         present: &mut [u8],
         opening: CovWindow,
+        at: Offsets,
         first: usize,
         until: usize,
     ) -> CovWindow
         requires { ⌜ length (now x) ≡ length (now y) ⌝ }
         requires { ⌜ CanWork covStored (pairSeries «x_has_map» (now «x_map») (now x) «y_has_map» (now «y_map») (now y)) (length (now x))
-            rows (now starts) (now ends) (min (length (now figures)) (length (now present))) first until (opening .window)
+            rows (now starts) (now ends) (min (length (now figures)) (length (now present))) first until at (opening .window)
             (opening .«agg_back») (now work) ⌝ }
         ensures { λ q. ⌜ Works covStored (λ z. covFinalize z (self .ddof)) (pairSeriesIn «x_has_map» «x_map» x «y_has_map» «y_map» y)
             (length (entering x)) rows (entering starts) (entering ends) first until (entering work) (entering figures)
             (entering present) (q .window) (q .«agg_back») (leaving work) (leaving figures) (leaving present) ⌝ }
     {
         let mut w = opening;
+        let mut here = at;
         let mut row = first;
         while row < until {
-            let at = row::offsets(rows, x.len(), starts, ends, row);
             w = CovMoment::step(
                 work,
                 rows,
@@ -526,8 +528,8 @@ impl CovMoment {
                 y_map,
                 w,
                 row,
-                at.start,
-                at.end,
+                here.start,
+                here.end,
             );
             let figure = self.answer(
                 work,
@@ -535,10 +537,11 @@ impl CovMoment {
                 x_has_map,
                 y_has_map,
                 rows.min_periods,
-                at.start,
-                at.end,
+                here.start,
+                here.end,
             );
             row::write(figures, present, row, figure);
+            here = row::next(rows, x.len(), starts, ends, row, here);
             row += 1;
         }
         w
@@ -570,6 +573,7 @@ impl CovMoment {
             window: Window::empty_at(0),
             agg_back: CovMoment::empty(),
         };
+        let at = row::opening(rows, x.len(), starts, ends);
         let until = row::how_many(rows, x.len(), starts.len());
         self.block(
             rows,
@@ -585,6 +589,7 @@ impl CovMoment {
             figures,
             present,
             opening,
+            at,
             0,
             until,
         );

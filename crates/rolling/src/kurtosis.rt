@@ -21,6 +21,7 @@ use crate::row;
 use crate::row::Rows;
 use moment::Figure;
 use moment::KurtosisState;
+use plan::Offsets;
 use window::Window;
 
 pub struct KurtosisMoment {
@@ -289,7 +290,7 @@ impl KurtosisMoment {
         Figure::Missing
     }
 
-    // The rows from `first` up to `until`, from the window that stands before them; the window after them.
+    // The rows from `first` up to `until`, from the window that stands before them and the bounds `at` of the first; the window after them.
     fn block(
         self,
         rows: Rows,
@@ -302,22 +303,24 @@ impl KurtosisMoment {
         figures: &mut [f64],
         present: &mut [u8],
         opening: KurtosisWindow,
+        at: Offsets,
         first: usize,
         until: usize,
     ) -> KurtosisWindow
         requires { ⌜ CanWork kurtosisStored (series «has_map» (now map) (now values)) (length (now values)) rows (now starts) (now ends)
-            (min (length (now figures)) (length (now present))) first until (opening .window) (opening .«agg_back») (now work) ⌝ }
+            (min (length (now figures)) (length (now present))) first until at (opening .window) (opening .«agg_back») (now work) ⌝ }
         ensures { λ q. ⌜ Works kurtosisStored (λ z. kurtosisFinalize z (self .fisher) (self .bias)) (seriesIn «has_map» map values)
             (length (entering values)) rows (entering starts) (entering ends) first until (entering work) (entering figures)
             (entering present) (q .window) (q .«agg_back») (leaving work) (leaving figures) (leaving present) ⌝ }
     {
         let mut w = opening;
+        let mut here = at;
         let mut row = first;
         while row < until {
-            let at = row::offsets(rows, values.len(), starts, ends, row);
-            w = KurtosisMoment::step(work, rows, values, has_map, map, w, row, at.start, at.end);
-            let figure = self.answer(work, w, has_map, rows.min_periods, at.start, at.end);
+            w = KurtosisMoment::step(work, rows, values, has_map, map, w, row, here.start, here.end);
+            let figure = self.answer(work, w, has_map, rows.min_periods, here.start, here.end);
             row::write(figures, present, row, figure);
+            here = row::next(rows, values.len(), starts, ends, row, here);
             row += 1;
         }
         w
@@ -345,6 +348,7 @@ impl KurtosisMoment {
             window: Window::empty_at(0),
             agg_back: KurtosisMoment::empty(),
         };
+        let at = row::opening(rows, values.len(), starts, ends);
         let until = row::how_many(rows, values.len(), starts.len());
         self.block(
             rows,
@@ -357,6 +361,7 @@ impl KurtosisMoment {
             figures,
             present,
             opening,
+            at,
             0,
             until,
         );

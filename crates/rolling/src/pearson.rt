@@ -26,6 +26,7 @@ use crate::row;
 use crate::row::Rows;
 use moment::Figure;
 use moment::PearsonState;
+use plan::Offsets;
 use window::Window;
 
 pub struct PearsonMoment {}
@@ -495,7 +496,7 @@ impl PearsonMoment {
         Figure::Missing
     }
 
-    // The rows from `first` up to `until`, from the window that stands before them; the window after them.
+    // The rows from `first` up to `until`, from the window that stands before them and the bounds `at` of the first; the window after them.
     fn block(
         rows: Rows,
         x: &[f64],
@@ -510,21 +511,22 @@ impl PearsonMoment {
         figures: &mut [f64],
         present: &mut [u8],
         opening: PearsonWindow,
+        at: Offsets,
         first: usize,
         until: usize,
     ) -> PearsonWindow
         requires { ⌜ length (now x) ≡ length (now y) ⌝ }
         requires { ⌜ CanWork pearsonStored (pairSeries «x_has_map» (now «x_map») (now x) «y_has_map» (now «y_map») (now y)) (length (now x))
-            rows (now starts) (now ends) (min (length (now figures)) (length (now present))) first until (opening .window)
+            rows (now starts) (now ends) (min (length (now figures)) (length (now present))) first until at (opening .window)
             (opening .«agg_back») (now work) ⌝ }
         ensures { λ q. ⌜ Works pearsonStored correlationFinalize (pairSeriesIn «x_has_map» «x_map» x «y_has_map» «y_map» y)
             (length (entering x)) rows (entering starts) (entering ends) first until (entering work) (entering figures)
             (entering present) (q .window) (q .«agg_back») (leaving work) (leaving figures) (leaving present) ⌝ }
     {
         let mut w = opening;
+        let mut here = at;
         let mut row = first;
         while row < until {
-            let at = row::offsets(rows, x.len(), starts, ends, row);
             w = PearsonMoment::step(
                 work,
                 rows,
@@ -536,8 +538,8 @@ impl PearsonMoment {
                 y_map,
                 w,
                 row,
-                at.start,
-                at.end,
+                here.start,
+                here.end,
             );
             let figure = PearsonMoment::answer(
                 work,
@@ -545,10 +547,11 @@ impl PearsonMoment {
                 x_has_map,
                 y_has_map,
                 rows.min_periods,
-                at.start,
-                at.end,
+                here.start,
+                here.end,
             );
             row::write(figures, present, row, figure);
+            here = row::next(rows, x.len(), starts, ends, row, here);
             row += 1;
         }
         w
@@ -579,6 +582,7 @@ impl PearsonMoment {
             window: Window::empty_at(0),
             agg_back: PearsonMoment::empty(),
         };
+        let at = row::opening(rows, x.len(), starts, ends);
         let until = row::how_many(rows, x.len(), starts.len());
         PearsonMoment::block(
             rows,
@@ -594,6 +598,7 @@ impl PearsonMoment {
             figures,
             present,
             opening,
+            at,
             0,
             until,
         );

@@ -1,12 +1,13 @@
 // One row: where it is, whether it moves the window, and whether it has enough readings.
 ghost use mathlib.Core.Path.{_≡_};
 ghost use mathlib.Core.Bool.{cond};
-ghost use Prim.Native.Nat.{_-_, _≤_};
+ghost use Prim.Native.Nat.{_+_, _-_, _≤_};
 ghost use lib.Dec.{leb};
 ghost use lib.ListN.{length};
 ghost use Rattle.window.specs.Rows.{moves};
 ghost use Rattle.window.specs.Code.Filling.{RowThere, SetsRow};
-ghost use Rattle.rolling.specs.Code.Rows.{RowIn, RowAt};
+ghost use Rattle.plan.specs.Plan.{planning};
+ghost use Rattle.rolling.specs.Code.Rows.{SameMany, RowIn, RowBounds, RowAt};
 use moment::Figure;
 use plan::Offsets;
 
@@ -27,21 +28,50 @@ pub(crate) fn how_many(rows: Rows, n: usize, listed: usize) -> usize
     if rows.fixed { n } else { listed }
 }
 
-// A row's window.
-pub(crate) fn offsets(rows: Rows, n: usize, starts: &[u32], ends: &[u32], row: usize) -> Offsets
-    requires { ⌜ RowIn rows n (now starts) (now ends) row ⌝ }
-    ensures { λ r. ⌜ RowAt rows n starts ends row (r .start) (r .end) ⌝ }
+// A row's window as a plan lists it; behind the last row an empty one.
+fn listed(starts: &[u32], ends: &[u32], row: usize) -> Offsets
+    requires { ⌜ length (now starts) ≡ length (now ends) ⌝ }
+    ensures { λ r. ⌜ RowBounds (planning starts ends) row r ⌝ }
 {
-    if rows.fixed {
-        return Offsets {
-            start: plan::start_of(rows.left, row),
-            end: plan::end_of(rows.right, n, row),
-        };
+    if starts.len() <= row {
+        return Offsets { start: 0, end: 0 };
     }
     Offsets {
         start: plan::place(starts[row]),
         end: plan::place(ends[row]),
     }
+}
+
+// The window of a call's first row, where it has one: the pair that its row loop opens with.
+pub(crate) fn opening(rows: Rows, n: usize, starts: &[u32], ends: &[u32]) -> Offsets
+    requires { ⌜ SameMany rows n (now starts) (now ends) ⌝ }
+    ensures { λ r. ⌜ RowAt rows n starts ends 0 r ⌝ }
+{
+    if rows.fixed {
+        return Offsets {
+            start: 0,
+            end: plan::shorter(n, rows.right),
+        };
+    }
+    listed(starts, ends, 0)
+}
+
+// The window of the row behind `row`, whose own is `at`: of fixed windows stepped on from it, of a plan as it is listed.
+pub(crate) fn next(
+    rows: Rows,
+    n: usize,
+    starts: &[u32],
+    ends: &[u32],
+    row: usize,
+    at: Offsets,
+) -> Offsets
+    requires { ⌜ RowIn rows n (now starts) (now ends) row at ⌝ }
+    ensures { λ r. ⌜ RowAt rows n starts ends (row + 1) r ⌝ }
+{
+    if rows.fixed {
+        return plan::next_offsets(row, at, rows.left, n);
+    }
+    listed(starts, ends, row + 1)
 }
 
 pub(crate) fn moves(has_map: bool, min_periods: usize, row: usize, start: usize, end: usize) -> bool

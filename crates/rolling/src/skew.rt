@@ -27,6 +27,7 @@ use crate::leaving;
 use crate::row;
 use crate::row::Rows;
 use moment::SkewState;
+use plan::Offsets;
 use window::Window;
 
 pub struct SkewMoment {
@@ -44,6 +45,12 @@ pub struct SkewAppended {
     pub back: usize,
     pub nonfinite: usize,
     pub agg_back: SkewState,
+}
+
+// What stands behind a block of rows: the window, and the next row's bounds.
+pub struct SkewBlock {
+    pub w: SkewWindow,
+    pub at: Offsets,
 }
 
 // A row whose window is done: the state to finalise, or that the row is missing.
@@ -433,7 +440,8 @@ impl SkewMoment {
         self.estimates(m2s, m3s, factors, roots, out);
     }
 
-    // The rows of a block, from `first` up to `until`: the window after them, with their bytes and slots written.
+    // The rows of a block, from `first` up to `until`, with the bounds `at` of the first: what stands after them, with their bytes and slots
+    // written.
     fn block(
         self,
         rows: Rows,
@@ -445,6 +453,7 @@ impl SkewMoment {
         work: &mut [f64],
         present: &mut [u8],
         opening: SkewWindow,
+        at: Offsets,
         first: usize,
         until: usize,
         counts: &mut [u64],
@@ -452,25 +461,25 @@ impl SkewMoment {
         m2s: &mut [f64],
         m3s: &mut [f64],
         factors: &mut [f64],
-    ) -> SkewWindow
-        requires { ⌜ CanFill «has_map» (now map) (now values) rows (now starts) (now ends) (length (now present)) first until
+    ) -> SkewBlock
+        requires { ⌜ CanFill «has_map» (now map) (now values) rows (now starts) (now ends) (length (now present)) first until at
             (opening .window) (opening .«agg_back») (now work) (now counts) (now corrections) (now m2s) (now m3s) (now factors) ⌝ }
         ensures { λ q. ⌜ BlockFilled (self .bias) «has_map» (entering map) (entering values) rows (entering starts) (entering ends)
-            first until (entering work) (entering present) (q .window) (q .«agg_back») (leaving work) (leaving present)
+            first until (entering work) (entering present) (q .at) (q .w .window) (q .w .«agg_back») (leaving work) (leaving present)
             (leaving counts) (leaving corrections) (leaving m2s) (leaving m3s) (leaving factors) ⌝ }
     {
         let mut w = opening;
+        let mut here = at;
         let mut row = first;
         while row < until {
-            let at = row::offsets(rows, values.len(), starts, ends, row);
-            w = SkewMoment::step(work, rows, values, has_map, map, w, row, at.start, at.end);
+            w = SkewMoment::step(work, rows, values, has_map, map, w, row, here.start, here.end);
             let there = self.prepare(
                 work,
                 w,
                 has_map,
                 rows.min_periods,
-                at.start,
-                at.end,
+                here.start,
+                here.end,
                 counts,
                 corrections,
                 m2s,
@@ -479,9 +488,10 @@ impl SkewMoment {
                 row - first,
             );
             present[row] = there;
+            here = row::next(rows, values.len(), starts, ends, row, here);
             row += 1;
         }
-        w
+        SkewBlock { w, at: here }
     }
 
     // Every row of an accepted plan, or of fixed windows.
@@ -514,11 +524,12 @@ impl SkewMoment {
         let mut m3s = [0.0; 32];
         let mut factors = [0.0; 32];
         let mut roots = [0.0; 32];
+        let mut at = row::opening(rows, values.len(), starts, ends);
         let many = row::how_many(rows, values.len(), starts.len());
         let mut first: usize = 0;
         while first < many {
             let until = plan::end_of(SkewMoment::BLOCK, many, first);
-            w = self.block(
+            let block = self.block(
                 rows,
                 values,
                 has_map,
@@ -528,6 +539,7 @@ impl SkewMoment {
                 work,
                 present,
                 w,
+                at,
                 first,
                 until,
                 &mut counts,
@@ -536,6 +548,8 @@ impl SkewMoment {
                 &mut m3s,
                 &mut factors,
             );
+            w = block.w;
+            at = block.at;
             self.finish(&m2s, &m3s, &factors, &mut roots, &mut figures[first..until]);
             first = until;
         }

@@ -23,6 +23,7 @@ use crate::row;
 use crate::row::Rows;
 use moment::Figure;
 use moment::VarState;
+use plan::Offsets;
 use window::Window;
 
 pub struct VarianceMoment {
@@ -299,7 +300,7 @@ impl VarianceMoment {
         Figure::Missing
     }
 
-    // The rows from `first` up to `until`, from the window that stands before them; the window after them.
+    // The rows from `first` up to `until`, from the window that stands before them and the bounds `at` of the first; the window after them.
     fn block(
         self,
         rows: Rows,
@@ -312,22 +313,24 @@ impl VarianceMoment {
         figures: &mut [f64],
         present: &mut [u8],
         opening: VarWindow,
+        at: Offsets,
         first: usize,
         until: usize,
     ) -> VarWindow
         requires { ⌜ CanWork varStored (series «has_map» (now map) (now values)) (length (now values)) rows (now starts) (now ends)
-            (min (length (now figures)) (length (now present))) first until (opening .window) (opening .«agg_back») (now work) ⌝ }
+            (min (length (now figures)) (length (now present))) first until at (opening .window) (opening .«agg_back») (now work) ⌝ }
         ensures { λ q. ⌜ Works varStored (λ z. varFinalize z (self .ddof)) (seriesIn «has_map» map values) (length (entering values))
             rows (entering starts) (entering ends) first until (entering work) (entering figures) (entering present)
             (q .window) (q .«agg_back») (leaving work) (leaving figures) (leaving present) ⌝ }
     {
         let mut w = opening;
+        let mut here = at;
         let mut row = first;
         while row < until {
-            let at = row::offsets(rows, values.len(), starts, ends, row);
-            w = VarianceMoment::step(work, rows, values, has_map, map, w, row, at.start, at.end);
-            let figure = self.answer(work, w, has_map, rows.min_periods, at.start, at.end);
+            w = VarianceMoment::step(work, rows, values, has_map, map, w, row, here.start, here.end);
+            let figure = self.answer(work, w, has_map, rows.min_periods, here.start, here.end);
             row::write(figures, present, row, figure);
+            here = row::next(rows, values.len(), starts, ends, row, here);
             row += 1;
         }
         w
@@ -355,6 +358,7 @@ impl VarianceMoment {
             window: Window::empty_at(0),
             agg_back: VarianceMoment::empty(),
         };
+        let at = row::opening(rows, values.len(), starts, ends);
         let until = row::how_many(rows, values.len(), starts.len());
         self.block(
             rows,
@@ -367,6 +371,7 @@ impl VarianceMoment {
             figures,
             present,
             opening,
+            at,
             0,
             until,
         );

@@ -21,35 +21,60 @@ use Rattle.moment.specs.Figure.{doubleOf, byteOf}
 use Rattle.moment.specs.declared.Figure.{Figure}
 use Rattle.moment.specs.declared.Figure.the-variants.{Missing, Present}
 use Rattle.moment.proofs.Weights.{at-zero}
-use Rattle.plan.specs.Bounds.{boundsAt}
+use Rattle.plan.specs.Bounds.{boundsAt, nextOffsets}
 use Rattle.plan.specs.Code.Reaching.{rightOf}
-use Rattle.plan.proofs.FixedWindows.{bounds-at}
+use Rattle.plan.specs.declared.bounds.Offsets.{Offsets}
+use Rattle.plan.proofs.FixedWindows.{bounds-at, next-reaches}
 use Rattle.window.specs.Outputs.{Column, column, columnAfter, filled}
 use Rattle.window.specs.Code.Filling.{Upto}
 use Rattle.window.proofs.Outputs.{upto-done, unfilled, column-is}
 use Rattle.weighted.specs.Weights.{Sums, totalOf, varianceOf, computeVarWeights, weightsStart, aligned, weightedAt, weightsRefusal, CalledWeights}
 use Rattle.weighted.specs.Code.Sums.{sumsOf, SumsUpTo}
-use Rattle.weighted.specs.Code.Rows.{answerOfVariance, answerOfSums, weightedBy, Tabled, AcceptedWeights, WrittenWeights}
+use Rattle.weighted.specs.Code.Rows.{answerOfVariance, Reaches, answerOfSums, weightedBy, Finished, Worked, AcceptedWeights, WrittenWeights}
+
+-- ---- the window that the rows hold
+-- stepped on
+pub next-window : (n left k x : ℕ) (at : Offsets) {next : Offsets} → k < n → Reaches n left k x at
+    → (next .start, next .end) ≡ nextOffsets k (at .start, at .end) left n → Reaches n left (k + 1) (x + 1) next
+next-window n left k x at {next} h v q =
+    let o : _≡_ {A = ℕ × ℕ} (next .start, next .end) ((k + 1) - left, min n (x + 1)) = q ∙ rw (v .start-is, v .end-is) (next-reaches left x n k h) in
+    record { start-is = ap (λ (p : ℕ × ℕ). p .0) o; end-is = ap (λ (p : ℕ × ℕ). p .1) o }
 
 -- ---- after the last weight
-module _ (values weights : List Float) (total : Float) (left right minPeriods first until : ℕ) (full : left + right ≡ length weights)
-    {wssq wsum wtot : List Float} (held : SumsUpTo values weights total left first until (length weights) wssq wsum wtot) where
+module _ (values weights : List Float) (total : Float) (left minPeriods first until : ℕ) (at : Offsets)
+    {wssq wsum wtot : List Float} (held : SumsUpTo values weights total left first until (length weights) wssq wsum wtot)
+    (ahead : Reaches (length values) left first (first + (length weights - left)) at) where
+  abbrev right : ℕ
+  right = length weights - left
+
   row-done : (r : ℕ) → r < until - first →
-      answerOfSums (length values) left right minPeriods first wssq wsum wtot r ≡ weightedBy values weights total left right minPeriods (first + r)
+      answerOfSums (length values) left minPeriods first (at .end) wssq wsum wtot r ≡ weightedBy values weights total left right minPeriods (first + r)
   unfolding weightedBy
   row-done r h =
+      let b = held .block .before in
+      let e = ahead .end-is in
       let z : first + r + length weights - left ≡ first + r + right = omega arith in
-      ap (λ (s : Sums). answerOfVariance (length values) left right minPeriods (first + r) (varianceOf s))
+      let y : min (length values) (at .end + r) ≡ min (length values) (first + r + right) = omega arith in
+      ap (λ (i : ℕ). answerOfVariance (first + r - left) i minPeriods _) y
+      ∙ ap (λ (s : Sums). answerOfVariance (first + r - left) (min (length values) (first + r + right)) minPeriods (varianceOf s))
       (held .sums-are r h ∙ ap (λ (i : ℕ). sumsOf values weights total left (first + r) (min (length values) i - (first + r - left))) z)
 
-  -- the answers of a block
-  pub block-done : {figures : List Float} {present : List ℕ} {m : ℕ} → m ≡ until - first →
-      Tabled (answerOfSums (length values) left right minPeriods first wssq wsum wtot) m figures present →
-      Tabled (λ r. weightedBy values weights total left right minPeriods (first + r)) (until - first) figures present
-  block-done m t =
+  -- a block's answers, and the window of the row behind it
+  pub block-done : {figures : List Float} {present : List ℕ} {next : Offsets} {m : ℕ} → m ≡ until - first →
+      Finished (length values) left minPeriods first at wssq wsum wtot m figures present next →
+      Worked values left minPeriods weights total first until figures present next
+  block-done {next = next} m t =
+      let b = held .block .some in
+      let e = ahead .end-is in
+      let v = t .ahead in
+      let x = v .start-is in
+      let y = v .end-is in
       record {
-        figures-are = t .figures-are ∙ ap (table _) m ∙ table-same _ _ (until - first) (λ r h. ap doubleOf (row-done r h));
-        present-are = t .present-are ∙ ap (table _) m ∙ table-same _ _ (until - first) (λ r h. ap byteOf (row-done r h));
+        answered = record {
+          figures-are = t .answered .figures-are ∙ ap (table _) m ∙ table-same _ _ (until - first) (λ r h. ap doubleOf (row-done r h));
+          present-are = t .answered .present-are ∙ ap (table _) m ∙ table-same _ _ (until - first) (λ r h. ap byteOf (row-done r h));
+        };
+        ahead = record { start-is = omega arith; end-is = omega arith };
       }
 
 -- ---- a row's answer is the paper's

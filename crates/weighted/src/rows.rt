@@ -7,6 +7,7 @@ ghost use Rattle.weighted.specs.Weights.{varianceOf};
 ghost use Rattle.weighted.specs.Code.Rows.{answerOfVariance, Finishable, Finishes, Workable, Works, AcceptedWeights, WritesWeights};
 use crate::sums;
 use moment::Figure;
+use plan::Offsets;
 
 const BLOCK: usize = 32;
 
@@ -22,69 +23,59 @@ fn variance(wssq: f64, wsum: f64, wtot: f64) -> f64
 }
 
 // A row's answer: a row is missing exactly where its window is shorter than the minimum.
-fn answer(
-    n: usize,
-    left: usize,
-    right: usize,
-    min_periods: usize,
-    row: usize,
-    variance: f64,
-) -> Figure
-    requires { ⌜ row ≤ n ⌝ }
-    ensures { λ r. ⌜ r ≡ answerOfVariance n left right «min_periods» row variance ⌝ }
+fn answer(at: Offsets, min_periods: usize, variance: f64) -> Figure
+    requires { ⌜ at .start ≤ at .end ⌝ }
+    ensures { λ r. ⌜ r ≡ answerOfVariance (at .start) (at .end) «min_periods» variance ⌝ }
 {
-    if plan::end_of(right, n, row) - plan::start_of(left, row) < min_periods {
+    if at.end - at.start < min_periods {
         return Figure::Missing;
     }
     Figure::Present(variance)
 }
 
-// The answers of the rows from `first` on, of their sums.
+// The answers of the rows from `first` on, of their sums, with the bounds `at` of the first; those of the row behind them.
 fn finish(
     n: usize,
     left: usize,
-    right: usize,
     min_periods: usize,
     first: usize,
+    at: Offsets,
     wssq: &[f64],
     wsum: &[f64],
     wtot: &[f64],
     figures: &mut [f64],
     present: &mut [u8],
-)
-    requires { ⌜ Finishable n first (now wssq) (now wsum) (now wtot) (now figures) (now present) ⌝ }
-    ensures { λ _. ⌜ Finishes n left right «min_periods» first wssq wsum wtot figures present ⌝ }
+) -> Offsets
+    requires { ⌜ Finishable n left first at (now wssq) (now wsum) (now wtot) (now figures) (now present) ⌝ }
+    ensures { λ q. ⌜ Finishes n left «min_periods» first at wssq wsum wtot figures present q ⌝ }
 {
+    let mut here = at;
     let mut r = 0;
     while r < figures.len() {
-        let figure = answer(
-            n,
-            left,
-            right,
-            min_periods,
-            first + r,
-            variance(wssq[r], wsum[r], wtot[r]),
-        );
+        let figure = answer(here, min_periods, variance(wssq[r], wsum[r], wtot[r]));
         window::write(figures, present, r, figure);
+        here = plan::next_offsets(first + r, here, left, n);
         r += 1;
     }
+    here
 }
 
-// The rows from `first` up to `until`, whose answers go to `figures` and `present`.
+// The rows from `first` up to `until`, whose answers go to `figures` and `present`, with the bounds `at` of the first; those of the row
+// behind them.
 fn block(
     values: &[f64],
     left: usize,
-    right: usize,
     min_periods: usize,
     weights: &[f64],
     total: f64,
+    at: Offsets,
     first: usize,
     until: usize,
     figures: &mut [f64],
     present: &mut [u8],
-)
-    requires { ⌜ Workable (length (now values)) (length (now weights)) left right first until (now figures) (now present) ⌝ }
-    ensures { λ _. ⌜ Works values left right «min_periods» weights total first until figures present ⌝ }
+) -> Offsets
+    requires { ⌜ Workable (length (now values)) (length (now weights)) left at first until (now figures) (now present) ⌝ }
+    ensures { λ q. ⌜ Works values left «min_periods» weights total first until figures present q ⌝ }
 {
     let mut wssq = [0.0; BLOCK];
     let mut wsum = [0.0; BLOCK];
@@ -103,15 +94,15 @@ fn block(
     finish(
         values.len(),
         left,
-        right,
         min_periods,
         first,
+        at,
         &wssq,
         &wsum,
         &wtot,
         figures,
         present,
-    );
+    )
 }
 
 // Every row of an accepted call.
@@ -129,16 +120,20 @@ pub(crate) fn write_rows(
 {
     let right = plan::right_window(center, weights.len());
     let left = weights.len() - right;
+    let mut at = Offsets {
+        start: 0,
+        end: plan::shorter(values.len(), right),
+    };
     let mut first: usize = 0;
     while first < values.len() {
         let until = plan::end_of(BLOCK, values.len(), first);
-        block(
+        at = block(
             values,
             left,
-            right,
             min_periods,
             weights,
             total,
+            at,
             first,
             until,
             &mut figures[first..until],

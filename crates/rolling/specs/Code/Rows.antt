@@ -12,6 +12,7 @@ use Rattle.plan.specs.Plan.{Plan, rows, rowStart, rowEnd}
 use Rattle.plan.specs.Refusals.{widest}
 use Rattle.plan.specs.Code.Accepted.{Planned}
 use Rattle.plan.specs.Code.Reaching.{rowsOf}
+use Rattle.plan.specs.declared.bounds.Offsets.{Offsets}
 use Rattle.window.specs.Places.{Places, Series, nonfiniteCount}
 use Rattle.window.specs.Readings.{placesBy, series}
 use Rattle.window.specs.Pairs.{pairPlaces, pairSeries}
@@ -67,18 +68,27 @@ TalliesBelow t w s valid nonfinite = s < w .end → Tallied t (w .start) s valid
 abbrev pub planBy : Rows → ℕ → List ℕ → List ℕ → Plan
 planBy r n starts ends = rowsOf (r .fixed) (r .left) (r .right) n starts ends
 
--- a row that a call has
-pub record RowIn (r : Rows) (n : ℕ) (starts ends : List ℕ) (row : ℕ) : Type 0 where
-  pub same : length (planBy r n starts ends .starts) ≡ length (planBy r n starts ends .ends)
+-- as many starts as ends
+abbrev pub SameMany : Rows → ℕ → List ℕ → List ℕ → Type 0
+SameMany r n starts ends = length (planBy r n starts ends .starts) ≡ length (planBy r n starts ends .ends)
+
+-- a row's window
+pub record RowBounds (p : Plan) (row : ℕ) (at : Offsets) : Type 0 where
+  pub start-is : at .start ≡ rowStart p row
+  pub end-is : at .end ≡ rowEnd p row
+
+-- a row that a call has, with its window
+pub record RowIn (r : Rows) (n : ℕ) (starts ends : List ℕ) (row : ℕ) (at : Offsets) : Type 0 where
+  pub same : SameMany r n starts ends
   pub listed : row < rows (planBy r n starts ends)
+  pub bounds : RowBounds (planBy r n starts ends) row at
 
--- its window
-pub record RowBounds (p : Plan) (row s e : ℕ) : Type 0 where
-  pub start-is : s ≡ rowStart p row
-  pub end-is : e ≡ rowEnd p row
+-- the pair that a row loop holds before a row: the row's window, where there is such a row
+abbrev pub Ahead : Plan → ℕ → Offsets → Type 0
+Ahead p row at = row < rows p → RowBounds p row at
 
-abbrev pub RowAt : Rows → ℕ → Slice ℕ → Slice ℕ → ℕ → ℕ → ℕ → Type 0
-RowAt r n starts ends row s e = RowBounds (planBy r n (entering starts) (entering ends)) row s e
+abbrev pub RowAt : Rows → ℕ → Slice ℕ → Slice ℕ → ℕ → Offsets → Type 0
+RowAt r n starts ends row at = Ahead (planBy r n (entering starts) (entering ends)) row at
 
 -- the query of the rows
 abbrev pub drivenQuery : Rows → Slice Float → Slice ℕ → Slice ℕ → Statistic → Query
@@ -107,11 +117,11 @@ abbrev pub rowAnswer : {A : Type 0} → (M : Stored Float A) → (M .moment .Sta
     → ℕ → Figure
 rowAnswer M final t n r starts ends k = answerAt (M .moment) final t (r .«min_periods») (planBy r n starts ends) k
 
--- where the rows from `first` up to `until` may be worked
-abbrev pub CanWork : {A : Type 0} → (M : Stored Float A) → Series A → ℕ → Rows → List ℕ → List ℕ → ℕ → ℕ → ℕ
-    → Window → M .moment .State → List Float → Type 0
-CanWork M t n r starts ends outputs first until w agg work =
-    Workable M t (r .«min_periods») n (r .widest) (planBy r n starts ends) outputs first until w agg work
+-- where the rows from `first` up to `until` may be worked, with the bounds of the first
+pub record CanWork {A : Type 0} (M : Stored Float A) (t : Series A) (n : ℕ) (r : Rows) (starts ends : List ℕ) (outputs first until : ℕ)
+    (at : Offsets) (w : Window) (agg : M .moment .State) (work : List Float) : Type 0 where
+  pub can : Workable M t (r .«min_periods») n (r .widest) (planBy r n starts ends) outputs first until w agg work
+  pub ahead : Ahead (planBy r n starts ends) first at
 
 -- the window after them
 abbrev pub HasWorked : {A : Type 0} → (M : Stored Float A) → Series A → ℕ → Rows → List ℕ → List ℕ → ℕ

@@ -14,11 +14,12 @@ use Rattle.moment.specs.Figure.{doubleOf, byteOf}
 use Rattle.moment.specs.Skew.{isZero, skewCorrection, skewFinalize}
 use Rattle.moment.specs.declared.Figure.{Figure}
 use Rattle.moment.specs.declared.skew_state.SkewState.{SkewState}
+use Rattle.plan.specs.declared.bounds.Offsets.{Offsets}
 use Rattle.window.specs.Readings.{series}
 use Rattle.window.specs.Code.Filling.{Fills}
 use Rattle.window.specs.declared.Window.{Window}
 use Rattle.rolling.specs.Code.Layouts.{skewStored}
-use Rattle.rolling.specs.Code.Rows.{rowAnswer, CanWork, HasWorked}
+use Rattle.rolling.specs.Code.Rows.{planBy, Ahead, rowAnswer, CanWork, HasWorked}
 use Rattle.rolling.specs.declared.row.Rows.{Rows}
 use Rattle.rolling.specs.declared.skew.SkewPending.{SkewPending}
 use Rattle.rolling.specs.declared.skew.SkewPending.the-variants.{Missing, State}
@@ -88,8 +89,8 @@ pub record Slots (counts : List ℕ) (corrections m2s m3s factors : List Float) 
 
 -- where a block of rows may be worked
 pub record CanFill (has : Bool) (map : List ℕ) (values : List Float) (r : Rows) (starts ends : List ℕ) (outputs first until : ℕ)
-    (w : Window) (agg : SkewState) (work : List Float) (counts : List ℕ) (corrections m2s m3s factors : List Float) : Type 0 where
-  pub can : CanWork skewStored (series has map values) (length values) r starts ends outputs first until w agg work
+    (at : Offsets) (w : Window) (agg : SkewState) (work : List Float) (counts : List ℕ) (corrections m2s m3s factors : List Float) : Type 0 where
+  pub can : CanWork skewStored (series has map values) (length values) r starts ends outputs first until at w agg work
   pub short : until ≤ first + 32
   pub slots : Slots counts corrections m2s m3s factors
 
@@ -98,11 +99,12 @@ abbrev pub skewAnswer : Bool → Bool → List ℕ → List Float → Rows → L
 skewAnswer bias has map values r starts ends j =
     rowAnswer skewStored (λ z. skewFinalize z bias) (series has map values) (length values) r starts ends j
 
--- The rows from `first` up to k of a block: the window stands before row k, their bytes are written, and their slots come to their
--- doubles
+-- The rows from `first` up to k of a block: the window stands before row k with that row's bounds, their bytes are written, and their
+-- slots come to their doubles
 pub record BlockFilled (bias has : Bool) (map : List ℕ) (values : List Float) (r : Rows) (starts ends : List ℕ) (first k : ℕ)
-    (work₀ : List Float) (present₀ : List ℕ) (w : Window) (agg : SkewState) (work : List Float) (present counts : List ℕ)
+    (work₀ : List Float) (present₀ : List ℕ) (at : Offsets) (w : Window) (agg : SkewState) (work : List Float) (present counts : List ℕ)
     (corrections m2s m3s factors : List Float) : Type 0 where
+  pub ahead : Ahead (planBy r (length values) starts ends) k at
   pub worked : HasWorked skewStored (series has map values) (length values) r starts ends k work₀ w agg work
   pub bytes : Fills (λ j. byteOf (skewAnswer bias has map values r starts ends j)) first k present₀ present
   pub slots : Slots counts corrections m2s m3s factors

@@ -11,24 +11,30 @@ use Rattle.trace.specs.Slices.{Slice, entering, leaving}
 use Rattle.moment.specs.Figure.{doubleOf, byteOf}
 use Rattle.moment.specs.declared.Figure.{Figure}
 use Rattle.moment.specs.declared.Figure.the-variants.{Missing, Present}
+use Rattle.plan.specs.declared.bounds.Offsets.{Offsets}
 use Rattle.window.specs.Outputs.{Column, columnAfter}
 use Rattle.weighted.specs.Weights.{totalOf, varianceOf, weightedAt, lendingColumn}
 use Rattle.weighted.specs.Code.Sums.{Block, sumsOf, sumsAt}
 
--- row k's answer, of its variance
-unfoldable pub answerOfVariance : ℕ → ℕ → ℕ → ℕ → ℕ → Float → Figure
-answerOfVariance n left right minPeriods k variance = cond (ltb (min n (k + right) - (k - left)) minPeriods) Missing (Present variance)
+-- a row's answer, of its window from start up to end and its variance
+unfoldable pub answerOfVariance : ℕ → ℕ → ℕ → Float → Figure
+answerOfVariance start end minPeriods variance = cond (ltb (end - start) minPeriods) Missing (Present variance)
 
--- the answer of row first + r, of the sums in place r of three lists
+-- the window of row k, which starts `left` places before its own and ends at x, or with the n places
+pub record Reaches (n left k x : ℕ) (at : Offsets) : Type 0 where
+  pub start-is : at .start ≡ k - left
+  pub end-is : at .end ≡ min n x
+
+-- the answer of row first + r, of the sums in place r of three lists, where row `first` ends at x
 abbrev pub answerOfSums : ℕ → ℕ → ℕ → ℕ → ℕ → List Float → List Float → List Float → ℕ → Figure
-answerOfSums n left right minPeriods first wssq wsum wtot r =
-    answerOfVariance n left right minPeriods (first + r) (varianceOf (sumsAt wssq wsum wtot r))
+answerOfSums n left minPeriods first x wssq wsum wtot r =
+    answerOfVariance (first + r - left) (min n (x + r)) minPeriods (varianceOf (sumsAt wssq wsum wtot r))
 
 -- row k's answer, of all its places
 unfoldable pub weightedBy : List Float → List Float → Float → ℕ → ℕ → ℕ → ℕ → Figure
 unfolding answerOfVariance varianceOf sumsOf
 weightedBy values weights total left right minPeriods k =
-    answerOfVariance (length values) left right minPeriods k
+    answerOfVariance (k - left) (min (length values) (k + right)) minPeriods
     (varianceOf (sumsOf values weights total left k (min (length values) (k + right) - (k - left))))
 
 -- two lists that hold the answers of so many rows and nothing else
@@ -37,29 +43,41 @@ pub record Tabled (f : ℕ → Figure) (rows : ℕ) (figures : List Float) (pres
   pub present-are : present ≡ table (λ r. byteOf (f r)) rows
 
 -- ---- the rows of a block, of their sums: one for each place of the outputs
-pub record Finishable (n first : ℕ) (wssq wsum wtot figures : List Float) (present : List ℕ) : Type 0 where
+pub record Finishable (n left first : ℕ) (at : Offsets) (wssq wsum wtot figures : List Float) (present : List ℕ) : Type 0 where
   pub same : length present ≡ length figures
   pub inside : first + length figures ≤ n
   pub wssq-long : length figures ≤ length wssq
   pub wsum-long : length figures ≤ length wsum
   pub wtot-long : length figures ≤ length wtot
+  pub ahead : Reaches n left first (at .end) at
+  pub rises : first ≤ at .end + left
 
-abbrev pub Finishes : ℕ → ℕ → ℕ → ℕ → ℕ → Slice Float → Slice Float → Slice Float → Slice Float → Slice ℕ → Type 0
-Finishes n left right minPeriods first wssq wsum wtot figures present =
-    Tabled (answerOfSums n left right minPeriods first (entering wssq) (entering wsum) (entering wtot)) (length (entering figures))
-    (leaving figures) (leaving present)
+-- they are answered, and the row behind them has its window
+pub record Finished (n left minPeriods first : ℕ) (at : Offsets) (wssq wsum wtot : List Float) (many : ℕ) (figures : List Float) (present : List ℕ)
+    (next : Offsets) : Type 0 where
+  pub answered : Tabled (answerOfSums n left minPeriods first (at .end) wssq wsum wtot) many figures present
+  pub ahead : Reaches n left (first + many) (at .end + many) next
+
+abbrev pub Finishes : ℕ → ℕ → ℕ → ℕ → Offsets → Slice Float → Slice Float → Slice Float → Slice Float → Slice ℕ → Offsets → Type 0
+Finishes n left minPeriods first at wssq wsum wtot figures present next =
+    Finished n left minPeriods first at (entering wssq) (entering wsum) (entering wtot) (length (entering figures))
+    (leaving figures) (leaving present) next
 
 -- ---- the same rows, of the readings
-pub record Workable (n weights left right first until : ℕ) (figures : List Float) (present : List ℕ) : Type 0 where
+pub record Workable (n weights left : ℕ) (at : Offsets) (first until : ℕ) (figures : List Float) (present : List ℕ) : Type 0 where
   pub block : Block n weights left first until
-  pub full : left + right ≡ weights
+  pub ahead : Reaches n left first (first + (weights - left)) at
   pub figures-long : length figures ≡ until - first
   pub present-long : length present ≡ until - first
 
-abbrev pub Works : Slice Float → ℕ → ℕ → ℕ → Slice Float → Float → ℕ → ℕ → Slice Float → Slice ℕ → Type 0
-Works values left right minPeriods weights total first until figures present =
-    Tabled (λ r. weightedBy (entering values) (entering weights) total left right minPeriods (first + r)) (until - first)
-    (leaving figures) (leaving present)
+pub record Worked (values : List Float) (left minPeriods : ℕ) (weights : List Float) (total : Float) (first until : ℕ)
+    (figures : List Float) (present : List ℕ) (next : Offsets) : Type 0 where
+  pub answered : Tabled (λ r. weightedBy values weights total left (length weights - left) minPeriods (first + r)) (until - first) figures present
+  pub ahead : Reaches (length values) left until (until + (length weights - left)) next
+
+abbrev pub Works : Slice Float → ℕ → ℕ → Slice Float → Float → ℕ → ℕ → Slice Float → Slice ℕ → Offsets → Type 0
+Works values left minPeriods weights total first until figures present next =
+    Worked (entering values) left minPeriods (entering weights) total first until (leaving figures) (leaving present) next
 
 -- ---- all rows of a call that is accepted, over n places
 pub record AcceptedWeights (n : ℕ) (weights : List Float) (total : Float) (figures present : ℕ) : Type 0 where

@@ -5,22 +5,16 @@ use borrow.Author.Needs.{needs}
 use Rattle.weighted.proofs.rows.answer.Statement.{statement}
 use Rattle.weighted.proofs.rows.answer.Tie as tie
 
-end-of-requires : tie.Need-end-of-requires
-end-of-requires c κs = search needs
-
-start-of-requires : tie.Need-start-of-requires
-start-of-requires c κs = search needs
-
 sub-if1 : tie.Need-sub-if1
 sub-if1 c = search needs
 
 returns : tie.Need-returns
 unfolding answerOfVariance
-returns c = rw (← c .before .before .end-of .ensures, ← c .before .start-of .ensures, lt-ltb _ _ (c .if1 .taken))
+returns c = rw (lt-ltb _ _ (c .if1 .taken))
 
 returns-2 : tie.Need-returns-2
 unfolding answerOfVariance
-returns-2 c = rw (← c .before .before .end-of .ensures, ← c .before .start-of .ensures, le-ltb _ _ (c .if1 .left))
+returns-2 c = rw (le-ltb _ _ (c .if1 .left))
 
 pub answer-spec : {M : Type 1} → statement M
-answer-spec = tie.close (tie.spec end-of-requires start-of-requires sub-if1 returns returns-2)
+answer-spec = tie.close (tie.spec sub-if1 returns returns-2)

@@ -16,15 +16,20 @@ empty-at-requires c κs = search needs
 empty-requires : tie.Need-empty-requires
 empty-requires c κs = search needs
 
+opening-requires : tie.Need-opening-requires
+opening-requires c κs = c .before .before .before .before .before .before .before .before .before .pre .plan .same
+
 how-many-requires : tie.Need-how-many-requires
 how-many-requires c κs = search needs
 
 block-requires : tie.Need-block-requires
 block-requires c κs =
-    let s = c .before .before .before .before .before .before .before .before .before .before .before .before .before in
+    let s = c .before .before .before .before .before .before .before .before .before .before .before .before .before .before in
     let g = s .args in
     let h = c .before .before .before in
-    rows-can kurtosisStored _ _ _ _ _ (s .pre) (h .before .before .empty-at .ensures) (h .before .empty .ensures) (h .how-many .ensures ∙ many-rows (g .rows) (length (g .values .now)) (g .starts .now) (g .ends .now))
+    let u = h .how-many .ensures ∙ many-rows (g .rows) (length (g .values .now)) (g .starts .now) (g .ends .now) in
+    let k = h .before .before in
+    rows-can kurtosisStored _ _ _ _ _ (s .pre) (k .before .empty-at .ensures) (k .empty .ensures) u (h .before .opening .ensures)
 
 same-length : tie.Need-same-length
 same-length c = search needs
@@ -37,7 +42,7 @@ same-length-3 c = search needs
 
 returns : tie.Need-returns
 returns c =
-    let s = c .before .before .before .before .before .before .before .before .before .before .before .before .before .before .before .before .before .before .before .before in
+    let s = c .before .before .before .before .before .before .before .before .before .before .before .before .before .before .before .before .before .before .before .before .before in
     let g = s .args in
     let u = c .before .before .before .before .before .before .before .before .before .before .how-many .ensures ∙ many-rows (g .rows) (length (g .values .now)) (g .starts .now) (g .ends .now) in
     let v = c .before .before .before .before .before .before .block .ensures in
@@ -56,6 +61,7 @@ rows-spec =
     (tie.spec
     empty-at-requires
     empty-requires
+    opening-requires
     how-many-requires
     block-requires
     same-length

@@ -16,21 +16,20 @@ empty-at-requires c κs = search needs
 empty-requires : tie.Need-empty-requires
 empty-requires c κs = search needs
 
+opening-requires : tie.Need-opening-requires
+opening-requires c κs = c .before .before .before .before .before .before .before .before .before .before .before .pre .1 .plan .same
+
 how-many-requires : tie.Need-how-many-requires
 how-many-requires c κs = search needs
 
 block-requires : tie.Need-block-requires
 block-requires c κs =
-    let g = c .before .before .before .before .before .before .before .before .before .before .before .before .before .before
-    .before .args in
-    let p = c .before .before .before .before .before .before .before .before .before .before .before .before .before .before
-    .before .pre in
-    let u = c .before .before .before .how-many .ensures
-    ∙ many-rows (g .rows) (length (g .x .now)) (g .starts .now) (g .ends .now) in (
-      p .0,
-      rows-can pearsonStored _ _ _ _ _ (p .1) (c .before .before .before .before .before .empty-at .ensures)
-          (c .before .before .before .before .empty .ensures) u,
-    )
+    let s = c .before .before .before .before .before .before .before .before .before .before .before .before .before .before .before .before in
+    let g = s .args in
+    let h = c .before .before .before in
+    let u = h .how-many .ensures ∙ many-rows (g .rows) (length (g .x .now)) (g .starts .now) (g .ends .now) in
+    let k = h .before .before in
+    (s .pre .0, rows-can pearsonStored _ _ _ _ _ (s .pre .1) (k .before .empty-at .ensures) (k .empty .ensures) u (h .before .opening .ensures))
 
 same-length : tie.Need-same-length
 same-length c = search needs
@@ -43,10 +42,8 @@ same-length-3 c = search needs
 
 returns : tie.Need-returns
 returns c =
-    let g = c .before .before .before .before .before .before .before .before .before .before .before .before .before .before
-    .before .before .before .before .before .before .before .before .args in
-    let d = c .before .before .before .before .before .before .before .before .before .before .before .before .before .before
-    .before .before .before .before .before .before .before .before .pre .1 in
+    let g = c .before .before .before .before .before .before .before .before .before .before .before .before .before .before .before .before .before .before .before .before .before .before .before .args in
+    let d = c .before .before .before .before .before .before .before .before .before .before .before .before .before .before .before .before .before .before .before .before .before .before .before .pre .1 in
     let u = c .before .before .before .before .before .before .before .before .before .before .how-many .ensures
     ∙ many-rows (g .rows) (length (g .x .now)) (g .starts .now) (g .ends .now) in
     let v = c .before .before .before .before .before .before .block .ensures in
@@ -64,6 +61,7 @@ rows-spec =
     (tie.spec
     empty-at-requires
     empty-requires
+    opening-requires
     how-many-requires
     block-requires
     same-length

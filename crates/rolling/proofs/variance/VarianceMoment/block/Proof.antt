@@ -12,48 +12,56 @@ use Rattle.rolling.proofs.variance.VarianceMoment.block.Statement.{stat
 use Rattle.rolling.proofs.variance.VarianceMoment.block.Tie as tie
 
 abbrev Inv-loop : tie.InvT-loop
-Inv-loop self rows values has-map map starts ends work₀ figures₀ present₀ first until w₀ row₀ work figures present w row =
-    Turn varStored (λ z. varFinalize z (self .ddof)) (series has-map map values) (length values) rows starts ends first until work₀ figures₀ present₀ (w .window) (w .«agg_back») work figures present row
+Inv-loop self rows values has-map map starts ends work₀ figures₀ present₀ first until w₀ here₀ row₀ work figures present w here row =
+    Turn varStored (λ z. varFinalize z (self .ddof)) (series has-map map values) (length values) rows starts ends first until work₀ figures₀ present₀ (w .window) (w .«agg_back») here work figures present row
 
 abbrev μ-loop : tie.MeasureT-loop
-μ-loop self rows values has-map map starts ends work₀ figures₀ present₀ first until w₀ row₀ work figures present w row = until - row
+μ-loop self rows values has-map map starts ends work₀ figures₀ present₀ first until w₀ here₀ row₀ work figures present w here row = until - row
 
-abbrev start : tie.After-offsets Inv-loop μ-loop → tie.Start Inv-loop μ-loop
-start r = r .before .before .before .before .before .before .before .before .before .before
+-- where the loop began
+abbrev start : tie.In-loop Inv-loop μ-loop → tie.Start Inv-loop μ-loop
+start r = r .before .before .before .before .before .before .before .before .before
 
 loop-holds : tie.Need-loop-holds Inv-loop μ-loop
 loop-holds c = turn-starts varStored _ _ _ _ _ _ _ _ _ _ _ (c .before .before .before .before .before .before .before .pre)
 
-offsets-requires : tie.Need-offsets-requires Inv-loop μ-loop
-offsets-requires c κs = turn-row varStored _ _ _ _ _ _ _ _ _ _ _ (c .before .before .before .before .before .before .before .before .before .pre) (c .before .loop .inv) (c .loop-test .taken)
-
 step-requires : tie.Need-step-requires Inv-loop μ-loop
 step-requires c κs =
     let r = c .before in
-    turn-movable varStored _ _ _ _ _ _ _ _ _ _ _ (start r .pre) (r .before .before .loop .inv) (r .before .loop-test .taken) (r .offsets .ensures)
+    turn-movable varStored _ _ _ _ _ _ _ _ _ _ _ (start r .pre) (r .before .loop .inv) (r .loop-test .taken)
 
 answer-requires : tie.Need-answer-requires Inv-loop μ-loop
 answer-requires c κs =
     let r = c .before .before .before .before .before in
     let q = c .before .before .before .step in
-    let f = turn-fits varStored _ _ _ _ _ _ _ _ _ _ _ (start r .pre) (r .before .before .loop .inv) (r .before .loop-test .taken) (r .offsets .ensures) (q .ensures) (q .kept .0) in
+    let f = turn-fits varStored _ _ _ _ _ _ _ _ _ _ _ (start r .pre) (r .before .loop .inv) (r .loop-test .taken) (q .ensures) (q .kept .0) in
     (weighed varStates var-weighs _ _ (q .result .window) _ _ (q .ensures .held) (f .0) (f .1), f .2)
 
 write-requires : tie.Need-write-requires Inv-loop μ-loop
-write-requires c κs = let r = c .before .before .before .before .before .before .before .before in turn-there varStored _ _ _ _ _ _ _ _ _ _ _ (start r .pre) (r .before .before .loop .inv) (r .before .loop-test .taken)
+write-requires c κs =
+    let r = c .before .before .before .before .before .before .before .before in
+    turn-there varStored _ _ _ _ _ _ _ _ _ _ _ (start r .pre) (r .before .loop .inv) (r .loop-test .taken)
+
+next-requires : tie.Need-next-requires Inv-loop μ-loop
+next-requires c κs =
+    let r = c .before .before .before .before .before .before .before .before .before .before .before .before .before in
+    turn-row varStored _ _ _ _ _ _ _ _ _ _ _ (start r .pre) (r .before .loop .inv) (r .loop-test .taken)
 
 add-row : tie.Need-add-row Inv-loop μ-loop
-add-row c = let h = c .before .before .before .before .before .before .before .before .before .before .before .before .before .before .loop-test .taken in omega (arith, start (c .before .before .before .before .before .before .before .before .before .before .before .before .before) .fits)
+add-row c =
+    let r = c .before .before .before .before .before .before .before .before .before .before .before .before .before .before in
+    let h = r .loop-test .taken in
+    omega (arith, start r .fits)
 
 loop-less : tie.Need-loop-less Inv-loop μ-loop
 loop-less c = let h = c .before .before .before .before .before .before .before .before .before .before .before .before .before .before .loop-test .taken in omega arith
 
 loop-again : tie.Need-loop-again Inv-loop μ-loop
 loop-again c =
-    let r = c .before .before .before .before .before .before .before .before .before .before .before .before .before in
-    let q = c .before .before .before .before .before .before .before .before .before .before .before .step in
-    turn-next varStored _ _ _ _ _ _ _ _ _ _ _ (start r .pre) (r .before .before .loop .inv) (r .before .loop-test .taken) (r .offsets .ensures) (q .ensures) (q .kept .0)
-    (c .before .before .before .before .before .before .before .answer .ensures) (c .before .before .before .before .write .ensures)
+    let r = c .before .before .before .before .before .before .before .before .before .before .before .before .before .before in
+    let q = c .before .before .before .before .before .before .before .before .before .before .before .before .step in
+    turn-next varStored _ _ _ _ _ _ _ _ _ _ _ (start r .pre) (r .before .loop .inv) (r .loop-test .taken) (q .ensures) (q .kept .0)
+    (c .before .before .before .before .before .before .before .before .answer .ensures) (c .before .before .before .before .before .write .ensures) (c .next .ensures)
 
 same-length : tie.Need-same-length Inv-loop μ-loop
 same-length c = c .before .loop .inv .working .same
@@ -65,7 +73,9 @@ same-length-3 : tie.Need-same-length-3 Inv-loop μ-loop
 same-length-3 c = c .before .loop .inv .present-same
 
 returns : tie.Need-returns Inv-loop μ-loop
-returns c = turn-done varStored _ _ _ _ _ _ _ _ _ _ _ (c .before .before .before .before .before .before .before .before .before .pre) (c .before .loop .inv) (c .loop-test .left)
+returns c =
+    turn-done varStored _ _ _ _ _ _ _ _ _ _ _
+    (c .before .before .before .before .before .before .before .before .before .pre) (c .before .loop .inv) (c .loop-test .left)
 
 pub block-spec : {M : Type 1} → statement M
 block-spec =
@@ -74,10 +84,10 @@ block-spec =
     Inv-loop
     μ-loop
     loop-holds
-    offsets-requires
     step-requires
     answer-requires
     write-requires
+    next-requires
     add-row
     loop-less
     loop-again
