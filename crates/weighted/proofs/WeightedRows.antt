@@ -29,7 +29,7 @@ use Rattle.window.specs.Outputs.{Column, column, columnAfter, filled}
 use Rattle.window.specs.Code.Filling.{Upto}
 use Rattle.window.proofs.Outputs.{upto-done, unfilled, column-is}
 use Rattle.weighted.specs.Weights.{Sums, totalOf, varianceOf, computeVarWeights, weightsStart, aligned, weightedAt, weightsRefusal, CalledWeights}
-use Rattle.weighted.specs.Code.Sums.{sumsOf, SumsUpTo}
+use Rattle.weighted.specs.Code.Sums.{sumsOf, sumsAt, Block, SumsUpTo}
 use Rattle.weighted.specs.Code.Rows.{answerOfVariance, Reaches, answerOfSums, weightedBy, Finished, Worked, AcceptedWeights, WrittenWeights}
 
 -- ---- the window that the rows hold
@@ -39,6 +39,15 @@ pub next-window : (n left k x : ℕ) (at : Offsets) {next : Offsets} → k < n �
 next-window n left k x at {next} h v q =
     let o : _≡_ {A = ℕ × ℕ} (next .start, next .end) ((k + 1) - left, min n (x + 1)) = q ∙ rw (v .start-is, v .end-is) (next-reaches left x n k h) in
     record { start-is = ap (λ (p : ℕ × ℕ). p .0) o; end-is = ap (λ (p : ℕ × ℕ). p .1) o }
+
+-- a block's first row has one
+pub in-series : {n weights left first until : ℕ} → Block n weights left first until → first < n
+in-series b = let s = b .some in let i = b .inside in omega arith
+
+-- an answer of it
+pub window-answer : (n left k x minPeriods : ℕ) {at : Offsets} {y z : Float} → Reaches n left k x at → y ≡ z
+    → answerOfVariance (at .start) (at .end) minPeriods y ≡ answerOfVariance (k - left) (min n x) minPeriods z
+window-answer n left k x minPeriods v e = rw (v .start-is, v .end-is, e)
 
 -- ---- after the last weight
 module _ (values weights : List Float) (total : Float) (left minPeriods first until : ℕ) (at : Offsets)
@@ -55,7 +64,7 @@ module _ (values weights : List Float) (total : Float) (left minPeriods first un
       let e = ahead .end-is in
       let z : first + r + length weights - left ≡ first + r + right = omega arith in
       let y : min (length values) (at .end + r) ≡ min (length values) (first + r + right) = omega arith in
-      ap (λ (i : ℕ). answerOfVariance (first + r - left) i minPeriods _) y
+      ap (λ (i : ℕ). answerOfVariance (first + r - left) i minPeriods (varianceOf (sumsAt wssq wsum wtot r))) y
       ∙ ap (λ (s : Sums). answerOfVariance (first + r - left) (min (length values) (first + r + right)) minPeriods (varianceOf s))
       (held .sums-are r h ∙ ap (λ (i : ℕ). sumsOf values weights total left (first + r) (min (length values) i - (first + r - left))) z)
 
@@ -74,7 +83,7 @@ module _ (values weights : List Float) (total : Float) (left minPeriods first un
           figures-are = t .answered .figures-are ∙ ap (table _) m ∙ table-same _ _ (until - first) (λ r h. ap doubleOf (row-done r h));
           present-are = t .answered .present-are ∙ ap (table _) m ∙ table-same _ _ (until - first) (λ r h. ap byteOf (row-done r h));
         };
-        ahead = record { start-is = omega arith; end-is = omega arith };
+        ahead = λ _. record { start-is = omega arith; end-is = omega arith };
       }
 
 -- ---- a row's answer is the paper's

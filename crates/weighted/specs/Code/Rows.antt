@@ -1,5 +1,5 @@
 -- The answers of rows, of their sums, and the lists that a block of rows and all rows of a call fill. Assumes nothing.
-use Prim.Native.Nat.{ℕ, _+_, _-_, _≤_, min}
+use Prim.Native.Nat.{ℕ, _+_, _-_, _≤_, _<_, min}
 use mathlib.Core.Path.{_≡_}
 use mathlib.Core.Bool.{Bool, cond}
 use mathlib.Core.List.{List}
@@ -24,6 +24,10 @@ answerOfVariance start end minPeriods variance = cond (ltb (end - start) minPeri
 pub record Reaches (n left k x : ℕ) (at : Offsets) : Type 0 where
   pub start-is : at .start ≡ k - left
   pub end-is : at .end ≡ min n x
+
+-- the window that the rows hold before row k, where there is such a row
+abbrev pub Ahead : ℕ → ℕ → ℕ → ℕ → Offsets → Type 0
+Ahead n left k x at = k < n → Reaches n left k x at
 
 -- the answer of row first + r, of the sums in place r of three lists, where row `first` ends at x
 abbrev pub answerOfSums : ℕ → ℕ → ℕ → ℕ → ℕ → List Float → List Float → List Float → ℕ → Figure
@@ -66,14 +70,14 @@ Finishes n left minPeriods first at wssq wsum wtot figures present next =
 -- ---- the same rows, of the readings
 pub record Workable (n weights left : ℕ) (at : Offsets) (first until : ℕ) (figures : List Float) (present : List ℕ) : Type 0 where
   pub block : Block n weights left first until
-  pub ahead : Reaches n left first (first + (weights - left)) at
+  pub ahead : Ahead n left first (first + (weights - left)) at
   pub figures-long : length figures ≡ until - first
   pub present-long : length present ≡ until - first
 
 pub record Worked (values : List Float) (left minPeriods : ℕ) (weights : List Float) (total : Float) (first until : ℕ)
     (figures : List Float) (present : List ℕ) (next : Offsets) : Type 0 where
   pub answered : Tabled (λ r. weightedBy values weights total left (length weights - left) minPeriods (first + r)) (until - first) figures present
-  pub ahead : Reaches (length values) left until (until + (length weights - left)) next
+  pub ahead : Ahead (length values) left until (until + (length weights - left)) next
 
 abbrev pub Works : Slice Float → ℕ → ℕ → Slice Float → Float → ℕ → ℕ → Slice Float → Slice ℕ → Offsets → Type 0
 Works values left minPeriods weights total first until figures present next =

@@ -1,5 +1,5 @@
 -- Block after block the outputs hold the answers of the rows before. Assumes nothing.
-use Prim.Native.Nat.{_-_, _≤_}
+use Prim.Native.Nat.{_+_, _-_, _≤_}
 use mathlib.Core.Path.{_≡_, refl}
 use native.Mathlib.Omega.{arith}
 use borrow.Author.Needs.{needs}
@@ -10,18 +10,20 @@ use Rattle.moment.specs.Figure.{doubleOf, byteOf}
 use Rattle.plan.proofs.FixedWindows.{right-some}
 use Rattle.window.specs.Code.Filling.{Upto}
 use Rattle.window.proofs.Outputs.{upto-start}
-use Rattle.weighted.specs.Code.Rows.{weightedBy}
+use Rattle.weighted.specs.Code.Rows.{Ahead, weightedBy}
 use Rattle.weighted.proofs.WeightedRows.{rows-done}
 use Rattle.weighted.proofs.rows.write_rows.Statement.{statement}
 use Rattle.weighted.proofs.rows.write_rows.Tie as tie
 
 abbrev Inv-loop : tie.InvT-loop
-Inv-loop values center min-periods weights total figures₀ present₀ right left first₀ figures present first =
-    (first ≤ length values) × Upto (λ k. doubleOf (weightedBy values weights total left right min-periods k)) figures₀ figures first
-    × Upto (λ k. byteOf (weightedBy values weights total left right min-periods k)) present₀ present first
+Inv-loop values center min-periods weights total figures₀ present₀ right left at₀ first₀ figures present at first =
+    (first ≤ length values)
+    × Upto (λ k. doubleOf (weightedBy values weights total left (length weights - left) min-periods k)) figures₀ figures first
+    × Upto (λ k. byteOf (weightedBy values weights total left (length weights - left) min-periods k)) present₀ present first
+    × Ahead (length values) left first (first + (length weights - left)) at
 
 abbrev μ-loop : tie.MeasureT-loop
-μ-loop values center min-periods weights total figures₀ present₀ right left first₀ figures present first = length values - first
+μ-loop values center min-periods weights total figures₀ present₀ right left at₀ first₀ figures present at first = length values - first
 
 right-window-requires : tie.Need-right-window-requires Inv-loop μ-loop
 right-window-requires c κs = search needs
@@ -29,8 +31,14 @@ right-window-requires c κs = search needs
 sub-left : tie.Need-sub-left Inv-loop μ-loop
 sub-left c = search needs
 
+shorter-requires : tie.Need-shorter-requires Inv-loop μ-loop
+shorter-requires c κs = search needs
+
 loop-holds : tie.Need-loop-holds Inv-loop μ-loop
-loop-holds c = (omega arith, upto-start _ _, upto-start _ _)
+loop-holds c =
+    let e = c .shorter .ensures in
+    let r = c .before .right-window .ensures .1 in
+    (omega arith, upto-start _ _, upto-start _ _, λ h. record { start-is = omega arith; end-is = omega arith })
 
 end-of-requires : tie.Need-end-of-requires Inv-loop μ-loop
 end-of-requires c κs = search needs
@@ -61,8 +69,8 @@ block-requires c κs =
     let b = c .before .before .end-of .ensures in
     let t = c .before .before .before .loop-test .taken in
     let l = c .before .before .before .before in
-    let r = l .before .right-window .ensures in
-    let s = l .before .before .before .before .before .before in
+    let r = l .before .before .right-window .ensures in
+    let s = l .before .before .before .before .before .before .before in
     let some = s .pre .some in
     let f = s .pre .figures-fit in
     let g = s .pre .present-fit in
@@ -72,7 +80,7 @@ block-requires c κs =
     let e = r .0 in
     record {
       block = record { some = omega arith; few = omega arith; inside = omega arith; series = s .pre .few; before = omega arith };
-      full = omega arith;
+      ahead = l .loop .inv .3;
       figures-long = mid-len _ _ _ (omega arith);
       present-long = mid-len _ _ _ (omega arith);
     }
@@ -88,8 +96,9 @@ loop-again c =
     let n = b .end-of .ensures in
     let h : l .first ≤ b .end-of .result = omega arith in (
       omega arith,
-      record { long = search needs; is = table-part _ _ _ _ _ _ _ h (l .inv .1 .is) (λ i o. refl) (u .figures-are) },
-      record { long = search needs; is = table-part _ _ _ _ _ _ _ h (l .inv .2 .is) (λ i o. refl) (u .present-are) },
+      record { long = search needs; is = table-part _ _ _ _ _ _ _ h (l .inv .1 .is) (λ i o. refl) (u .answered .figures-are) },
+      record { long = search needs; is = table-part _ _ _ _ _ _ _ h (l .inv .2 .is) (λ i o. refl) (u .answered .present-are) },
+      u .ahead,
     )
 
 same-length : tie.Need-same-length Inv-loop μ-loop
@@ -103,10 +112,13 @@ returns c =
     let l = c .before .loop in
     let h = c .loop-test .left in
     let i = l .inv .0 in
-    let s = c .before .before .before .before .before .before .before in
+    let k = c .before .before .before in
+    let s = k .before .before .before .before .before in
     let e : l .first ≡ length (s .args .values .now) = omega arith in
-    let r = c .before .before .right-window .ensures .0 in
-    rows-done _ _ _ _ _ _ (s .pre .some) r (s .pre .total-is) e (l .inv .1) (l .inv .2)
+    let r = k .right-window .ensures in
+    let m = r .1 in
+    let z : length (s .args .weights .now) - (length (s .args .weights .now) - k .right-window .result) ≡ k .right-window .result = omega arith in
+    rows-done _ _ _ _ _ _ (s .pre .some) (r .0) (s .pre .total-is) e (rw z at (l .inv .1)) (rw z at (l .inv .2))
 
 pub write-rows-spec : {M : Type 1} → statement M
 write-rows-spec =
@@ -116,6 +128,7 @@ write-rows-spec =
     μ-loop
     right-window-requires
     sub-left
+    shorter-requires
     loop-holds
     end-of-requires
     mul-block
