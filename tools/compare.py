@@ -2,7 +2,8 @@
 """compare.py OLD NEW [--n 1000000] [--turns 31] [--filter WORDS]: two builds of libmoments.a, each in its folder, over plans and fixed windows.
 
 Both are loaded into one process and called in turn, now the one first and now the other, with the same lists, so that whatever slows the
-machine for a while slows both. A line has the medians in ns a row and new divided by old. Exit 1 where an answer or a byte that is left
+machine for a while slows both. A line has the medians in ns a row, and the median of the turns' ratios, new divided by old: a machine
+whose speed changes from turn to turn moves the first two more than the last. Exit 1 where an answer or a byte that is left
 in a list of outputs differs. An entry that either build lacks is left out, and said so.
 """
 import argparse, array, ctypes, math, os, random, statistics, subprocess, sys, tempfile, time
@@ -72,15 +73,17 @@ for name, rows in plans.items():
             traces = [trace[0], size_t(8 * n), *readings, *mapped, second[0], size_t(8 * n), *second_readings, *other]
             cases.append((f"plan {name}, {figure}, {tag}", f"moments_plan_{figure}",
                           [*traces, *starts, *ends, size_t(1), *setting, *sum(lists, [])]))
-for size in (8, 128, 4096):
+for size, center in ((size, center) for size in (8, 128, 4096) for center in (False, True)):
+    window, where = [size_t(size), size_t(1), flag(center)], f"{'centred' if center else 'fixed'} {size}"
     for figure, setting in settings.items():
         for tag, mapped in maps.items():
-            cases.append((f"fixed {size}, {figure}, {tag}", f"moments_rolling_{figure}",
-                          [*trace, *mapped, size_t(size), size_t(1), flag(False), *setting, *sum(lists, [])]))
+            cases.append((f"{where}, {figure}, {tag}", f"moments_rolling_{figure}", [*trace, *mapped, *window, *setting, *sum(lists, [])]))
     for figure, setting in pair_settings.items():
         for tag, (mapped, other) in pair_maps.items():
-            cases.append((f"fixed {size}, {figure}, {tag}", f"moments_rolling_{figure}",
-                          [*trace, *mapped, *second, *other, size_t(size), size_t(1), flag(False), *setting, *sum(lists, [])]))
+            cases.append((f"{where}, {figure}, {tag}", f"moments_rolling_{figure}",
+                          [*trace, *mapped, *second, *other, *window, *setting, *sum(lists, [])]))
+    if size < 4096:
+        cases.append((f"{where}, weights", "moments_rolling_var_weights", [*trace, *none, *window, *lent(double, [1] * size), *figures, *present]))
 
 bad, ratios = 0, []
 with tempfile.TemporaryDirectory() as room:
@@ -105,8 +108,8 @@ for name, entry, given in cases:
             function(*given)
             times[side].append((time.perf_counter_ns() - began) / n)
     old, new = [statistics.median(side) for side in times]
-    ratios.append(new / old)
-    print(f"{name:36} {old:8.2f} {new:8.2f} {new / old:8.3f}", flush=True)
+    ratios.append(statistics.median(b / a for a, b in zip(*times)))
+    print(f"{name:36} {old:8.2f} {new:8.2f} {ratios[-1]:8.3f}", flush=True)
     if left[0] != left[1] or left[0][0] != 0:
         print(f"{name}: the answers differ, or the call is refused ({left[0][0]}, {left[1][0]})"); bad += 1
 if not ratios:

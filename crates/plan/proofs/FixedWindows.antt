@@ -1,6 +1,6 @@
 -- The bounds of fixed windows are rows that reach so many places to each side, and these are a plan in order, whose widest window is
 -- the smaller of size and series; so nothing more refuses a plan call of them. Assumes nothing.
-use Prim.Native.Nat.{ℕ, _+_, _-_, _*_, _/_, _≤_, _<_, min}
+use Prim.Native.Nat.{ℕ, _+_, _-_, _*_, _/_, _%_, _^_, _≤_, _<_, min}
 use mathlib.Core.Path.{_≡_, refl, sym, ap, _∙_, subst}
 use mathlib.Core.Bool.{Bool, true, false, cond, _||_}
 use mathlib.Core.List.{List}
@@ -14,10 +14,10 @@ use Rattle.float.proofs.Tables.{table-length, table-place, table-same}
 use Rattle.trace.specs.Refusals.{refusal, _orElse_, tooMany}
 use Rattle.trace.proofs.Accepted.{none-of, not-refused}
 use Rattle.plan.specs.Plan.{Plan, rows, rowStart, rowEnd}
-use Rattle.plan.specs.Bounds.{boundsAt, bounds, raised, nextOffsets}
+use Rattle.plan.specs.Bounds.{boundsAt, bounds, nextOffsets}
 use Rattle.plan.specs.Refusals.{wrongLists, rowsRefusal, widest, planRefusal, fixedRefusal}
 use Rattle.plan.specs.Code.Accepted.{Planned, Accepted}
-use Rattle.plan.specs.Code.Reaching.{rightOf, reaching, rowsOf}
+use Rattle.plan.specs.Code.Reaching.{rightOf, reaching, rowsOf, StepsTo}
 use Rattle.plan.proofs.Plans.{first-stands, none-then, wide-all, rows-in-order, widest-under}
 
 -- as many rows as places, or as are listed
@@ -26,35 +26,37 @@ rows-are left right n starts ends true = sym (table-length (λ i. i - left) n)
 rows-are left right n starts ends false = refl
 
 -- ---- a step
--- a bound is raised by at most one, and not lowered
-pub raised-one : (len bound : ℕ) → (bound ≤ raised len bound) × (raised len bound ≤ bound + 1)
-raised-one len bound = go (ltb bound len)
-  where
-    go : (b : Bool) → (bound ≤ cond b (bound + 1) bound) × (cond b (bound + 1) bound ≤ bound + 1)
-    go true = (omega arith, omega arith)
-    go false = (omega arith, omega arith)
-
--- below the end a bound moves on, and at the end it stays
-raised-is : (len bound : ℕ) → bound ≤ len → raised len bound ≡ min len (bound + 1)
-raised-is len bound h = go (ltb bound len) refl
-  where
-    go : (b : Bool) → ltb bound len ≡ b → cond b (bound + 1) bound ≡ min len (bound + 1)
-    go true e = let o = ltb-true bound len e in omega arith
-    go false e = let o = ltb-false bound len e in omega arith
+-- a start stays or is the next place, and so is an end
+pub stepped : (b : Bool) (bound : ℕ) → (bound ≤ cond b bound (bound + 1)) × (cond b bound (bound + 1) ≤ bound + 1)
+stepped true bound = (omega arith, omega arith)
+stepped false bound = (omega arith, omega arith)
 
 -- the step of a row that starts `left` places before its own and ends at x or with the places
-module _ (left x n i : ℕ) (h : i < n) where
-  next-start : cond (ltb i left) (i - left) (raised n (i - left)) ≡ (i + 1) - left
+module _ (left x n i : ℕ) where
+  next-start : cond (ltb i left) (i - left) (i - left + 1) ≡ (i + 1) - left
   next-start = go (ltb i left) refl
     where
-      go : (b : Bool) → ltb i left ≡ b → cond b (i - left) (raised n (i - left)) ≡ (i + 1) - left
+      go : (b : Bool) → ltb i left ≡ b → cond b (i - left) (i - left + 1) ≡ (i + 1) - left
       go true e = let o = ltb-true i left e in omega arith
-      go false e = let o = ltb-false i left e in raised-is n (i - left) (omega arith) ∙ omega arith
+      go false e = let o = ltb-false i left e in omega arith
+
+  next-end : cond (ltb (min n x) n) (min n x + 1) (min n x) ≡ min n (x + 1)
+  next-end = go (ltb (min n x) n) refl
+    where
+      go : (b : Bool) → ltb (min n x) n ≡ b → cond b (min n x + 1) (min n x) ≡ min n (x + 1)
+      go true e = let o = ltb-true (min n x) n e in omega arith
+      go false e = let o = ltb-false (min n x) n e in omega arith
 
   pub next-reaches : nextOffsets i (i - left, min n x) left n ≡ ((i + 1) - left, min n (x + 1))
-  next-reaches =
-      let e : min n (min n x + 1) ≡ min n (x + 1) = omega arith in
-      rw (next-start, raised-is n (min n x) (omega arith), e)
+  next-reaches = rw (next-start, next-end)
+
+  -- the same in the code's numbers
+  pub steps-reach : i < n → n < 2 ^ 64 → {s e s' e' : ℕ} → s ≡ i - left → e ≡ min n x → StepsTo (nextOffsets i (s, e) left n) s' e' →
+      (s' ≡ (i + 1) - left) × (e' ≡ min n (x + 1))
+  steps-reach h f {s} {e} a b o =
+      let q : nextOffsets i (s, e) left n ≡ ((i + 1) - left, min n (x + 1)) = rw (a, b) next-reaches in
+      let z : (i + 1 - left) % 2 ^ 64 ≡ (i + 1) - left = omega arith in
+      (o .start-is ∙ ap (λ (p : ℕ × ℕ). p .0 % 2 ^ 64) q ∙ z, o .end-is ∙ ap (λ (p : ℕ × ℕ). p .1) q)
 
 -- ---- rows that reach `left` places before their own and `right` from it on
 module _ (left right n : ℕ) where

@@ -30,12 +30,7 @@ unfoldable pub bounds : Bool → ℕ → ℕ → Plan
 unfolding table
 bounds center windowSize n = planOf (table (λ i. boundsAt center windowSize n i .0) n) (table (λ i. boundsAt center windowSize n i .1) n)
 
--- Document 02, request 3, "each row's start and end shall come from the pair and row number before": a bound stepped on, no further than
--- the end of len places
-abbrev pub raised : ℕ → ℕ → ℕ
-raised len bound = cond (ltb bound len) (bound + 1) bound
-
--- "Hold the previous pair and step it on": of row i's pair the next row's, where windows start `left` places before their own and there
--- are len places. Until row i has `left` places before it, the start stays.
+-- Document 02, request 3: "Hold the previous pair and step it on". The pair of the row behind row i, of row i's pair, where windows start
+-- `left` places before their own and there are len places: the start moves once row i has `left` places before it, the end until it is len.
 abbrev pub nextOffsets : ℕ → ℕ × ℕ → ℕ → ℕ → ℕ × ℕ
-nextOffsets i at left len = (cond (ltb i left) (at .0) (raised len (at .0)), raised len (at .1))
+nextOffsets i at left len = (cond (ltb i left) (at .0) (at .0 + 1), cond (ltb (at .1) len) (at .1 + 1) (at .1))

@@ -2,8 +2,8 @@
 // a row's window from the one before.
 ghost use mathlib.Core.Path.{_≡_};
 ghost use Prim.Native.Nat.{min, _+_, _-_, _≤_};
-ghost use Rattle.plan.specs.Bounds.{offsetsAt, raised, nextOffsets};
-ghost use Rattle.plan.specs.Code.Reaching.{rightOf};
+ghost use Rattle.plan.specs.Bounds.{offsetsAt, nextOffsets};
+ghost use Rattle.plan.specs.Code.Reaching.{rightOf, StepsTo};
 use crate::shorter;
 
 // The window of a row: places start up to but not including end.
@@ -56,18 +56,12 @@ pub fn det_offsets(i: usize, window_size: usize, len: usize, center: bool) -> Of
     }
 }
 
-// A bound stepped on, no further than `len`.
-fn raised(len: usize, bound: usize) -> usize
-    ensures { λ r. ⌜ r ≡ raised len bound ⌝ }
-{
-    if bound < len { bound + 1 } else { bound }
-}
-
-// The window of the row behind row i, from row i's own, where windows start `left` places before their own and there are `len` places.
+// The window of the row behind row i, from row i's own, where windows start `left` places before their own and there are `len` places. No
+// row's start is 2^64 - 1; of any other pair with that start the next one wraps.
 pub fn next_offsets(i: usize, at: Offsets, left: usize, len: usize) -> Offsets
-    ensures { λ r. ⌜ (r .start, r .end) ≡ nextOffsets i (at .start, at .end) left len ⌝ }
+    ensures { λ r. ⌜ StepsTo (nextOffsets i (at .start, at .end) left len) (r .start) (r .end) ⌝ }
 {
-    let end = raised(len, at.end);
+    let end = if at.end < len { at.end + 1 } else { at.end };
     if i < left {
         return Offsets {
             start: at.start,
@@ -75,7 +69,7 @@ pub fn next_offsets(i: usize, at: Offsets, left: usize, len: usize) -> Offsets
         };
     }
     Offsets {
-        start: raised(len, at.start),
+        start: std::num::wrapping_add_usize(at.start, 1),
         end,
     }
 }

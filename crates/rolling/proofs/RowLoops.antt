@@ -13,9 +13,9 @@ use Rattle.moment.specs.declared.Figure.{Figure}
 use Rattle.plan.specs.Plan.{Plan, rows, planOf}
 use Rattle.plan.specs.Bounds.{nextOffsets}
 use Rattle.plan.specs.Refusals.{needed}
-use Rattle.plan.specs.Code.Reaching.{reaching}
+use Rattle.plan.specs.Code.Reaching.{reaching, StepsTo}
 use Rattle.plan.specs.declared.bounds.Offsets.{Offsets}
-use Rattle.plan.proofs.FixedWindows.{rows-are, start-at, end-at, next-reaches}
+use Rattle.plan.proofs.FixedWindows.{rows-are, start-at, end-at, steps-reach}
 use Rattle.window.specs.Places.{Series}
 use Rattle.window.specs.Outputs.{filled, kept}
 use Rattle.window.specs.Code.Memory.{Stored}
@@ -45,14 +45,14 @@ module _ (r : Rows) (n : ℕ) (starts ends : List ℕ) where
   pub opens-fixed : r .fixed ≡ true → (at : Offsets) → at .start ≡ 0 → at .end ≡ min n (r .right) → Ahead (planBy r n starts ends) 0 at
   opens-fixed f at a b = fixed-ahead f 0 {at = at} (a ∙ omega arith) (b ∙ omega arith)
 
-  pub next-fixed : r .fixed ≡ true → {k : ℕ} {at next : Offsets} → RowIn r n starts ends k at
-      → (next .start, next .end) ≡ nextOffsets k (at .start, at .end) (r .left) n → Ahead (planBy r n starts ends) (k + 1) next
-  next-fixed f {k} {at} {next} i q =
+  pub next-fixed : r .fixed ≡ true → n < 2 ^ 64 → {k : ℕ} {at next : Offsets} → RowIn r n starts ends k at
+      → StepsTo (nextOffsets k (at .start, at .end) (r .left) n) (next .start) (next .end) → Ahead (planBy r n starts ends) (k + 1) next
+  next-fixed f o {k} {at} {next} i q =
       let h = fixed-listed f (i .listed) in
       let b : RowBounds (reaching (r .left) (r .right) n) k at = rw f at (i .bounds) in
-      let o : _≡_ {A = ℕ × ℕ} (next .start, next .end) ((k + 1) - r .left, min n (k + r .right + 1)) =
-          q ∙ rw (b .start-is ∙ start-at (r .left) (r .right) n k h, b .end-is ∙ end-at (r .left) (r .right) n k h) (next-reaches (r .left) (k + r .right) n k h) in
-      fixed-ahead f (k + 1) {at = next} (ap (λ (x : ℕ × ℕ). x .0) o) (ap (λ (x : ℕ × ℕ). x .1) o ∙ omega arith)
+      let s = steps-reach (r .left) (k + r .right) n k h o (b .start-is ∙ start-at (r .left) (r .right) n k h)
+      (b .end-is ∙ end-at (r .left) (r .right) n k h) q in
+      fixed-ahead f (k + 1) {at = next} (s .0) (s .1 ∙ omega arith)
 
   pub listed-ahead : r .fixed ≡ false → {k : ℕ} {at : Offsets} → RowBounds (planOf starts ends) k at → Ahead (planBy r n starts ends) k at
   listed-ahead f b i = rw f b

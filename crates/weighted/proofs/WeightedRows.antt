@@ -1,19 +1,21 @@
 -- What a row has gained when all weights are done is what 002's fold over the aligned part gives, so a row's answer is the paper's; and
 -- what the ends of a weighted call leave. Assumes nothing.
-use Prim.Native.Nat.{ℕ, _+_, _-_, _/_, _≤_, _<_, min}
+use Prim.Native.Nat.{ℕ, _+_, _-_, _/_, _^_, _≤_, _<_, min}
 use mathlib.Core.Path.{_≡_, refl, sym, ap, _∙_}
 use mathlib.Core.Bool.{Bool, true, false, cond}
 use mathlib.Core.List.{List, [], _∷_, _++_}
 use native.Mathlib.Omega.{arith}
-use borrow.Author.Tests.{eqb-true, eqb-false, ltb-false, not-false}
-use lib.Dec.{eqb, ltb, lit≤}
-use lib.ListN.{length, drop}
+use mir.Val.{boolByte}
+use borrow.Author.Tests.{eqb-true, eqb-false, ltb-false, leb-true, leb-false, lt-ltb, le-ltb, not-false}
+use lib.Dec.{eqb, leb, ltb, lit≤}
+use lib.ListN.{length, take, drop, getD, List·getD-append}
+use lib.Seq.{getD-take, getD-drop}
 use lib.Ieee.{Float, eq}
 use Rattle.float.specs.Operators.{zero64}
 use Rattle.float.specs.Tables.{table}
 use Rattle.float.proofs.Cases.{apart}
 use Rattle.float.proofs.Counts.{zero-is}
-use Rattle.float.proofs.Tables.{table-same}
+use Rattle.float.proofs.Tables.{table-length, table-place, table-same}
 use Rattle.trace.specs.Trace.{Trace}
 use Rattle.trace.specs.Refusals.{traceRefusal}
 use Rattle.trace.proofs.Accepted.{none-of, not-refused}
@@ -22,69 +24,88 @@ use Rattle.moment.specs.declared.Figure.{Figure}
 use Rattle.moment.specs.declared.Figure.the-variants.{Missing, Present}
 use Rattle.moment.proofs.Weights.{at-zero}
 use Rattle.plan.specs.Bounds.{boundsAt, nextOffsets}
-use Rattle.plan.specs.Code.Reaching.{rightOf}
+use Rattle.plan.specs.Code.Reaching.{rightOf, StepsTo}
 use Rattle.plan.specs.declared.bounds.Offsets.{Offsets}
-use Rattle.plan.proofs.FixedWindows.{bounds-at, next-reaches}
+use Rattle.plan.proofs.FixedWindows.{bounds-at, steps-reach}
 use Rattle.window.specs.Outputs.{Column, column, columnAfter, filled}
 use Rattle.window.specs.Code.Filling.{Upto}
 use Rattle.window.proofs.Outputs.{upto-done, unfilled, column-is}
-use Rattle.weighted.specs.Weights.{Sums, totalOf, varianceOf, computeVarWeights, weightsStart, aligned, weightedAt, weightsRefusal, CalledWeights}
-use Rattle.weighted.specs.Code.Sums.{sumsOf, sumsAt, Block, SumsUpTo}
-use Rattle.weighted.specs.Code.Rows.{answerOfVariance, Reaches, answerOfSums, weightedBy, Finished, Worked, AcceptedWeights, WrittenWeights}
+use Rattle.weighted.specs.Weights.{totalOf, varianceOf, computeVarWeights, weightsStart, aligned, weightedAt, weightsRefusal, CalledWeights}
+use Rattle.weighted.specs.Code.Sums.{sumsOf, sumsAt, SumsUpTo}
+use Rattle.weighted.specs.Code.Rows.{lengthAt, validityAt, answerOf, doubleAt, varianceBy, weightedBy, AcceptedWeights, WrittenWeights}
 
--- ---- the window that the rows hold
--- stepped on
-pub next-window : (n left k x : ℕ) (at : Offsets) {next : Offsets} → k < n → Reaches n left k x at
-    → (next .start, next .end) ≡ nextOffsets k (at .start, at .end) left n → Reaches n left (k + 1) (x + 1) next
-next-window n left k x at {next} h v q =
-    let o : _≡_ {A = ℕ × ℕ} (next .start, next .end) ((k + 1) - left, min n (x + 1)) = q ∙ rw (v .start-is, v .end-is) (next-reaches left x n k h) in
-    record { start-is = ap (λ (p : ℕ × ℕ). p .0) o; end-is = ap (λ (p : ℕ × ℕ). p .1) o }
+-- ---- the window that is held before row k, where there is such a row
+pub record Reaches (n left right k : ℕ) (at : Offsets) : Type 0 where
+  pub start-is : at .start ≡ k - left
+  pub end-is : at .end ≡ min n (k + right)
 
--- a block's first row has one
-pub in-series : {n weights left first until : ℕ} → Block n weights left first until → first < n
-in-series b = let s = b .some in let i = b .inside in omega arith
+abbrev pub Ahead : ℕ → ℕ → ℕ → ℕ → Offsets → Type 0
+Ahead n left right k at = k < n → Reaches n left right k at
 
--- an answer of it
-pub window-answer : (n left k x minPeriods : ℕ) {at : Offsets} {y z : Float} → Reaches n left k x at → y ≡ z
-    → answerOfVariance (at .start) (at .end) minPeriods y ≡ answerOfVariance (k - left) (min n x) minPeriods z
-window-answer n left k x minPeriods v e = rw (v .start-is, v .end-is, e)
+module _ (n left right k : ℕ) where
+  pub opens : {at : Offsets} → at .start ≡ 0 → at .end ≡ min n right → Ahead n left right 0 at
+  opens a b _ = record { start-is = a ∙ omega arith; end-is = b ∙ omega arith }
+
+  module _ {at : Offsets} (v : Ahead n left right k at) (h : k < n) where
+    pub rises : at .start ≤ at .end
+    rises = let x = v h .start-is in let y = v h .end-is in omega arith
+
+    pub steps : n < 2 ^ 64 → {next : Offsets} → StepsTo (nextOffsets k (at .start, at .end) left n) (next .start) (next .end)
+        → Ahead n left right (k + 1) next
+    steps f q _ =
+        let s = steps-reach left (k + right) n k h f (v h .start-is) (v h .end-is) q in
+        record { start-is = s .0; end-is = s .1 ∙ omega arith }
+
+    -- whether it is long enough
+    pub mark-is : (minPeriods : ℕ) → boolByte (leb minPeriods (at .end - at .start)) ≡ validityAt n left right minPeriods k
+    mark-is minPeriods = rw (v h .start-is, v h .end-is) (go (leb minPeriods (lengthAt n left right k)) refl)
+      where
+        go : (b : Bool) → leb minPeriods (lengthAt n left right k) ≡ b → boolByte b ≡ validityAt n left right minPeriods k
+        go true e = rw (le-ltb _ _ (leb-true _ _ e))
+        go false e = rw (lt-ltb _ _ (leb-false _ _ e))
 
 -- ---- after the last weight
-module _ (values weights : List Float) (total : Float) (left minPeriods first until : ℕ) (at : Offsets)
-    {wssq wsum wtot : List Float} (held : SumsUpTo values weights total left first until (length weights) wssq wsum wtot)
-    (ahead : Reaches (length values) left first (first + (length weights - left)) at) where
-  abbrev right : ℕ
-  right = length weights - left
+-- a row's variance, of its sums
+variance-done : (values weights : List Float) (total : Float) (left first until : ℕ) {wssq wsum wtot : List Float}
+    → SumsUpTo values weights total left first until (length weights) wssq wsum wtot → (r : ℕ) → r < until - first
+    → varianceOf (sumsAt wssq wsum wtot r) ≡ varianceBy values weights total left (length weights - left) (first + r)
+variance-done values weights total left first until held r h =
+    let b = held .block .before in
+    let z : first + r + length weights - left ≡ first + r + (length weights - left) = omega arith in
+    ap varianceOf (held .sums-are r h ∙ ap (λ (i : ℕ). sumsOf values weights total left (first + r) (min (length values) i - (first + r - left))) z)
 
-  row-done : (r : ℕ) → r < until - first →
-      answerOfSums (length values) left minPeriods first (at .end) wssq wsum wtot r ≡ weightedBy values weights total left right minPeriods (first + r)
+-- a block's doubles, of their sums
+pub block-done : (values weights : List Float) (total : Float) (left first until : ℕ) {wssq wsum wtot : List Float}
+    → SumsUpTo values weights total left first until (length weights) wssq wsum wtot → (present : List ℕ) {figures : List Float} {m : ℕ} → m ≡ until - first
+    → figures ≡ table (doubleAt present (λ r. varianceOf (sumsAt wssq wsum wtot r))) m
+    → figures ≡ table (doubleAt present (λ r. varianceBy values weights total left (length weights - left) (first + r))) (until - first)
+block-done values weights total left first until held present m t =
+    t ∙ ap (table _) m
+    ∙ table-same _ _ (until - first) (λ r h. ap (λ (x : Float). doubleOf (answerOf (getD present r 0) x)) (variance-done values weights total left first until held r h))
+
+-- its answer has the byte by its length, and the double by its byte
+module _ (values weights : List Float) (total : Float) (left right minPeriods k : ℕ) where
+  abbrev Long : Bool
+  Long = ltb (lengthAt (length values) left right k) minPeriods
+
+  byte-is : validityAt (length values) left right minPeriods k ≡ byteOf (weightedBy values weights total left right minPeriods k)
   unfolding weightedBy
-  row-done r h =
-      let b = held .block .before in
-      let e = ahead .end-is in
-      let z : first + r + length weights - left ≡ first + r + right = omega arith in
-      let y : min (length values) (at .end + r) ≡ min (length values) (first + r + right) = omega arith in
-      ap (λ (i : ℕ). answerOfVariance (first + r - left) i minPeriods (varianceOf (sumsAt wssq wsum wtot r))) y
-      ∙ ap (λ (s : Sums). answerOfVariance (first + r - left) (min (length values) (first + r + right)) minPeriods (varianceOf s))
-      (held .sums-are r h ∙ ap (λ (i : ℕ). sumsOf values weights total left (first + r) (min (length values) i - (first + r - left))) z)
+  byte-is = go Long
+    where
+      go : (b : Bool) → cond b 0 1 ≡ byteOf (cond b Missing (Present (varianceBy values weights total left right k)))
+      go true = refl
+      go false = refl
 
-  -- a block's answers, and the window of the row behind it
-  pub block-done : {figures : List Float} {present : List ℕ} {next : Offsets} {m : ℕ} → m ≡ until - first →
-      Finished (length values) left minPeriods first at wssq wsum wtot m figures present next →
-      Worked values left minPeriods weights total first until figures present next
-  block-done {next = next} m t =
-      let b = held .block .some in
-      let e = ahead .end-is in
-      let v = t .ahead in
-      let x = v .start-is in
-      let y = v .end-is in
-      record {
-        answered = record {
-          figures-are = t .answered .figures-are ∙ ap (table _) m ∙ table-same _ _ (until - first) (λ r h. ap doubleOf (row-done r h));
-          present-are = t .answered .present-are ∙ ap (table _) m ∙ table-same _ _ (until - first) (λ r h. ap byteOf (row-done r h));
-        };
-        ahead = λ _. record { start-is = omega arith; end-is = omega arith };
-      }
+  double-is : {byte : ℕ} {variance : Float} → byte ≡ validityAt (length values) left right minPeriods k
+      → variance ≡ varianceBy values weights total left right k
+      → doubleOf (answerOf byte variance) ≡ doubleOf (weightedBy values weights total left right minPeriods k)
+  unfolding weightedBy
+  double-is e f = rw (e, f) (go Long)
+    where
+      go : (b : Bool) → doubleOf (answerOf (cond b 0 1) (varianceBy values weights total left right k))
+          ≡ doubleOf (cond b Missing (Present (varianceBy values weights total left right k)))
+      go true = refl
+      go false = refl
 
 -- ---- a row's answer is the paper's
 module _ (center : Bool) (size n k : ℕ) (some : 1 ≤ size) (inside : k < n) where
@@ -111,7 +132,7 @@ module _ (center : Bool) (size n k : ℕ) (some : 1 ≤ size) (inside : k < n) w
 weighted-at : (center : Bool) (size minPeriods k : ℕ) (weights values : List Float) (right : ℕ) (total : Float) → 1 ≤ size → k < length values →
     right ≡ rightOf center size → total ≡ totalOf weights →
     weightedBy values weights total (size - right) right minPeriods k ≡ weightedAt center size minPeriods weights values k
-unfolding weightedBy weightedAt answerOfVariance sumsOf computeVarWeights
+unfolding weightedBy weightedAt sumsOf computeVarWeights
 weighted-at center size minPeriods k weights values right total some inside e t =
     let n = length values in
     let R = rightOf center size in
@@ -141,9 +162,32 @@ module _ (center : Bool) (minPeriods : ℕ) (weights values : List Float) (right
       (table-same _ _ (length values) (λ i h. ap part (weighted-at center (length weights) minPeriods i weights values right total some h reach total-is)))
 
   pub rows-done : {figures₀ figures : List Float} {present₀ present : List ℕ} {k : ℕ} → k ≡ length values →
-      Upto (λ i. doubleOf (Row i)) figures₀ figures k → Upto (λ i. byteOf (Row i)) present₀ present k →
+      Upto (λ i. doubleOf (Row i)) figures₀ figures k →
+      Upto (validityAt (length values) (length weights - right) right minPeriods) present₀ present (length values) →
       WrittenWeights center minPeriods weights values (column figures₀ present₀) (column figures present)
-  rows-done e u v = record { column-is = column-is (list-done doubleOf _ _ _ e u) (list-done byteOf _ _ _ e v) }
+  rows-done {present₀ = present₀} {present = present} e u v =
+      let bytes = table-same _ _ (length values) (λ i h. byte-is values weights total (length weights - right) right minPeriods i) in
+      let w : Upto (λ i. byteOf (Row i)) present₀ present (length values) =
+          record { long = v .long; is = v .is ∙ ap (λ (l : List ℕ). l ++ drop (length values) present₀) bytes } in
+      record { column-is = column-is (list-done doubleOf _ _ _ e u) (list-done byteOf _ _ _ refl w) }
+
+-- ---- the bytes that a block is lent
+part-byte : (f : ℕ → ℕ) (l₀ l : List ℕ) (n first until r : ℕ) → until ≤ n → r < until - first → Upto f l₀ l n
+    → getD (take (until - first) (drop first l)) r 0 ≡ f (first + r)
+part-byte f l₀ l n first until r h o u =
+    getD-take (until - first) (drop first l) r 0 o ∙ getD-drop first l r 0 ∙ ap (λ (k : List ℕ). getD k (first + r) 0) (u .is)
+    ∙ List·getD-append (table f n) (drop n l₀) 0 (first + r) (rw (table-length f n) (omega arith)) ∙ table-place f n (first + r) 0 (omega arith)
+
+-- a block's doubles are those of its rows
+pub block-doubles : (values weights : List Float) (total : Float) (left right minPeriods first until : ℕ) {present₀ present : List ℕ}
+    → length weights - left ≡ right → until ≤ length values → Upto (validityAt (length values) left right minPeriods) present₀ present (length values)
+    → (r : ℕ) → r < until - first
+    → doubleAt (take (until - first) (drop first present)) (λ i. varianceBy values weights total left (length weights - left) (first + i)) r
+    ≡ doubleOf (weightedBy values weights total left right minPeriods (first + r))
+block-doubles values weights total left right minPeriods first until {present₀} {present} e o u r h =
+    double-is values weights total left right minPeriods (first + r)
+    (part-byte (validityAt (length values) left right minPeriods) present₀ present (length values) first until r o h u)
+    (ap (λ (x : ℕ). varianceBy values weights total left x (first + r)) e)
 
 -- no weights have the sum zero
 some-weights : (l : List Float) → eq (totalOf l) zero64 ≡ false → 1 ≤ length l

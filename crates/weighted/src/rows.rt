@@ -1,12 +1,14 @@
-// The rows of a weighted call. No work slice is lent, so that the divided weights have no place: rows are worked in blocks of 32, whose
+// The rows of a weighted call: which of them are missing, then their figures. No work slice is lent, so that the divided weights have no place: rows are worked in blocks of 32, whose
 // sums stand on the stack, and a weight is divided once for a block in place of once for a row.
 ghost use mathlib.Core.Path.{_≡_};
 ghost use Prim.Native.Nat.{_≤_};
 ghost use lib.ListN.{length};
 ghost use Rattle.weighted.specs.Weights.{varianceOf};
-ghost use Rattle.weighted.specs.Code.Rows.{answerOfVariance, Finishable, Finishes, Workable, Works, AcceptedWeights, WritesWeights};
+ghost use Rattle.trace.specs.Slices.{entering, leaving};
+ghost use Rattle.moment.specs.Figure.{doubleOf};
+ghost use Rattle.window.specs.Code.Filling.{Upto};
+ghost use Rattle.weighted.specs.Code.Rows.{validityAt, answerOf, Finishable, Finishes, Workable, Works, AcceptedWeights, WritesWeights};
 use crate::sums;
-use moment::Figure;
 use plan::Offsets;
 
 const BLOCK: usize = 32;
@@ -22,60 +24,60 @@ fn variance(wssq: f64, wsum: f64, wtot: f64) -> f64
     wssq / wtot - mean * mean
 }
 
-// A row's answer: a row is missing exactly where its window is shorter than the minimum.
-fn answer(at: Offsets, min_periods: usize, variance: f64) -> Figure
-    requires { ⌜ at .start ≤ at .end ⌝ }
-    ensures { λ r. ⌜ r ≡ answerOfVariance (at .start) (at .end) «min_periods» variance ⌝ }
+// Which rows have a window that is no shorter than the minimum, as their bytes: 006's `create_validity`. A row's window is held and
+// stepped on.
+fn create_validity(n: usize, left: usize, right: usize, min_periods: usize, present: &mut [u8])
+    requires { ⌜ n ≤ length (now present) ⌝ }
+    ensures { λ _. ⌜ Upto (validityAt n left right «min_periods») (entering present) (leaving present) n ⌝ }
 {
-    if at.end - at.start < min_periods {
-        return Figure::Missing;
+    let mut at = Offsets {
+        start: 0,
+        end: plan::shorter(n, right),
+    };
+    let mut row: usize = 0;
+    while row < n {
+        present[row] = (min_periods <= at.end - at.start) as u8;
+        at = plan::next_offsets(row, at, left, n);
+        row += 1;
     }
-    Figure::Present(variance)
 }
 
-// The answers of the rows from `first` on, of their sums, with the bounds `at` of the first; those of the row behind them.
-fn finish(
-    n: usize,
-    left: usize,
-    min_periods: usize,
-    first: usize,
-    at: Offsets,
-    wssq: &[f64],
-    wsum: &[f64],
-    wtot: &[f64],
-    figures: &mut [f64],
-    present: &mut [u8],
-) -> Offsets
-    requires { ⌜ Finishable n left first at (now wssq) (now wsum) (now wtot) (now figures) (now present) ⌝ }
-    ensures { λ q. ⌜ Finishes n left «min_periods» first at wssq wsum wtot figures present q ⌝ }
+// A row's double, by its byte: a row that is missing has +0.0.
+fn double(present: u8, variance: f64) -> f64
+    ensures { λ r. ⌜ r ≡ doubleOf (answerOf present variance) ⌝ }
 {
-    let mut here = at;
+    if present == 0 {
+        return 0.0;
+    }
+    float::canonical(variance)
+}
+
+// The doubles of the rows that have these bytes, of their sums.
+fn finish(wssq: &[f64], wsum: &[f64], wtot: &[f64], present: &[u8], figures: &mut [f64])
+    requires { ⌜ Finishable (now wssq) (now wsum) (now wtot) (now present) (length (now figures)) ⌝ }
+    ensures { λ _. ⌜ Finishes wssq wsum wtot present figures ⌝ }
+{
     let mut r = 0;
     while r < figures.len() {
-        let figure = answer(here, min_periods, variance(wssq[r], wsum[r], wtot[r]));
-        window::write(figures, present, r, figure);
-        here = plan::next_offsets(first + r, here, left, n);
+        let variance = variance(wssq[r], wsum[r], wtot[r]);
+        figures[r] = double(present[r], variance);
         r += 1;
     }
-    here
 }
 
-// The rows from `first` up to `until`, whose answers go to `figures` and `present`, with the bounds `at` of the first; those of the row
-// behind them.
+// The rows from `first` up to `until`, which have these bytes.
 fn block(
     values: &[f64],
     left: usize,
-    min_periods: usize,
     weights: &[f64],
     total: f64,
-    at: Offsets,
     first: usize,
     until: usize,
+    present: &[u8],
     figures: &mut [f64],
-    present: &mut [u8],
-) -> Offsets
-    requires { ⌜ Workable (length (now values)) (length (now weights)) left at first until (now figures) (now present) ⌝ }
-    ensures { λ q. ⌜ Works values left «min_periods» weights total first until figures present q ⌝ }
+)
+    requires { ⌜ Workable (length (now values)) (length (now weights)) left first until (now present) (now figures) ⌝ }
+    ensures { λ _. ⌜ Works values left weights total first until present figures ⌝ }
 {
     let mut wssq = [0.0; BLOCK];
     let mut wsum = [0.0; BLOCK];
@@ -91,18 +93,7 @@ fn block(
         &mut wsum,
         &mut wtot,
     );
-    finish(
-        values.len(),
-        left,
-        min_periods,
-        first,
-        at,
-        &wssq,
-        &wsum,
-        &wtot,
-        figures,
-        present,
-    )
+    finish(&wssq, &wsum, &wtot, present, figures);
 }
 
 // Every row of an accepted call.
@@ -120,24 +111,19 @@ pub(crate) fn write_rows(
 {
     let right = plan::right_window(center, weights.len());
     let left = weights.len() - right;
-    let mut at = Offsets {
-        start: 0,
-        end: plan::shorter(values.len(), right),
-    };
+    create_validity(values.len(), left, right, min_periods, present);
     let mut first: usize = 0;
     while first < values.len() {
         let until = plan::end_of(BLOCK, values.len(), first);
-        at = block(
+        block(
             values,
             left,
-            min_periods,
             weights,
             total,
-            at,
             first,
             until,
+            &present[first..until],
             &mut figures[first..until],
-            &mut present[first..until],
         );
         first = until;
     }

@@ -1,5 +1,6 @@
 -- Fixed windows by how far they reach to each side of their own place: one loop serves them and plans. Assumes nothing.
-use Prim.Native.Nat.{ℕ, _+_, _-_, _/_, min}
+use Prim.Native.Nat.{ℕ, _+_, _-_, _/_, _%_, _^_, min}
+use mathlib.Core.Path.{_≡_}
 use mathlib.Core.Bool.{Bool, cond}
 use mathlib.Core.List.{List}
 use Rattle.float.specs.Tables.{table}
@@ -16,3 +17,8 @@ reaching left right n = planOf (table (λ i. i - left) n) (table (λ i. min n (i
 -- the rows of a call over n places, of fixed windows or as they are listed
 abbrev pub rowsOf : Bool → ℕ → ℕ → ℕ → List ℕ → List ℕ → Plan
 rowsOf fixed left right n starts ends = cond fixed (reaching left right n) (planOf starts ends)
+
+-- a pair as numbers of 64 bits: a step raises any start
+pub record StepsTo (next : ℕ × ℕ) (start end : ℕ) : Type 0 where
+  pub start-is : start ≡ next .0 % 2 ^ 64
+  pub end-is : end ≡ next .1

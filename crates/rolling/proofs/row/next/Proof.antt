@@ -1,4 +1,5 @@
 -- Of fixed windows the step of the row's own, of a plan the next row as it is listed. Assumes nothing.
+use Prim.Native.Nat.{_^_, _<_}
 use native.Mathlib.Omega.{arith}
 use borrow.Author.Needs.{needs}
 use Rattle.rolling.proofs.RowLoops.{next-fixed, listed-ahead, listed-same, listed-in}
@@ -9,7 +10,10 @@ next-offsets-requires : tie.Need-next-offsets-requires
 next-offsets-requires c κs = search needs
 
 returns : tie.Need-returns
-returns c = next-fixed _ _ _ _ (c .before .if1 .taken) (c .before .before .before .before .pre) (c .next-offsets .ensures)
+returns c =
+    let s = c .before .before .before .before in
+    let f : s .args .n < 2 ^ 64 = omega (arith, s .fits) in
+    next-fixed _ _ _ _ (c .before .if1 .taken) f (s .pre) (c .next-offsets .ensures)
 
 add-listed : tie.Need-add-listed
 add-listed c =

@@ -1,7 +1,6 @@
--- Sums that start at zero, and answers of those that all weights have made. Assumes nothing.
+-- Sums that start at zero, and doubles of those that all weights have made. Assumes nothing.
 use Rattle.weighted.proofs.WeightedSums.{sums-start}
-use Rattle.weighted.proofs.WeightedRows.{in-series, block-done}
-use native.Mathlib.Omega.{arith}
+use Rattle.weighted.proofs.WeightedRows.{block-done}
 use borrow.Author.Needs.{needs}
 use Rattle.weighted.proofs.rows.block.Statement.{statement}
 use Rattle.weighted.proofs.rows.block.Tie as tie
@@ -30,43 +29,16 @@ slice-aggregate-finish-3 : tie.Need-slice-aggregate-finish-3
 slice-aggregate-finish-3 c = search needs
 
 finish-requires : tie.Need-finish-requires
-finish-requires c κs =
-    let s = c .before .before .before .before .before .before .before .before .before .before .before .before .before .before .before .before in
-    let k = s .pre .block in
-    let i = k .inside in
-    let f = k .few in
-    let j = k .some in
-    let v = s .pre .ahead (in-series k) in
-    let x = v .start-is in
-    let y = v .end-is in
-    let g = s .pre .figures-long in
-    let p = s .pre .present-long in
-    let h = c .before .before .before .before .before .before .before .before .of-block .ensures in
-    let l = h .wssq-long in
-    let m = h .wsum-long in
-    let o = h .wtot-long in
-    record {
-      same = omega arith;
-      inside = omega arith;
-      wssq-long = omega arith;
-      wsum-long = omega arith;
-      wtot-long = omega arith;
-      ahead = record { start-is = x; end-is = omega arith };
-      rises = omega arith;
-    }
+finish-requires c κs = search needs
 
 same-length : tie.Need-same-length
 same-length c = search needs
 
-same-length-2 : tie.Need-same-length-2
-same-length-2 c = search needs
-
 returns : tie.Need-returns
 returns c =
-    let f = c .before .before .before .before .finish .ensures in
-    let u = c .before .before .before .before .before .before .before .before .before .before .before .before .before in
+    let u = c .before .before .before .before .before .before .before .before .before .before in
     let s = u .before .before .before .before .before .before .before .before in
-    block-done _ _ _ _ _ _ _ _ (u .of-block .ensures) (s .pre .ahead (in-series (s .pre .block))) (s .pre .figures-long) f
+    block-done _ _ _ _ _ _ (u .of-block .ensures) (s .args .present .now) (s .pre .figures-long) (c .before .before .finish .ensures)
 
 pub block-spec : {M : Type 1} → statement M
 block-spec =
@@ -81,5 +53,4 @@ block-spec =
     slice-aggregate-finish-3
     finish-requires
     same-length
-    same-length-2
     returns)
