@@ -514,9 +514,11 @@ impl CovMoment {
             (entering present) (q .window) (q .«agg_back») (leaving work) (leaving figures) (leaving present) ⌝ }
     {
         let mut w = opening;
-        let mut here = at;
+        let mut next = at;
         let mut row = first;
         while row < until {
+            let at = next;
+            next = row::next(rows, x.len(), starts, ends, row, at);
             w = CovMoment::step(
                 work,
                 rows,
@@ -528,8 +530,8 @@ impl CovMoment {
                 y_map,
                 w,
                 row,
-                here.start,
-                here.end,
+                at.start,
+                at.end,
             );
             let figure = self.answer(
                 work,
@@ -537,11 +539,10 @@ impl CovMoment {
                 x_has_map,
                 y_has_map,
                 rows.min_periods,
-                here.start,
-                here.end,
+                at.start,
+                at.end,
             );
             row::write(figures, present, row, figure);
-            here = row::next(rows, x.len(), starts, ends, row, here);
             row += 1;
         }
         w

@@ -314,13 +314,14 @@ impl KurtosisMoment {
             (entering present) (q .window) (q .«agg_back») (leaving work) (leaving figures) (leaving present) ⌝ }
     {
         let mut w = opening;
-        let mut here = at;
+        let mut next = at;
         let mut row = first;
         while row < until {
-            w = KurtosisMoment::step(work, rows, values, has_map, map, w, row, here.start, here.end);
-            let figure = self.answer(work, w, has_map, rows.min_periods, here.start, here.end);
+            let at = next;
+            next = row::next(rows, values.len(), starts, ends, row, at);
+            w = KurtosisMoment::step(work, rows, values, has_map, map, w, row, at.start, at.end);
+            let figure = self.answer(work, w, has_map, rows.min_periods, at.start, at.end);
             row::write(figures, present, row, figure);
-            here = row::next(rows, values.len(), starts, ends, row, here);
             row += 1;
         }
         w

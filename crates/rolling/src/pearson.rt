@@ -524,9 +524,11 @@ impl PearsonMoment {
             (entering present) (q .window) (q .«agg_back») (leaving work) (leaving figures) (leaving present) ⌝ }
     {
         let mut w = opening;
-        let mut here = at;
+        let mut next = at;
         let mut row = first;
         while row < until {
+            let at = next;
+            next = row::next(rows, x.len(), starts, ends, row, at);
             w = PearsonMoment::step(
                 work,
                 rows,
@@ -538,8 +540,8 @@ impl PearsonMoment {
                 y_map,
                 w,
                 row,
-                here.start,
-                here.end,
+                at.start,
+                at.end,
             );
             let figure = PearsonMoment::answer(
                 work,
@@ -547,11 +549,10 @@ impl PearsonMoment {
                 x_has_map,
                 y_has_map,
                 rows.min_periods,
-                here.start,
-                here.end,
+                at.start,
+                at.end,
             );
             row::write(figures, present, row, figure);
-            here = row::next(rows, x.len(), starts, ends, row, here);
             row += 1;
         }
         w

@@ -469,17 +469,19 @@ impl SkewMoment {
             (leaving counts) (leaving corrections) (leaving m2s) (leaving m3s) (leaving factors) ⌝ }
     {
         let mut w = opening;
-        let mut here = at;
+        let mut next = at;
         let mut row = first;
         while row < until {
-            w = SkewMoment::step(work, rows, values, has_map, map, w, row, here.start, here.end);
+            let at = next;
+            next = row::next(rows, values.len(), starts, ends, row, at);
+            w = SkewMoment::step(work, rows, values, has_map, map, w, row, at.start, at.end);
             let there = self.prepare(
                 work,
                 w,
                 has_map,
                 rows.min_periods,
-                here.start,
-                here.end,
+                at.start,
+                at.end,
                 counts,
                 corrections,
                 m2s,
@@ -488,10 +490,9 @@ impl SkewMoment {
                 row - first,
             );
             present[row] = there;
-            here = row::next(rows, values.len(), starts, ends, row, here);
             row += 1;
         }
-        SkewBlock { w, at: here }
+        SkewBlock { w, at: next }
     }
 
     // Every row of an accepted plan, or of fixed windows.

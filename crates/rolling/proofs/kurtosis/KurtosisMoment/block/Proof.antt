@@ -11,11 +11,11 @@ use Rattle.rolling.proofs.kurtosis.KurtosisMoment.block.Statement.{stat
 use Rattle.rolling.proofs.kurtosis.KurtosisMoment.block.Tie as tie
 
 abbrev Inv-loop : tie.InvT-loop
-Inv-loop self rows values has-map map starts ends work₀ figures₀ present₀ first until w₀ here₀ row₀ work figures present w here row =
-    Turn kurtosisStored (λ z. kurtosisFinalize z (self .fisher) (self .bias)) (series has-map map values) (length values) rows starts ends first until work₀ figures₀ present₀ (w .window) (w .«agg_back») here work figures present row
+Inv-loop self rows values has-map map starts ends work₀ figures₀ present₀ first until w₀ next₀ row₀ work figures present w next row =
+    Turn kurtosisStored (λ z. kurtosisFinalize z (self .fisher) (self .bias)) (series has-map map values) (length values) rows starts ends first until work₀ figures₀ present₀ (w .window) (w .«agg_back») next work figures present row
 
 abbrev μ-loop : tie.MeasureT-loop
-μ-loop self rows values has-map map starts ends work₀ figures₀ present₀ first until w₀ here₀ row₀ work figures present w here row = until - row
+μ-loop self rows values has-map map starts ends work₀ figures₀ present₀ first until w₀ next₀ row₀ work figures present w next row = until - row
 
 -- where the loop began
 abbrev start : tie.In-loop Inv-loop μ-loop → tie.Start Inv-loop μ-loop
@@ -24,27 +24,25 @@ start r = r .before .before .before .before .before .before .before .before .bef
 loop-holds : tie.Need-loop-holds Inv-loop μ-loop
 loop-holds c = turn-starts kurtosisStored _ _ _ _ _ _ _ _ _ _ _ (c .before .before .before .before .before .before .before .pre)
 
+next-requires : tie.Need-next-requires Inv-loop μ-loop
+next-requires c κs = turn-row kurtosisStored _ _ _ _ _ _ _ _ _ _ _ (start c .pre) (c .before .loop .inv) (c .loop-test .taken)
+
 step-requires : tie.Need-step-requires Inv-loop μ-loop
 step-requires c κs =
-    let r = c .before in
+    let r = c .before .before in
     turn-movable kurtosisStored _ _ _ _ _ _ _ _ _ _ _ (start r .pre) (r .before .loop .inv) (r .loop-test .taken)
 
 answer-requires : tie.Need-answer-requires Inv-loop μ-loop
 answer-requires c κs =
-    let r = c .before .before .before .before .before in
+    let r = c .before .before .before .before .before .before in
     let q = c .before .before .before .step in
     let f = turn-fits kurtosisStored _ _ _ _ _ _ _ _ _ _ _ (start r .pre) (r .before .loop .inv) (r .loop-test .taken) (q .ensures) (q .kept .0) in
     record { front-in = f .0; few = f .1; rises = f .2 }
 
 write-requires : tie.Need-write-requires Inv-loop μ-loop
 write-requires c κs =
-    let r = c .before .before .before .before .before .before .before .before in
+    let r = c .before .before .before .before .before .before .before .before .before in
     turn-there kurtosisStored _ _ _ _ _ _ _ _ _ _ _ (start r .pre) (r .before .loop .inv) (r .loop-test .taken)
-
-next-requires : tie.Need-next-requires Inv-loop μ-loop
-next-requires c κs =
-    let r = c .before .before .before .before .before .before .before .before .before .before .before .before .before in
-    turn-row kurtosisStored _ _ _ _ _ _ _ _ _ _ _ (start r .pre) (r .before .loop .inv) (r .loop-test .taken)
 
 add-row : tie.Need-add-row Inv-loop μ-loop
 add-row c =
@@ -58,9 +56,9 @@ loop-less c = let h = c .before .before .before .before .before .before .before 
 loop-again : tie.Need-loop-again Inv-loop μ-loop
 loop-again c =
     let r = c .before .before .before .before .before .before .before .before .before .before .before .before .before .before in
-    let q = c .before .before .before .before .before .before .before .before .before .before .before .before .step in
+    let q = c .before .before .before .before .before .before .before .before .before .before .before .step in
     turn-next kurtosisStored _ _ _ _ _ _ _ _ _ _ _ (start r .pre) (r .before .loop .inv) (r .loop-test .taken) (q .ensures) (q .kept .0)
-    (c .before .before .before .before .before .before .before .before .answer .ensures) (c .before .before .before .before .before .write .ensures) (c .next .ensures)
+    (c .before .before .before .before .before .before .before .answer .ensures) (c .before .before .before .before .write .ensures) (c .before .before .before .before .before .before .before .before .before .before .before .before .before .next .ensures)
 
 same-length : tie.Need-same-length Inv-loop μ-loop
 same-length c = c .before .loop .inv .working .same
@@ -83,10 +81,10 @@ block-spec =
     Inv-loop
     μ-loop
     loop-holds
+    next-requires
     step-requires
     answer-requires
     write-requires
-    next-requires
     add-row
     loop-less
     loop-again

@@ -10,11 +10,11 @@ use Rattle.rolling.proofs.skew.SkewMoment.block.Statement.{statement}
 use Rattle.rolling.proofs.skew.SkewMoment.block.Tie as tie
 
 abbrev Inv-loop : tie.InvT-loop
-Inv-loop self rows values has-map map starts ends work₀ present₀ first until counts₀ corrections₀ m2s₀ m3s₀ factors₀ w₀ here₀ row₀ work present counts corrections m2s m3s factors w here row =
-    BlockTurn (self .bias) has-map map values rows starts ends first until work₀ present₀ (w .window) (w .«agg_back») here work present counts corrections m2s m3s factors row
+Inv-loop self rows values has-map map starts ends work₀ present₀ first until counts₀ corrections₀ m2s₀ m3s₀ factors₀ w₀ next₀ row₀ work present counts corrections m2s m3s factors w next row =
+    BlockTurn (self .bias) has-map map values rows starts ends first until work₀ present₀ (w .window) (w .«agg_back») next work present counts corrections m2s m3s factors row
 
 abbrev μ-loop : tie.MeasureT-loop
-μ-loop self rows values has-map map starts ends work₀ present₀ first until counts₀ corrections₀ m2s₀ m3s₀ factors₀ w₀ here₀ row₀ work present counts corrections m2s m3s factors w here row = until - row
+μ-loop self rows values has-map map starts ends work₀ present₀ first until counts₀ corrections₀ m2s₀ m3s₀ factors₀ w₀ next₀ row₀ work present counts corrections m2s m3s factors w next row = until - row
 
 -- where the loop began
 abbrev start : tie.In-loop Inv-loop μ-loop → tie.Start Inv-loop μ-loop
@@ -23,17 +23,20 @@ start r = r .before .before .before .before .before .before .before .before .bef
 loop-holds : tie.Need-loop-holds Inv-loop μ-loop
 loop-holds c = block-starts _ _ _ _ _ _ _ _ _ _ _ (c .before .before .before .before .before .before .before .before .before .before .before .pre)
 
+next-requires : tie.Need-next-requires Inv-loop μ-loop
+next-requires c κs = block-row _ _ _ _ _ _ _ _ _ _ _ (start c .pre) (c .before .loop .inv) (c .loop-test .taken)
+
 step-requires : tie.Need-step-requires Inv-loop μ-loop
 step-requires c κs =
-    let r = c .before in
+    let r = c .before .before in
     block-movable _ _ _ _ _ _ _ _ _ _ _ (start r .pre) (r .before .loop .inv) (r .loop-test .taken)
 
 sub-prepare : tie.Need-sub-prepare Inv-loop μ-loop
-sub-prepare c = c .before .before .before .before .before .before .before .before .before .before .before .loop .inv .working .low
+sub-prepare c = c .before .before .before .before .before .before .before .before .before .before .before .before .loop .inv .working .low
 
 prepare-requires : tie.Need-prepare-requires Inv-loop μ-loop
 prepare-requires c κs =
-    let r = c .before .before .before .before .before .before .before .before .before .before in
+    let r = c .before .before .before .before .before .before .before .before .before .before .before in
     let q = c .before .before .before .before .before .before .before .before .step in
     let v = r .before .loop .inv in
     let m = r .loop-test .taken in
@@ -44,17 +47,12 @@ prepare-requires c κs =
 
 slice-write-present : tie.Need-slice-write-present Inv-loop μ-loop
 slice-write-present c =
-    let r = c .before .before .before .before .before .before .before .before .before .before .before .before .before .before .before .before .before .before .before .before .before in
+    let r = c .before .before .before .before .before .before .before .before .before .before .before .before .before .before .before .before .before .before .before .before .before .before in
     let v = r .before .loop .inv in
     let l = block-row _ _ _ _ _ _ _ _ _ _ _ (start r .pre) v (r .loop-test .taken) .listed in
     let f = start r .pre .can .can .outputs-fit in
     let s = v .present-same in
     omega arith
-
-next-requires : tie.Need-next-requires Inv-loop μ-loop
-next-requires c κs =
-    let r = c .before .before .before .before .before .before .before .before .before .before .before .before .before .before .before .before .before .before .before .before .before in
-    block-row _ _ _ _ _ _ _ _ _ _ _ (start r .pre) (r .before .loop .inv) (r .loop-test .taken)
 
 add-row : tie.Need-add-row Inv-loop μ-loop
 add-row c =
@@ -68,9 +66,9 @@ loop-less c = let h = c .before .before .before .before .before .before .before 
 loop-again : tie.Need-loop-again Inv-loop μ-loop
 loop-again c =
     let r = c .before .before .before .before .before .before .before .before .before .before .before .before .before .before .before .before .before .before .before .before .before .before in
-    let q = c .before .before .before .before .before .before .before .before .before .before .before .before .before .before .before .before .before .before .before .before .step in
-    let h = c .before .before .before .before .before .before .before .before .before .before .before .prepare .ensures in
-    block-next _ _ _ _ _ _ _ _ _ _ _ (start r .pre) (r .before .loop .inv) (r .loop-test .taken) (q .ensures) (q .kept .0) (h .0) (h .1) (c .next .ensures)
+    let q = c .before .before .before .before .before .before .before .before .before .before .before .before .before .before .before .before .before .before .before .step in
+    let h = c .before .before .before .before .before .before .before .before .before .before .prepare .ensures in
+    block-next _ _ _ _ _ _ _ _ _ _ _ (start r .pre) (r .before .loop .inv) (r .loop-test .taken) (q .ensures) (q .kept .0) (h .0) (h .1) (c .before .before .before .before .before .before .before .before .before .before .before .before .before .before .before .before .before .before .before .before .before .next .ensures)
 
 same-length : tie.Need-same-length Inv-loop μ-loop
 same-length c = search needs
@@ -103,11 +101,11 @@ block-spec =
     Inv-loop
     μ-loop
     loop-holds
+    next-requires
     step-requires
     sub-prepare
     prepare-requires
     slice-write-present
-    next-requires
     add-row
     loop-less
     loop-again
