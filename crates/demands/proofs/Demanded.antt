@@ -1,10 +1,12 @@
 -- A call meets the demands because its contract is what their theorems speak of. Assumes nothing.
-use Prim.Native.Nat.{ℕ, _^_, _<_}
-use mathlib.Core.Path.{_≡_, sym, _∙_, subst}
+use Prim.Native.Nat.{ℕ, _+_, _-_, _%_, _^_, _<_}
+use mathlib.Core.Path.{_≡_, sym, ap, _∙_, subst}
 use mathlib.Core.Bool.{Bool, true}
 use mathlib.Core.List.{List}
 use mathlib.Core.Logic.{_⊎_, inl, inr, ⊎-elim}
-use lib.Dec.{T}
+use native.Mathlib.Omega.{arith}
+use borrow.Author.Tests.{lt-ltb}
+use lib.Dec.{T, ltb}
 use lib.Ieee.{Float, nan, binary64, fits}
 use Rattle.trace.specs.Trace.{Trace}
 use Rattle.root.specs.Root.{root}
@@ -25,7 +27,10 @@ use Rattle.moment.specs.Kurtosis.{kurtosisInsert, kurtosisCombine, kurtosisFina
 use Rattle.promises.specs.SourceStates.{KurtosisState·insertOne, KurtosisState·combine, KurtosisState·finalize}
 use Rattle.moment.specs.declared.kurtosis_state.KurtosisState.{KurtosisState}
 use Rattle.promises.specs.DemandTwo.{CorrectRoot}
-use Rattle.plan.specs.Bounds.{bounds}
+use Rattle.plan.specs.Bounds.{bounds, boundsAt, offsetsAt, nextOffsets}
+use Rattle.plan.specs.Code.Reaching.{rightOf, StepsTo}
+use Rattle.plan.specs.declared.bounds.Offsets.{Offsets}
+use Rattle.plan.proofs.FixedWindows.{bounds-at}
 use Rattle.window.specs.Given.{Given}
 use Rattle.window.specs.Outputs.{Column, Lent}
 use Rattle.rolling.specs.Moments.{Statistic, Variance, Skewness, Kurtosis, Covariance, Correlation, kindOf}
@@ -42,8 +47,10 @@ use Rattle.promises.proofs.DemandTwo.{demand-two}
 use Rattle.promises.proofs.DemandThree.{demand-three}
 use Rattle.promises.proofs.TwoTraces.{pair-statement}
 use Rattle.promises.proofs.Maps.{map-law}
+use Rattle.promises.specs.KeptBounds.{leftWindow, RaisesEach}
+use Rattle.promises.proofs.KeptBounds.{left-is, kept-bounds}
 use Rattle.demands.specs.Meets.{MeetsHost, MeetTwoHosts, MeetsPlan, MeetTwoPlans, MeetsFixed, MeetTwoFixed, MeetsWeights}
-use Rattle.demands.specs.Meets.{MeetTwoWeights, MeetsState, MeetsFigure, MeetsRoot, MeetTwoMaps, MeetTwoPairs}
+use Rattle.demands.specs.Meets.{MeetTwoWeights, MeetsStep, MeetsState, MeetsFigure, MeetsRoot, MeetTwoMaps, MeetTwoPairs}
 use Rattle.demands.specs.Meets.{MeetsArray, ofVar, ofSkew, ofKurtosis, ofCov, ofPearson, ofSkewRange, ofKurtosisRange}
 
 -- ---- two calls
@@ -345,3 +352,25 @@ kurtosis-finalize s fisher bias = demand-two .states .kurtosis s s nan fisher bi
 -- ---- root, of a double
 pub root-meets : {x r : Float} → r ≡ root x → T (fits binary64 x) → MeetsRoot x r
 root-meets {x} {r} e h = record { one = demand-one .states (root x) r e; two = subst (CorrectRoot x) (sym e) (demand-two .root-is x h) }
+
+-- ---- a step
+-- a row's window, and the step of it as the code has it, are `det_offsets`'s pair and the next row's
+pub step-meets : {center : Bool} {size n i right : ℕ} {at next : Offsets} → right ≡ rightOf center size → n < 2 ^ 64
+    → (at .start ≡ offsetsAt center size n i .0) × (at .end ≡ offsetsAt center size n i .1)
+    → StepsTo (nextOffsets i (at .start, at .end) (size - right) n) (next .start) (next .end)
+    → i + 1 < n → MeetsStep center size n i at next
+step-meets {center} {size} {n} {i} {right} {at} {next} r few is steps h =
+    let o : ltb i n ≡ true = lt-ltb i n (omega arith) in
+    let here : _≡_ {A = ℕ × ℕ} (at .start, at .end) (boundsAt center size n i) = rw (is .0, is .1, o) in
+    let left : size - right ≡ leftWindow center size = rw r (left-is center size) in
+    let told : nextOffsets i (at .start, at .end) (size - right) n ≡ boundsAt center size n (i + 1) = rw (here, left) (kept-bounds .next center size n i h) in
+    let b = bounds-at center size n (i + 1) h in
+    let fits : boundsAt center size n (i + 1) .0 % 2 ^ 64 ≡ boundsAt center size n (i + 1) .0 = rw (b .0) (omega arith) in
+    let start = steps .start-is ∙ ap (λ (p : ℕ × ℕ). p .0 % 2 ^ 64) told ∙ fits in
+    let end = steps .end-is ∙ ap (λ (p : ℕ × ℕ). p .1) told in
+    let there : _≡_ {A = ℕ × ℕ} (next .start, next .end) (boundsAt center size n (i + 1)) = rw (start, end) in
+    record {
+      row = here;
+      next-row = there;
+      raises = subst (RaisesEach (at .start, at .end)) (told ∙ sym there) (kept-bounds .raises i (at .start, at .end) (size - right) n);
+    }

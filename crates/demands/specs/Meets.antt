@@ -1,8 +1,8 @@
 -- What the three demands, the statement for pairs of traces and the law of maps say of calls, each as the contract of a function of this
 -- crate that makes them: demands 1, 2 and 3 of a call without weights, 3 also of two such calls, or for 2 and 3 the statement, where the
--- figure is of two traces; 1 and 2 of the others, and the law of any two that are lent maps. What they mean is in `promises` DemandOne,
--- DemandTwo, DemandThree, TwoTraces and Maps. Lists that are lent come as (before, after). Assumes nothing.
-use Prim.Native.Nat.{ℕ, _<_}
+-- figure is of two traces; 1 and 2 of the others, and the law of any two that are lent maps; and what is shown of a step from row to row.
+-- What they mean is in `promises` DemandOne, DemandTwo, DemandThree, TwoTraces, Maps and KeptBounds. Lists that are lent come as (before, after). Assumes nothing.
+use Prim.Native.Nat.{ℕ, _+_, _<_}
 use mathlib.Core.Path.{_≡_}
 use mathlib.Core.Bool.{Bool}
 use mathlib.Core.List.{List, [], _∷_}
@@ -16,6 +16,8 @@ use Rattle.moment.specs.Skew.{skewNew}
 use Rattle.moment.specs.Kurtosis.{kurtosisNew}
 use Rattle.moment.specs.Arrays.{varWhole, covWhole, pearsonWhole, skewWhole, kurtosisWhole}
 use Rattle.plan.specs.Plan.{rows}
+use Rattle.plan.specs.Bounds.{boundsAt}
+use Rattle.plan.specs.declared.bounds.Offsets.{Offsets}
 use Rattle.window.specs.Given.{Given}
 use Rattle.window.specs.Outputs.{Column, Lent, columnAfter}
 use Rattle.rolling.specs.Moments.{Statistic, kindOf}
@@ -33,6 +35,7 @@ use Rattle.promises.specs.DemandTwo.{sourceVar, sourceSkew, sourceKurtosis, sou
 use Rattle.promises.specs.DemandTwo.{RowsEqual, FixedRowsEqual, WeightedRowsEqual, CorrectRoot}
 use Rattle.promises.specs.DemandThree.{Alike, SameAnswers, Yielded}
 use Rattle.promises.specs.TwoTraces.{PairYielded}
+use Rattle.promises.specs.KeptBounds.{RaisesEach}
 use Rattle.promises.specs.Maps.{SameMaps, SameGiven, SameHost, SameRoom, SameReadingRoom, SameColumnRoom, SameAnswer, SameColumns, SameRows}
 
 -- ---- host calls
@@ -112,6 +115,12 @@ pub record MeetTwoWeights (center : Bool) (windowSize minPeriods : ℕ) (weights
   pub second : MeetsWeights center windowSize minPeriods weights t′ c′ number′
   pub maps : SameMaps t t′ → SameColumnRoom (c .0) (c′ .0)
       → SameAnswer number number′ (SameColumns (length (t .readings)) (c .1 ∷ []) (c′ .1 ∷ []))
+
+-- ---- a step from row i's bounds to those of the next row
+pub record MeetsStep (center : Bool) (windowSize n i : ℕ) (at next : Offsets) : Type 0 where
+  pub row : (at .start, at .end) ≡ boundsAt center windowSize n i
+  pub next-row : (next .start, next .end) ≡ boundsAt center windowSize n (i + 1)
+  pub raises : RaisesEach (at .start, at .end) (next .start, next .end)
 
 -- ---- whole arrays, pairs and ranges
 -- the calls that hand out a state, each named as the entry is

@@ -1,14 +1,22 @@
 // Calls with fixed windows: one, of which all three demands speak, two of the same windows, setting and figure, of which the third does,
 // and those of two traces, as a host's; and with weights, of which the first two speak. Of two calls the law of maps speaks too, with
-// weights as well.
+// weights as well. Last a step from a row's bounds to the next row's.
+ghost use Prim.Native.Nat.{_+_, _<_};
 ghost use Rattle.trace.specs.Slices.{entering};
 ghost use Rattle.trace.specs.Trace.{tracing};
 ghost use Rattle.window.specs.Pairs.{pairing};
 ghost use Rattle.rolling.specs.Moments.{Variance, Skewness, Kurtosis, Covariance, Correlation};
 ghost use Rattle.rolling.specs.Calls.{lending};
 ghost use Rattle.weighted.specs.Weights.{lendingColumn};
-ghost use Rattle.demands.specs.Meets.{MeetsFixed, MeetTwoFixed, MeetsWeights, MeetTwoWeights};
+ghost use Rattle.demands.specs.Meets.{MeetsFixed, MeetTwoFixed, MeetsWeights, MeetTwoWeights, MeetsStep};
 use crate::Numbers;
+use plan::Offsets;
+
+// the windows of a row and of the row behind it
+pub struct Steps {
+    pub at: Offsets,
+    pub next: Offsets,
+}
 
 pub fn rolling_var(
     trace: &[f64],
@@ -504,4 +512,13 @@ pub fn two_rolling_var_weights(
         other_present,
     );
     Numbers { first, second }
+}
+
+pub fn next_offsets(i: usize, window_size: usize, len: usize, center: bool) -> Steps
+    ensures { λ r. ⌜ i + 1 < len → MeetsStep center «window_size» len i (r .at) (r .next) ⌝ }
+{
+    let at = plan::det_offsets(i, window_size, len, center);
+    let left = window_size - plan::right_window(center, window_size);
+    let next = plan::next_offsets(i, at, left, len);
+    Steps { at, next }
 }

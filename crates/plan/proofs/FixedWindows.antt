@@ -26,10 +26,18 @@ rows-are left right n starts ends true = sym (table-length (λ i. i - left) n)
 rows-are left right n starts ends false = refl
 
 -- ---- a step
--- a start stays or is the next place, and so is an end
-pub stepped : (b : Bool) (bound : ℕ) → (bound ≤ cond b bound (bound + 1)) × (cond b bound (bound + 1) ≤ bound + 1)
-stepped true bound = (omega arith, omega arith)
-stepped false bound = (omega arith, omega arith)
+-- a pair by its parts
+pair-is : (p : ℕ × ℕ) {a b : ℕ} → p .0 ≡ a → p .1 ≡ b → p ≡ (a, b)
+pair-is p e f = rw (← e, ← f) refl
+
+-- a bound that stays or moves to the next place
+pub stays-or-moves : (b : Bool) (bound : ℕ) → (bound ≤ cond b bound (bound + 1)) × (cond b bound (bound + 1) ≤ bound + 1)
+stays-or-moves true bound = (omega arith, omega arith)
+stays-or-moves false bound = (omega arith, omega arith)
+
+pub moves-or-stays : (b : Bool) (bound : ℕ) → (bound ≤ cond b (bound + 1) bound) × (cond b (bound + 1) bound ≤ bound + 1)
+moves-or-stays true bound = stays-or-moves false bound
+moves-or-stays false bound = stays-or-moves true bound
 
 -- the step of a row that starts `left` places before its own and ends at x or with the places
 module _ (left x n i : ℕ) where
@@ -155,6 +163,14 @@ module _ (center : Bool) (size n : ℕ) where
       go true false e = (refl, refl)
       go false true e = let z = eqb-true size 0 e in (omega arith, omega arith)
       go false false e = let z = eqb-false size 0 e in (omega arith, omega arith)
+
+  -- the step of a row's pair is the next row's
+  pub next-bounds : (i : ℕ) → i + 1 < n → nextOffsets i (boundsAt center size n i) left n ≡ boundsAt center size n (i + 1)
+  next-bounds i h =
+      let here = bounds-at i (omega arith) in
+      let next = bounds-at (i + 1) h in
+      ap (λ (p : ℕ × ℕ). nextOffsets i p left n) (pair-is (boundsAt center size n i) (here .0) (here .1)) ∙ next-reaches left (i + right) n i
+      ∙ sym (pair-is (boundsAt center size n (i + 1)) (next .0) (next .1 ∙ omega arith))
 
   pub bounds-reach : bounds center size n ≡ reaching left right n
   unfolding bounds

@@ -168,7 +168,7 @@ module _ (center : Bool) (minPeriods : ℕ) (weights values : List Float) (right
   rows-done {present₀ = present₀} {present = present} e u v =
       let bytes = table-same _ _ (length values) (λ i h. byte-is values weights total (length weights - right) right minPeriods i) in
       let w : Upto (λ i. byteOf (Row i)) present₀ present (length values) =
-          record { long = v .long; is = v .is ∙ ap (λ (l : List ℕ). l ++ drop (length values) present₀) bytes } in
+      record { long = v .long; is = v .is ∙ ap (λ (l : List ℕ). l ++ drop (length values) present₀) bytes } in
       record { column-is = column-is (list-done doubleOf _ _ _ e u) (list-done byteOf _ _ _ refl w) }
 
 -- ---- the bytes that a block is lent

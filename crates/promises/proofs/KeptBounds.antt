@@ -1,0 +1,43 @@
+-- A step moves a start once the row has all places before it, and an end until the places end: so the pair is the next row's. Assumes
+-- nothing.
+use Prim.Native.Nat.{ℕ, zero, suc, _+_, _-_, _/_, _<_, min}
+use mathlib.Core.Path.{_≡_, refl, sym, ap, _∙_}
+use mathlib.Core.Bool.{Bool, true, false, cond}
+use mathlib.Core.List.{List, [], _∷_}
+use native.Mathlib.Omega.{arith}
+use lib.Dec.{ltb}
+use Rattle.plan.specs.Bounds.{boundsAt, nextOffsets}
+use Rattle.plan.specs.Code.Reaching.{rightOf}
+use Rattle.plan.proofs.FixedWindows.{stays-or-moves, moves-or-stays, next-bounds}
+use Rattle.promises.specs.KeptBounds.{leftWindow, StepsOn, RaisesEach, KeptBounds}
+
+-- as far as the code's windows reach
+pub left-is : (center : Bool) (size : ℕ) → size - rightOf center size ≡ leftWindow center size
+unfolding rightOf
+left-is true size = refl
+left-is false size = omega arith
+
+pub raises-each : (i : ℕ) (at : ℕ × ℕ) (left len : ℕ) → RaisesEach at (nextOffsets i at left len)
+raises-each i at left len =
+    let s = stays-or-moves (ltb i left) (at .0) in
+    let e = moves-or-stays (ltb (at .1) len) (at .1) in
+    record { start = record { not-lowered = s .0; by-one = s .1 }; end = record { not-lowered = e .0; by-one = e .1 } }
+
+pub kept-bounds : KeptBounds
+kept-bounds =
+    record {
+      raises = raises-each;
+      next = λ center size len i h.
+          ap (λ (left : ℕ). nextOffsets i (boundsAt center size len i) left len) (sym (left-is center size)) ∙ next-bounds center size len i h;
+    }
+
+-- ---- computed: every row of 5 places that has a next one
+abbrev EveryRow : Bool → ℕ → Type 0
+EveryRow center size = StepsOn center size 5 0 × StepsOn center size 5 1 × StepsOn center size 5 2 × StepsOn center size 5 3
+
+-- sizes 0, 1, 4, 5, 6, 2^63 and 2^64 - 1
+pub trailing-steps : EveryRow false 0 × EveryRow false 1 × EveryRow false 4 × EveryRow false 5 × EveryRow false 6
+    × EveryRow false 9223372036854775808 × EveryRow false 18446744073709551615
+trailing-steps =
+    let four = (refl, refl, refl, refl) in
+    (four, four, four, four, four, four, four)
