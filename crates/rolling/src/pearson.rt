@@ -496,7 +496,8 @@ impl PearsonMoment {
         Figure::Missing
     }
 
-    // The rows from `first` up to `until`, from the window that stands before them and the bounds `at` of the first; the window after them.
+    // The rows from `first` up to `until`, from the window that stands before them and the bounds `at` of the first; the window after
+    // them. The next row's bounds come from this row's before the row is worked: then nothing waits for them.
     fn block(
         rows: Rows,
         x: &[f64],

@@ -104,8 +104,8 @@ pub(crate) fn is_valid(
     min_periods <= end - start
 }
 
-// A row's answer, as `window::write` writes it, where the lists are known to have the row: a test of their lengths costs time in the row
-// loop.
+// A row's answer. A NaN is written as the one pattern 7FF8000000000000, in a branch of its own: a chosen value costs more here than the
+// branch.
 pub(crate) fn write(figures: &mut [f64], present: &mut [u8], row: usize, figure: Figure)
     requires { ⌜ RowThere row (length (now figures)) (length (now present)) ⌝ }
     ensures { λ _. ⌜ SetsRow row figure figures present ⌝ }

@@ -440,8 +440,8 @@ impl SkewMoment {
         self.estimates(m2s, m3s, factors, roots, out);
     }
 
-    // The rows of a block, from `first` up to `until`, with the bounds `at` of the first: what stands after them, with their bytes and slots
-    // written.
+    // The rows of a block, from `first` up to `until`, with the bounds `at` of the first; what stands behind them, with their bytes and
+    // slots written.
     fn block(
         self,
         rows: Rows,
@@ -465,8 +465,8 @@ impl SkewMoment {
         requires { ⌜ CanFill «has_map» (now map) (now values) rows (now starts) (now ends) (length (now present)) first until at
             (opening .window) (opening .«agg_back») (now work) (now counts) (now corrections) (now m2s) (now m3s) (now factors) ⌝ }
         ensures { λ q. ⌜ BlockFilled (self .bias) «has_map» (entering map) (entering values) rows (entering starts) (entering ends)
-            first until (entering work) (entering present) (q .at) (q .w .window) (q .w .«agg_back») (leaving work) (leaving present)
-            (leaving counts) (leaving corrections) (leaving m2s) (leaving m3s) (leaving factors) ⌝ }
+            first until (entering work) (entering present) (q .at) (q .w .window) (q .w .«agg_back») (leaving work)
+            (leaving present) (leaving counts) (leaving corrections) (leaving m2s) (leaving m3s) (leaving factors) ⌝ }
     {
         let mut w = opening;
         let mut next = at;

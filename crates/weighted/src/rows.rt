@@ -1,5 +1,6 @@
-// The rows of a weighted call: which of them are missing, then their figures. No work slice is lent, so that the divided weights have no place: rows are worked in blocks of 32, whose
-// sums stand on the stack, and a weight is divided once for a block in place of once for a row.
+// The rows of a weighted call: which of them are missing, then their figures. No work slice is lent, so that the divided weights have no
+// place: rows are worked in blocks of 32, whose sums stand on the stack, and a weight is divided once for a block in place of once for a
+// row.
 ghost use mathlib.Core.Path.{_≡_};
 ghost use Prim.Native.Nat.{_≤_};
 ghost use lib.ListN.{length};
@@ -7,7 +8,8 @@ ghost use Rattle.weighted.specs.Weights.{varianceOf};
 ghost use Rattle.trace.specs.Slices.{entering, leaving};
 ghost use Rattle.moment.specs.Figure.{doubleOf};
 ghost use Rattle.window.specs.Code.Filling.{Upto};
-ghost use Rattle.weighted.specs.Code.Rows.{validityAt, answerOf, Finishable, Finishes, Workable, Works, AcceptedWeights, WritesWeights};
+ghost use Rattle.weighted.specs.Code.Rows.{validityAt, answerOf, Finishable, Finishes, Workable, Works};
+ghost use Rattle.weighted.specs.Code.Rows.{AcceptedWeights, WritesWeights};
 use crate::sums;
 use plan::Offsets;
 

@@ -3,7 +3,7 @@ use Prim.Native.Nat.{ℕ, _+_, _-_, _≤_, _<_, min}
 use mathlib.Core.Path.{_≡_, refl, sym, ap, _∙_}
 use mathlib.Core.List.{List, [], _∷_, _++_}
 use native.Mathlib.Omega.{arith}
-use borrow.Author.Tests.{ne-eqb, le-ltb, lt-ltb}
+use borrow.Author.Tests.{ne-eqb}
 use lib.ListN.{length, take, drop, set, length-set, length-append, length-drop}
 use lib.Ieee.{Float, nan}
 use Rattle.float.specs.Tables.{table}
@@ -11,7 +11,7 @@ use Rattle.float.proofs.Tables.{table-length, table-more, table-at, table-part}
 use Rattle.moment.specs.Figure.{doubleOf, byteOf}
 use Rattle.moment.specs.declared.Figure.{Figure}
 use Rattle.window.specs.Outputs.{Column, column, filled, kept, answered, numbered, answersIn, countsIn, answersAt, countsAt}
-use Rattle.window.specs.Code.Filling.{Upto, Fills, Wrote}
+use Rattle.window.specs.Code.Filling.{Upto, Fills}
 
 -- ---- one list
 module _ {A : Type 0} (f : ℕ → A) where
@@ -54,21 +54,6 @@ module _ {A : Type 0} (f : ℕ → A) where
   pub unfilled : (number n : ℕ) (l : List A) → (number ≡ 0 → ⊥) → l ≡ filled number f n l
   unfolding filled
   unfilled number n l h = rw (ne-eqb number 0 h)
-
--- ---- a row's answer
-module _ (row : ℕ) (f : Figure) (figures₀ : List Float) (present₀ : List ℕ) where
-  pub wrote : {figures : List Float} {present : List ℕ} → row < min (length figures₀) (length present₀) → figures ≡ set figures₀ row (doubleOf f) →
-      present ≡ set present₀ row (byteOf f) → Wrote row f figures₀ figures present₀ present
-  wrote h a b = let t = lt-ltb row (min (length figures₀) (length present₀)) h in record { figures-are = rw t a; present-are = rw t b }
-
-  pub wrote-nothing : min (length figures₀) (length present₀) ≤ row → Wrote row f figures₀ figures₀ present₀ present₀
-  wrote-nothing h = let t = le-ltb row (min (length figures₀) (length present₀)) h in record { figures-are = rw t; present-are = rw t }
-
-  pub wrote-row : {figures : List Float} {present : List ℕ} → Wrote row f figures₀ figures present₀ present → row < length figures₀ → row < length present₀ →
-      (figures ≡ set figures₀ row (doubleOf f)) × (present ≡ set present₀ row (byteOf f))
-  wrote-row w h g =
-      let t = lt-ltb row (min (length figures₀) (length present₀)) (omega arith) in
-      (w .figures-are ∙ rw t, w .present-are ∙ rw t)
 
 -- ---- lists of lists
 pub column-is : {d d′ : List Float} {b b′ : List ℕ} → d ≡ d′ → b ≡ b′ → column d b ≡ column d′ b′

@@ -3,7 +3,6 @@
 ghost use mathlib.Core.Path.{_≡_};
 ghost use Rattle.window.specs.Window.{orNan};
 ghost use Rattle.window.specs.Code.Stacks.{emptyAt, grown};
-ghost use Rattle.window.specs.Code.Filling.{Writes};
 use moment::Figure;
 
 // The split account (start, end, split), with how many entries stand in each stack and how many in the window are not finite.
@@ -57,25 +56,4 @@ pub fn or_nan(figure: Figure, nonfinite: usize) -> Figure
         return Figure::Missing;
     };
     Figure::Present(0.0 / 0.0)
-}
-
-// A row's answer, where both lists have the row. A NaN is written as the one pattern 7FF8000000000000, in a branch of its own: a chosen
-// value costs more here than the branch.
-pub fn write(figures: &mut [f64], present: &mut [u8], row: usize, figure: Figure)
-    ensures { λ _. ⌜ Writes row figure figures present ⌝ }
-{
-    if plan::shorter(figures.len(), present.len()) <= row {
-        return;
-    }
-    let Figure::Present(x) = figure else {
-        figures[row] = 0.0;
-        present[row] = 0;
-        return;
-    };
-    present[row] = 1;
-    if x == x {
-        figures[row] = x;
-        return;
-    }
-    figures[row] = 0.0 / 0.0;
 }

@@ -1,9 +1,7 @@
 -- A list that is filled row by row, as the loops over rows keep it. Assumes nothing.
-use Prim.Native.Nat.{ℕ, _≤_, _<_, min}
+use Prim.Native.Nat.{ℕ, _≤_, _<_}
 use mathlib.Core.Path.{_≡_}
-use mathlib.Core.Bool.{Bool, cond}
 use mathlib.Core.List.{List, _++_}
-use lib.Dec.{ltb}
 use lib.ListN.{length, drop, set}
 use lib.Ieee.{Float}
 use Rattle.float.specs.Tables.{table}
@@ -32,11 +30,3 @@ pub record RowSet (row : ℕ) (f : Figure) (figures₀ figures : List Float) (pr
 
 abbrev pub SetsRow : ℕ → Figure → Slice Float → Slice ℕ → Type 0
 SetsRow row f figures present = RowSet row f (entering figures) (leaving figures) (entering present) (leaving present)
-
--- a row's answer in two lists, where both have the row
-pub record Wrote (row : ℕ) (f : Figure) (figures₀ figures : List Float) (present₀ present : List ℕ) : Type 0 where
-  pub figures-are : figures ≡ cond (ltb row (min (length figures₀) (length present₀))) (set figures₀ row (doubleOf f)) figures₀
-  pub present-are : present ≡ cond (ltb row (min (length figures₀) (length present₀))) (set present₀ row (byteOf f)) present₀
-
-abbrev pub Writes : ℕ → Figure → Slice Float → Slice ℕ → Type 0
-Writes row f figures present = Wrote row f (entering figures) (leaving figures) (entering present) (leaving present)
