@@ -1,9 +1,8 @@
 -- A step moves a start once the row has all places before it, and an end until the places end: so the pair is the next row's. Assumes
 -- nothing.
-use Prim.Native.Nat.{ℕ, zero, suc, _+_, _-_, _/_, _<_, min}
+use Prim.Native.Nat.{ℕ, _-_}
 use mathlib.Core.Path.{_≡_, refl, sym, ap, _∙_}
-use mathlib.Core.Bool.{Bool, true, false, cond}
-use mathlib.Core.List.{List, [], _∷_}
+use mathlib.Core.Bool.{Bool, true, false}
 use native.Mathlib.Omega.{arith}
 use lib.Dec.{ltb}
 use Rattle.plan.specs.Bounds.{boundsAt, nextOffsets}
@@ -35,9 +34,34 @@ kept-bounds =
 abbrev EveryRow : Bool → ℕ → Type 0
 EveryRow center size = StepsOn center size 5 0 × StepsOn center size 5 1 × StepsOn center size 5 2 × StepsOn center size 5 3
 
--- sizes 0, 1, 4, 5, 6, 2^63 and 2^64 - 1
-pub trailing-steps : EveryRow false 0 × EveryRow false 1 × EveryRow false 4 × EveryRow false 5 × EveryRow false 6
-    × EveryRow false 9223372036854775808 × EveryRow false 18446744073709551615
-trailing-steps =
-    let four = (refl, refl, refl, refl) in
-    (four, four, four, four, four, four, four)
+-- of windows of 0, 1, 4, 5, 6, 2^63 and 2^64 - 1
+abbrev EverySize : Bool → Type 0
+EverySize center =
+    EveryRow center 0 × EveryRow center 1 × EveryRow center 4 × EveryRow center 5 × EveryRow center 6 × EveryRow center 9223372036854775808
+    × EveryRow center 18446744073709551615
+
+pub trailing-steps : EverySize false
+trailing-steps = (
+  (refl, refl, refl, refl),
+  (refl, refl, refl, refl),
+  (refl, refl, refl, refl),
+  (refl, refl, refl, refl),
+  (refl, refl, refl, refl),
+  (refl, refl, refl, refl),
+  (refl, refl, refl, refl),
+)
+
+pub centred-steps : EverySize true
+centred-steps = (
+  (refl, refl, refl, refl),
+  (refl, refl, refl, refl),
+  (refl, refl, refl, refl),
+  (refl, refl, refl, refl),
+  (refl, refl, refl, refl),
+  (refl, refl, refl, refl),
+  (refl, refl, refl, refl),
+)
+
+-- without a next row a trailing window's step is not 006's pair, which goes on counting
+pub last-row-apart : StepsOn false 2 5 4 → ⊥
+last-row-apart e = let h : _≡_ {A = ℕ} 5 6 = ap (λ (p : ℕ × ℕ). p .1) e in omega arith
