@@ -358,12 +358,13 @@ root-meets {x} {r} e h = record { one = demand-one .states (root x) r e; two = s
 pub step-meets : {center : Bool} {size n i right : ℕ} {at next : Offsets} → right ≡ rightOf center size → n < 2 ^ 64
     → (at .start ≡ offsetsAt center size n i .0) × (at .end ≡ offsetsAt center size n i .1)
     → StepsTo (nextOffsets i (at .start, at .end) (size - right) n) (next .start) (next .end)
-    → i + 1 < n → MeetsStep center size n i at next
+    → MeetsStep center size n i at next
 step-meets {center} {size} {n} {i} {right} {at} {next} r few is steps h =
     let o : ltb i n ≡ true = lt-ltb i n (omega arith) in
     let here : _≡_ {A = ℕ × ℕ} (at .start, at .end) (boundsAt center size n i) = rw (is .0, is .1, o) in
     let left : size - right ≡ leftWindow center size = rw r (left-is center size) in
-    let told : nextOffsets i (at .start, at .end) (size - right) n ≡ boundsAt center size n (i + 1) = rw (here, left) (kept-bounds .next center size n i h) in
+    let told = ap (λ (p : ℕ × ℕ). nextOffsets i p (size - right) n) here
+    ∙ ap (λ (l : ℕ). nextOffsets i (boundsAt center size n i) l n) left ∙ kept-bounds .next center size n i h in
     let b = bounds-at center size n (i + 1) h in
     let fits : boundsAt center size n (i + 1) .0 % 2 ^ 64 ≡ boundsAt center size n (i + 1) .0 = rw (b .0) (omega arith) in
     let start = steps .start-is ∙ ap (λ (p : ℕ × ℕ). p .0 % 2 ^ 64) told ∙ fits in

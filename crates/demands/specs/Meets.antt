@@ -117,10 +117,14 @@ pub record MeetTwoWeights (center : Bool) (windowSize minPeriods : ℕ) (weights
       → SameAnswer number number′ (SameColumns (length (t .readings)) (c .1 ∷ []) (c′ .1 ∷ []))
 
 -- ---- a step from row i's bounds to those of the next row
-pub record MeetsStep (center : Bool) (windowSize n i : ℕ) (at next : Offsets) : Type 0 where
+pub record SteppedOn (center : Bool) (windowSize n i : ℕ) (at next : Offsets) : Type 0 where
   pub row : (at .start, at .end) ≡ boundsAt center windowSize n i
   pub next-row : (next .start, next .end) ≡ boundsAt center windowSize n (i + 1)
   pub raises : RaisesEach (at .start, at .end) (next .start, next .end)
+
+-- of a row with a next row
+abbrev pub MeetsStep : Bool → ℕ → ℕ → ℕ → Offsets → Offsets → Type 0
+MeetsStep center windowSize n i at next = i + 1 < n → SteppedOn center windowSize n i at next
 
 -- ---- whole arrays, pairs and ranges
 -- the calls that hand out a state, each named as the entry is

@@ -1,7 +1,6 @@
 // Calls with fixed windows: one, of which all three demands speak, two of the same windows, setting and figure, of which the third does,
 // and those of two traces, as a host's; and with weights, of which the first two speak. Of two calls the law of maps speaks too, with
 // weights as well. Last a step from a row's bounds to the next row's.
-ghost use Prim.Native.Nat.{_+_, _<_};
 ghost use Rattle.trace.specs.Slices.{entering};
 ghost use Rattle.trace.specs.Trace.{tracing};
 ghost use Rattle.window.specs.Pairs.{pairing};
@@ -515,7 +514,7 @@ pub fn two_rolling_var_weights(
 }
 
 pub fn next_offsets(i: usize, window_size: usize, len: usize, center: bool) -> Steps
-    ensures { λ r. ⌜ i + 1 < len → MeetsStep center «window_size» len i (r .at) (r .next) ⌝ }
+    ensures { λ r. ⌜ MeetsStep center «window_size» len i (r .at) (r .next) ⌝ }
 {
     let at = plan::det_offsets(i, window_size, len, center);
     let left = window_size - plan::right_window(center, window_size);
