@@ -1,7 +1,8 @@
 -- What the three demands, the statement for pairs of traces and the law of maps say of calls, each as the contract of a function of this
 -- crate that makes them: demands 1, 2 and 3 of a call without weights, 3 also of two such calls, or for 2 and 3 the statement, where the
 -- figure is of two traces; 1 and 2 of the others, and the law of any two that are lent maps; and what is shown of a step from row to row.
--- What they mean is in `promises` DemandOne, DemandTwo, DemandThree, TwoTraces, Maps and KeptBounds. Lists that are lent come as (before, after). Assumes nothing.
+-- What they mean is in `promises` DemandOne, DemandTwo, DemandThree, TwoTraces, Maps and KeptBounds. Lists that are lent come as (before,
+-- after). Assumes nothing.
 use Prim.Native.Nat.{ℕ, _+_, _<_}
 use mathlib.Core.Path.{_≡_}
 use mathlib.Core.Bool.{Bool}

@@ -21,7 +21,8 @@ use Rattle.plan.specs.Code.Reaching.{rightOf, reaching, rowsOf, StepsTo}
 use Rattle.plan.proofs.Plans.{first-stands, none-then, wide-all, rows-in-order, widest-under}
 
 -- as many rows as places, or as are listed
-pub rows-are : (left right n : ℕ) (starts ends : List ℕ) (fixed : Bool) → cond fixed n (length starts) ≡ rows (rowsOf fixed left right n starts ends)
+pub rows-are : (left right n : ℕ) (starts ends : List ℕ) (fixed : Bool)
+    → cond fixed n (length starts) ≡ rows (rowsOf fixed left right n starts ends)
 rows-are left right n starts ends true = sym (table-length (λ i. i - left) n)
 rows-are left right n starts ends false = refl
 
@@ -169,7 +170,8 @@ module _ (center : Bool) (size n : ℕ) where
   next-bounds i h =
       let here = bounds-at i (omega arith) in
       let next = bounds-at (i + 1) h in
-      ap (λ (p : ℕ × ℕ). nextOffsets i p left n) (pair-is (boundsAt center size n i) (here .0) (here .1)) ∙ next-reaches left (i + right) n i
+      ap (λ (p : ℕ × ℕ). nextOffsets i p left n) (pair-is (boundsAt center size n i) (here .0) (here .1)) ∙ next-reaches left (i +
+      right) n i
       ∙ sym (pair-is (boundsAt center size n (i + 1)) (next .0) (next .1 ∙ omega arith))
 
   pub bounds-reach : bounds center size n ≡ reaching left right n

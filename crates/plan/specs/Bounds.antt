@@ -1,5 +1,5 @@
--- Document 01, "Fixed windows (006, 004, 005)": their bounds as a plan; document 02, request 3: how a row's bounds come from those of the row
--- before. Assumes nothing.
+-- Document 01, "Fixed windows (006, 004, 005)": their bounds as a plan; document 02, request 3: how a row's bounds come from those of the
+-- row before. Assumes nothing.
 use Prim.Native.Nat.{ℕ, _+_, _-_, _/_, min}
 use mathlib.Core.Bool.{Bool, cond}
 use lib.Dec.{eqb, ltb}

@@ -27,7 +27,8 @@ kept-bounds =
     record {
       raises = raises-each;
       next = λ center size len i h.
-          ap (λ (left : ℕ). nextOffsets i (boundsAt center size len i) left len) (sym (left-is center size)) ∙ next-bounds center size len i h;
+          ap (λ (left : ℕ). nextOffsets i (boundsAt center size len i) left len) (sym (left-is center size)) ∙ next-bounds center size
+          len i h;
     }
 
 -- ---- computed: every row of 5 places that has a next one

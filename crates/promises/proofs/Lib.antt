@@ -1,6 +1,6 @@
 -- Laws by subject: the source's states, whole arrays and ranges; the account over a plan; the source's windows, marks and rows, its
--- fixed windows and its weights; then the demands, the statement for pairs of traces, the law of maps and the step from row to row, computed
--- examples of the source, accepted and refused calls that bear witness, maps of other lengths, and the table.
+-- fixed windows and its weights; then the demands, the statement for pairs of traces, the law of maps and the step from row to row,
+-- computed examples of the source, accepted and refused calls that bear witness, maps of other lengths, and the table.
 pub mod SourceStates
 pub mod Spans
 pub mod SourceArrays

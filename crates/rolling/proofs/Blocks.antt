@@ -45,7 +45,8 @@ module _ (bias has : Bool) (map : List ℕ) (values : List Float) (r : Rows) (st
   -- ---- the turns of a block
   module _ (first until : ℕ) (work₀ : List Float) (present₀ : List ℕ) where
     -- where the rows from `first` up to row k are worked, their bytes written and their slots held, and row k's window is held
-    pub record BlockTurn (w : Window) (agg : SkewState) (at : Offsets) (work : List Float) (present counts : List ℕ) (corrections m2s m3s factors : List Float) (k : ℕ) : Type 0 where
+    pub record BlockTurn (w : Window) (agg : SkewState) (at : Offsets) (work : List Float) (present counts : List ℕ) (corrections m2s
+        m3s factors : List Float) (k : ℕ) : Type 0 where
       pub ahead : Ahead p k at
       pub working : Working skewStored t (r .«min_periods») (length values) (r .widest) p first until work₀ w agg work k
       pub present-same : length present ≡ length present₀
@@ -53,7 +54,8 @@ module _ (bias has : Bool) (map : List ℕ) (values : List Float) (r : Rows) (st
       pub slots : Slots counts corrections m2s m3s factors
       pub doubles : (j : ℕ) → first ≤ j → j < k → doubleAt bias m2s m3s factors (j - first) ≡ doubleOf (Answer j)
 
-    module _ {w₀ : Window} {agg₀ : SkewState} {at₀ : Offsets} {outputs : ℕ} {counts₀ : List ℕ} {corrections₀ m2s₀ m3s₀ factors₀ : List Float}
+    module _ {w₀ : Window} {agg₀ : SkewState} {at₀ : Offsets} {outputs : ℕ} {counts₀ : List ℕ} {corrections₀ m2s₀ m3s₀ factors₀ : List
+        Float}
         (can : CanFill has map values r starts ends outputs first until at₀ w₀ agg₀ work₀ counts₀ corrections₀ m2s₀ m3s₀ factors₀) where
       pub block-starts : BlockTurn w₀ agg₀ at₀ work₀ present₀ counts₀ corrections₀ m2s₀ m3s₀ factors₀ first
       block-starts =
@@ -66,13 +68,16 @@ module _ (bias has : Bool) (map : List ℕ) (values : List Float) (r : Rows) (st
             doubles = λ j g h. absurd (omega arith);
           }
 
-      module _ {w : Window} {agg : SkewState} {at : Offsets} {work : List Float} {present counts : List ℕ} {corrections m2s m3s factors : List Float} {k : ℕ}
+      module _ {w : Window} {agg : SkewState} {at : Offsets} {work : List Float} {present counts : List ℕ} {corrections m2s m3s
+          factors : List Float} {k : ℕ}
           (v : BlockTurn w agg at work present counts corrections m2s m3s factors k) where
-        pub block-done : until ≤ k → BlockFilled bias has map values r starts ends first until work₀ present₀ at w agg work present counts corrections m2s m3s factors
+        pub block-done : until ≤ k → BlockFilled bias has map values r starts ends first until work₀ present₀ at w agg work present
+            counts corrections m2s m3s factors
         block-done h =
             let u = v .working .high in
             let e : k ≡ until = omega arith in
-            subst (λ (i : ℕ). BlockFilled bias has map values r starts ends first i work₀ present₀ at w agg work present counts corrections m2s m3s factors) e
+            subst (λ (i : ℕ). BlockFilled bias has map values r starts ends first i work₀ present₀ at w agg work present counts
+            corrections m2s m3s factors) e
             (record { ahead = v .ahead; worked = v .working .worked; bytes = v .bytes; slots = v .slots; doubles = v .doubles })
 
         module _ (more : k < until) where
@@ -91,26 +96,33 @@ module _ (bias has : Bool) (map : List ℕ) (values : List Float) (r : Rows) (st
               record { m2-in = omega arith; m3-in = omega arith; factor-in = omega arith }
 
           pub block-movable : Movable skewStored t (at .start) (at .end) (length values) (r .widest) w agg work
-          block-movable = work-movable skewStored t (can .can .can) (v .working) more (block-row .bounds .start-is) (block-row .bounds .end-is)
+          block-movable = work-movable skewStored t (can .can .can) (v .working) more (block-row .bounds .start-is)
+              (block-row .bounds .end-is)
 
           module _ {w' : Window} {agg' : SkewState} {work' : List Float}
-              (q : Stepped skewStored t (r .widest) (r .«min_periods») k (at .start) (at .end) w work w' agg' work') (same : length work' ≡ length work) where
+              (q : Stepped skewStored t (r .widest) (r .«min_periods») k (at .start) (at .end) w work w' agg' work') (same : length
+              work' ≡ length work) where
             pub block-fits : (4 * w' .front ≤ length work') × (w' .front + w' .back ≤ 2 ^ 53) × (at .start ≤ at .end)
-            block-fits = work-fits skewStored t (can .can .can) (v .working) more (block-row .bounds .start-is) (block-row .bounds .end-is) q same
+            block-fits = work-fits skewStored t (can .can .can) (v .working) more (block-row .bounds .start-is)
+                (block-row .bounds .end-is) q same
 
             pub block-next : {byte : ℕ} {at' : Offsets} {counts' : List ℕ} {corrections' m2s' m3s' factors' : List Float}
-                → SlotHolds bias (answerBy skewStored (λ z. skewFinalize z bias) has (r .«min_periods») (at .start) (at .end) w' agg' work') (k - first) byte m2s m3s factors m2s' m3s' factors'
-                → Corrections counts' corrections' → Ahead p (k + 1) at' → BlockTurn w' agg' at' work' (set present k byte) counts' corrections' m2s' m3s' factors' (k + 1)
+                → SlotHolds bias (answerBy skewStored (λ z. skewFinalize z bias) has (r .«min_periods») (at .start) (at .end) w' agg'
+                work') (k - first) byte m2s m3s factors m2s' m3s' factors'
+                → Corrections counts' corrections' → Ahead p (k + 1) at'
+                → BlockTurn w' agg' at' work' (set present k byte) counts' corrections' m2s' m3s' factors' (k + 1)
             block-next {byte} {m2s' = m2s'} {m3s' = m3s'} {factors' = factors'} o c h′ =
                 let b = block-row .bounds in
-                let a = work-answer skewStored t (can .can .can) (v .working) more (b .start-is) (b .end-is) q same (λ z. skewFinalize z bias) refl in
+                let a = work-answer skewStored t (can .can .can) (v .working) more (b .start-is) (b .end-is) q same (λ z. skewFinalize
+                z bias) refl in
                 let l = v .working .low in
                 let f = block-slot in
                 record {
                   ahead = h′;
                   working = work-next skewStored t (can .can .can) (v .working) more (b .start-is) (b .end-is) q same;
                   present-same = length-set present k byte ∙ v .present-same;
-                  bytes = fills-next (λ j. byteOf (Answer j)) first k present₀ present (set present k byte) byte (v .bytes) (o .byte-is ∙ ap byteOf a) refl;
+                  bytes = fills-next (λ j. byteOf (Answer j)) first k present₀ present (set present k byte) byte (v .bytes)
+                      (o .byte-is ∙ ap byteOf a) refl;
                   slots = record {
                     kept = c;
                     m2s-long = ap length (o .m2-at) ∙ length-set m2s (k - first) (o .m2) ∙ v .slots .m2s-long;
@@ -131,7 +143,8 @@ module _ (bias has : Bool) (map : List ℕ) (values : List Float) (r : Rows) (st
               where
                 slot : (j : ℕ) → first ≤ j → j < k + 1 → (b : Bool) → eqb (j - first) (k - first) ≡ b
                     → answerBy skewStored (λ z. skewFinalize z bias) has (r .«min_periods») (at .start) (at .end) w' agg' work' ≡ Answer k
-                    → estimate bias (cond b (o .m2) (getD m2s (j - first) nan)) (cond b (o .m3) (getD m3s (j - first) nan)) (cond b (o .factor) (getD factors (j - first) nan))
+                    → estimate bias (cond b (o .m2) (getD m2s (j - first) nan)) (cond b (o .m3) (getD m3s (j - first) nan)) (cond b
+                    (o .factor) (getD factors (j - first) nan))
                     (root (cond b (o .m2) (getD m2s (j - first) nan))) ≡ doubleOf (Answer j)
                 slot j i h true y a =
                     let low = v .working .low in
@@ -146,7 +159,8 @@ module _ (bias has : Bool) (map : List ℕ) (values : List Float) (r : Rows) (st
   -- ---- block after block
   module _ (work₀ figures₀ : List Float) (present₀ : List ℕ) where
     -- where the rows before `first` are worked and their answers written, and the window of row `first` is held
-    pub record Blocks (w : Window) (agg : SkewState) (at : Offsets) (work figures : List Float) (present counts : List ℕ) (corrections m2s m3s factors roots : List Float) (first : ℕ) : Type 0 where
+    pub record Blocks (w : Window) (agg : SkewState) (at : Offsets) (work figures : List Float) (present counts : List ℕ) (corrections
+        m2s m3s factors roots : List Float) (first : ℕ) : Type 0 where
       pub ahead : Ahead p first at
       pub work-same : length work ≡ length work₀
       pub figures-same : length figures ≡ length figures₀
@@ -156,8 +170,10 @@ module _ (bias has : Bool) (map : List ℕ) (values : List Float) (r : Rows) (st
       pub roots-long : length roots ≡ 32
 
     module _ {outputs : ℕ} (d : Driven r (length values) starts ends outputs 5 (length work₀)) where
-      pub blocks-start : {w : Window} {agg : SkewState} → w ≡ emptyAt 0 → agg ≡ skewStored .moment .empty → {at : Offsets} → Ahead p 0 at → {counts : List ℕ} {corrections m2s m3s factors roots : List Float}
-          → Slots counts corrections m2s m3s factors → length roots ≡ 32 → Blocks w agg at work₀ figures₀ present₀ counts corrections m2s m3s factors roots 0
+      pub blocks-start : {w : Window} {agg : SkewState} → w ≡ emptyAt 0 → agg ≡ skewStored .moment .empty → {at : Offsets}
+          → Ahead p 0 at → {counts : List ℕ} {corrections m2s m3s factors roots : List Float}
+          → Slots counts corrections m2s m3s factors → length roots ≡ 32
+          → Blocks w agg at work₀ figures₀ present₀ counts corrections m2s m3s factors roots 0
       blocks-start g e h s l =
           record {
             ahead = h;
@@ -165,7 +181,11 @@ module _ (bias has : Bool) (map : List ℕ) (values : List Float) (r : Rows) (st
             figures-same = refl;
             present-same = refl;
             works = record {
-              worked = record { standing = rows-can skewStored (series has map values) (length values) r starts ends d g e refl h .can .standing; rest = refl };
+              worked = record {
+                standing = rows-can skewStored (series has map values) (length values) r starts ends d g e refl
+                    h .can .standing;
+                rest = refl;
+              };
               figures-are = fills-none (λ j. doubleOf (Answer j)) 0 figures₀;
               present-are = fills-none (λ j. byteOf (Answer j)) 0 present₀;
             };
@@ -173,9 +193,12 @@ module _ (bias has : Bool) (map : List ℕ) (values : List Float) (r : Rows) (st
             roots-long = l;
           }
 
-      module _ {w : Window} {agg : SkewState} {at : Offsets} {work figures : List Float} {present counts : List ℕ} {corrections m2s m3s factors roots : List Float} {first : ℕ}
-          (v : Blocks w agg at work figures present counts corrections m2s m3s factors roots first) (until : ℕ) (rises : first ≤ until) (short : until ≤ first + 32) (listed : until ≤ rows p) where
-        pub blocks-can : {held : ℕ} → outputs ≤ held → CanFill has map values r starts ends held first until at w agg work counts corrections m2s m3s factors
+      module _ {w : Window} {agg : SkewState} {at : Offsets} {work figures : List Float} {present counts : List ℕ} {corrections m2s
+          m3s factors roots : List Float} {first : ℕ}
+          (v : Blocks w agg at work figures present counts corrections m2s m3s factors roots first) (until : ℕ) (rises : first ≤
+          until) (short : until ≤ first + 32) (listed : until ≤ rows p) where
+        pub blocks-can : {held : ℕ} → outputs ≤ held → CanFill has map values r starts ends held first until at w agg work counts
+            corrections m2s m3s factors
         blocks-can h =
             let o = d .outputs-fit in
             let z = d .few in
@@ -198,8 +221,10 @@ module _ (bias has : Bool) (map : List ℕ) (values : List Float) (r : Rows) (st
               slots = v .slots;
             }
 
-        pub blocks-next : outputs ≤ length figures₀ → {at' : Offsets} {w' : Window} {agg' : SkewState} {work' figures' out : List Float} {present' counts' : List ℕ} {corrections' m2s' m3s' factors' roots' : List Float}
-            → BlockFilled bias has map values r starts ends first until work present at' w' agg' work' present' counts' corrections' m2s' m3s' factors'
+        pub blocks-next : outputs ≤ length figures₀ → {at' : Offsets} {w' : Window} {agg' : SkewState} {work' figures' out : List
+            Float} {present' counts' : List ℕ} {corrections' m2s' m3s' factors' roots' : List Float}
+            → BlockFilled bias has map values r starts ends first until work present at' w' agg' work' present' counts' corrections'
+            m2s' m3s' factors'
             → length work' ≡ length work → length present' ≡ length present → length roots' ≡ length roots
             → out ≡ table (doubleAt bias m2s' m3s' factors') (length (take (until - first) (drop first figures)))
             → figures' ≡ take first figures ++ (out ++ drop (until - first) (drop first figures))

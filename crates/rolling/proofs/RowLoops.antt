@@ -37,7 +37,8 @@ module _ (r : Rows) (n : ℕ) (starts ends : List ℕ) where
   fixed-listed : r .fixed ≡ true → {k : ℕ} → k < rows (planBy r n starts ends) → k < n
   fixed-listed f h = rw (← many-rows r n starts ends, f) at h
 
-  fixed-ahead : r .fixed ≡ true → (k : ℕ) {at : Offsets} → at .start ≡ k - r .left → at .end ≡ min n (k + r .right) → Ahead (planBy r n starts ends) k at
+  fixed-ahead : r .fixed ≡ true → (k : ℕ) {at : Offsets} → at .start ≡ k - r .left → at .end ≡ min n (k + r .right)
+      → Ahead (planBy r n starts ends) k at
   fixed-ahead f k a b i =
       let h = fixed-listed f i in
       rw f (record { start-is = a ∙ sym (start-at (r .left) (r .right) n k h); end-is = b ∙ sym (end-at (r .left) (r .right) n k h) })
@@ -124,7 +125,8 @@ module _ {A : Type 0} (M : Stored Float A) (final : M .moment .State → Figure)
         turn-movable = work-movable M t (can .can) (v .working) more (turn-row .bounds .start-is) (turn-row .bounds .end-is)
 
         module _ {w' : Window} {agg' : M .moment .State} {work' : List Float}
-            (q : Stepped M t (r .widest) (r .«min_periods») k (at .start) (at .end) w work w' agg' work') (same : length work' ≡ length work) where
+            (q : Stepped M t (r .widest) (r .«min_periods») k (at .start) (at .end) w work w' agg' work') (same : length work' ≡
+            length work) where
           pub turn-fits : (M .inFront .width * w' .front ≤ length work') × (w' .front + w' .back ≤ 2 ^ 53) × (at .start ≤ at .end)
           turn-fits = work-fits M t (can .can) (v .working) more (turn-row .bounds .start-is) (turn-row .bounds .end-is) q same
 
@@ -141,8 +143,10 @@ module _ {A : Type 0} (M : Stored Float A) (final : M .moment .State → Figure)
                 working = work-next M t (can .can) (v .working) more (b .start-is) (b .end-is) q same;
                 figures-same = ap length (o .figures-are) ∙ length-set figures k (doubleOf f) ∙ x;
                 present-same = ap length (o .present-are) ∙ length-set present k (byteOf f) ∙ y;
-                figures-are = fills-next (λ j. doubleOf (Answer j)) first k figures₀ figures figures' (doubleOf f) (v .figures-are) (ap doubleOf a) (o .figures-are);
-                present-are = fills-next (λ j. byteOf (Answer j)) first k present₀ present present' (byteOf f) (v .present-are) (ap byteOf a) (o .present-are);
+                figures-are = fills-next (λ j. doubleOf (Answer j)) first k figures₀ figures figures' (doubleOf f) (v .figures-are)
+                    (ap doubleOf a) (o .figures-are);
+                present-are = fills-next (λ j. byteOf (Answer j)) first k present₀ present present' (byteOf f) (v .present-are) (ap
+                    byteOf a) (o .present-are);
               }
 
 -- two lists of readings of one length have as many places as one of them
@@ -156,14 +160,16 @@ within-both M t xs ys same {s} {e} {widest} {w} {agg} {work} m =
 -- ---- all rows
 module _ {A : Type 0} (M : Stored Float A) (t : Series A) (n : ℕ) (r : Rows) (starts ends : List ℕ) {outputs : ℕ} {work₀ : List Float}
     (d : Driven r n starts ends outputs (placeWidth M) (length work₀)) where
-  rows-workable : {w : Window} {agg : M .moment .State} → w ≡ emptyAt 0 → agg ≡ M .moment .empty → {until : ℕ} → until ≡ rows (planBy r n starts ends) →
+  rows-workable : {w : Window} {agg : M .moment .State} → w ≡ emptyAt 0 → agg ≡ M .moment .empty → {until : ℕ}
+      → until ≡ rows (planBy r n starts ends) →
       Workable M t (r .«min_periods») n (r .widest) (planBy r n starts ends) outputs 0 until w agg work₀
   rows-workable {w} {agg} g e {until} u =
       let z = d .few in
       let s = stand-start M t (r .«min_periods») n (r .widest) (planBy r n starts ends) agg e work₀ in
       rw (g, u) (record { plan = d .plan; standing = s; rises = omega arith; listed = le-refl _; outputs-fit = d .outputs-fit; room = d .work-fits; few = omega arith })
 
-  pub rows-can : {w : Window} {agg : M .moment .State} → w ≡ emptyAt 0 → agg ≡ M .moment .empty → {until : ℕ} → until ≡ rows (planBy r n starts ends) →
+  pub rows-can : {w : Window} {agg : M .moment .State} → w ≡ emptyAt 0 → agg ≡ M .moment .empty → {until : ℕ}
+      → until ≡ rows (planBy r n starts ends) →
       {at : Offsets} → Ahead (planBy r n starts ends) 0 at → CanWork M t n r starts ends outputs 0 until at w agg work₀
   rows-can g e u h = record { can = rows-workable g e u; ahead = h }
 

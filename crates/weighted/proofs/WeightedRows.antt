@@ -30,9 +30,11 @@ use Rattle.plan.proofs.FixedWindows.{bounds-at, steps-reach}
 use Rattle.window.specs.Outputs.{Column, column, columnAfter, filled}
 use Rattle.window.specs.Code.Filling.{Upto}
 use Rattle.window.proofs.Outputs.{upto-done, unfilled, column-is}
-use Rattle.weighted.specs.Weights.{totalOf, varianceOf, computeVarWeights, weightsStart, aligned, weightedAt, weightsRefusal, CalledWeights}
+use Rattle.weighted.specs.Weights.{totalOf, varianceOf, computeVarWeights, weightsStart, aligned, weightedAt}
+use Rattle.weighted.specs.Weights.{weightsRefusal, CalledWeights}
 use Rattle.weighted.specs.Code.Sums.{sumsOf, sumsAt, SumsUpTo}
-use Rattle.weighted.specs.Code.Rows.{lengthAt, validityAt, answerOf, doubleAt, varianceBy, weightedBy, AcceptedWeights, WrittenWeights}
+use Rattle.weighted.specs.Code.Rows.{lengthAt, validityAt, answerOf, doubleAt, varianceBy, weightedBy}
+use Rattle.weighted.specs.Code.Rows.{AcceptedWeights, WrittenWeights}
 
 -- ---- the window that is held before row k, where there is such a row
 pub record Reaches (n left right k : ℕ) (at : Offsets) : Type 0 where
@@ -72,25 +74,28 @@ variance-done : (values weights : List Float) (total : Float) (left first until 
 variance-done values weights total left first until held r h =
     let b = held .block .before in
     let z : first + r + length weights - left ≡ first + r + (length weights - left) = omega arith in
-    ap varianceOf (held .sums-are r h ∙ ap (λ (i : ℕ). sumsOf values weights total left (first + r) (min (length values) i - (first + r - left))) z)
+    ap varianceOf (held .sums-are r h ∙ ap (λ (i : ℕ). sumsOf values weights total left (first + r) (min (length values) i - (first +
+    r - left))) z)
 
 -- a block's doubles, of their sums
 pub block-done : (values weights : List Float) (total : Float) (left first until : ℕ) {wssq wsum wtot : List Float}
-    → SumsUpTo values weights total left first until (length weights) wssq wsum wtot → (present : List ℕ) {figures : List Float} {m : ℕ} → m ≡ until - first
+    → SumsUpTo values weights total left first until (length weights) wssq wsum wtot
+    → (present : List ℕ) {figures : List Float} {m : ℕ} → m ≡ until - first
     → figures ≡ table (doubleAt present (λ r. varianceOf (sumsAt wssq wsum wtot r))) m
     → figures ≡ table (doubleAt present (λ r. varianceBy values weights total left (length weights - left) (first + r))) (until - first)
 block-done values weights total left first until held present m t =
     t ∙ ap (table _) m
-    ∙ table-same _ _ (until - first) (λ r h. ap (λ (x : Float). doubleOf (answerOf (getD present r 0) x)) (variance-done values weights total left first until held r h))
+    ∙ table-same _ _ (until - first) (λ r h. ap (λ (x : Float). doubleOf (answerOf (getD present r 0) x)) (variance-done values
+    weights total left first until held r h))
 
 -- its answer has the byte by its length, and the double by its byte
 module _ (values weights : List Float) (total : Float) (left right minPeriods k : ℕ) where
-  abbrev Long : Bool
-  Long = ltb (lengthAt (length values) left right k) minPeriods
+  abbrev Short : Bool
+  Short = ltb (lengthAt (length values) left right k) minPeriods
 
   byte-is : validityAt (length values) left right minPeriods k ≡ byteOf (weightedBy values weights total left right minPeriods k)
   unfolding weightedBy
-  byte-is = go Long
+  byte-is = go Short
     where
       go : (b : Bool) → cond b 0 1 ≡ byteOf (cond b Missing (Present (varianceBy values weights total left right k)))
       go true = refl
@@ -100,7 +105,7 @@ module _ (values weights : List Float) (total : Float) (left right minPeriods k 
       → variance ≡ varianceBy values weights total left right k
       → doubleOf (answerOf byte variance) ≡ doubleOf (weightedBy values weights total left right minPeriods k)
   unfolding weightedBy
-  double-is e f = rw (e, f) (go Long)
+  double-is e f = rw (e, f) (go Short)
     where
       go : (b : Bool) → doubleOf (answerOf (cond b 0 1) (varianceBy values weights total left right k))
           ≡ doubleOf (cond b Missing (Present (varianceBy values weights total left right k)))
@@ -176,11 +181,13 @@ part-byte : (f : ℕ → ℕ) (l₀ l : List ℕ) (n first until r : ℕ) → un
     → getD (take (until - first) (drop first l)) r 0 ≡ f (first + r)
 part-byte f l₀ l n first until r h o u =
     getD-take (until - first) (drop first l) r 0 o ∙ getD-drop first l r 0 ∙ ap (λ (k : List ℕ). getD k (first + r) 0) (u .is)
-    ∙ List·getD-append (table f n) (drop n l₀) 0 (first + r) (rw (table-length f n) (omega arith)) ∙ table-place f n (first + r) 0 (omega arith)
+    ∙ List·getD-append (table f n) (drop n l₀) 0 (first + r) (rw (table-length f n) (omega arith)) ∙ table-place f n (first + r) 0
+    (omega arith)
 
 -- a block's doubles are those of its rows
 pub block-doubles : (values weights : List Float) (total : Float) (left right minPeriods first until : ℕ) {present₀ present : List ℕ}
-    → length weights - left ≡ right → until ≤ length values → Upto (validityAt (length values) left right minPeriods) present₀ present (length values)
+    → length weights - left ≡ right → until ≤ length values → Upto (validityAt (length values) left right minPeriods) present₀ present
+    (length values)
     → (r : ℕ) → r < until - first
     → doubleAt (take (until - first) (drop first present)) (λ i. varianceBy values weights total left (length weights - left) (first + i)) r
     ≡ doubleOf (weightedBy values weights total left right minPeriods (first + r))

@@ -89,7 +89,8 @@ pub record Slots (counts : List ℕ) (corrections m2s m3s factors : List Float) 
 
 -- where a block of rows may be worked
 pub record CanFill (has : Bool) (map : List ℕ) (values : List Float) (r : Rows) (starts ends : List ℕ) (outputs first until : ℕ)
-    (at : Offsets) (w : Window) (agg : SkewState) (work : List Float) (counts : List ℕ) (corrections m2s m3s factors : List Float) : Type 0 where
+    (at : Offsets) (w : Window) (agg : SkewState) (work : List Float) (counts : List ℕ) (corrections m2s m3s factors : List Float) :
+    Type 0 where
   pub can : CanWork skewStored (series has map values) (length values) r starts ends outputs first until at w agg work
   pub short : until ≤ first + 32
   pub slots : Slots counts corrections m2s m3s factors

@@ -69,7 +69,8 @@ returns c =
     let s = c .before .before .before .before in
     let e : c .before .loop .row ≡ s .args .n = omega arith in
     let g = s .args in
-    subst (λ (k : ℕ). Upto (validityAt (g .n) (g .left) (g .right) (g .min-periods)) (g .present .now) (c .before .loop .present) k) e (v .1)
+    subst (λ (k : ℕ). Upto (validityAt (g .n) (g .left) (g .right) (g .min-periods)) (g .present .now) (c .before .loop .present) k) e
+    (v .1)
 
 pub create-validity-spec : {M : Type 1} → statement M
 create-validity-spec =

@@ -86,9 +86,12 @@ loop-again c =
     let l = c .before .before .before .before .before .before .before .before .loop in
     let n = c .before .before .before .before .before .before .end-of .ensures in
     let t = c .before .before .before .before .before .before .before .loop-test .taken in
-    let s = c .before .before .before .before .before .before .before .before .before .before .before .before .before .before .before .before .before .before in
-    let R = c .before .before .before .before .before .before .before .before .before .before .before .before .before .right-window .result in
-    let r = c .before .before .before .before .before .before .before .before .before .before .before .before .before .right-window .ensures .1 in
+    let s = c .before .before .before .before .before .before .before .before .before .before .before .before .before .before
+    .before .before .before .before in
+    let R = c .before .before .before .before .before .before .before .before .before .before .before .before
+    .before .right-window .result in
+    let r = c .before .before .before .before .before .before .before .before .before .before .before .before
+    .before .right-window .ensures .1 in
     let W = length (s .args .weights .now) in
     let h : l .first ≤ c .before .before .before .before .before .before .end-of .result = omega arith in
     let o : c .before .before .before .before .before .before .end-of .result ≤ length (s .args .values .now) = omega arith in

@@ -24,7 +24,8 @@ how-many-requires c κs = search needs
 
 block-requires : tie.Need-block-requires
 block-requires c κs =
-    let s = c .before .before .before .before .before .before .before .before .before .before .before .before .before .before .before .before in
+    let s = c .before .before .before .before .before .before .before .before .before .before .before .before .before .before
+    .before .before in
     let g = s .args in
     let h = c .before .before .before in
     let u = h .how-many .ensures ∙ many-rows (g .rows) (length (g .x .now)) (g .starts .now) (g .ends .now) in
@@ -42,8 +43,10 @@ same-length-3 c = search needs
 
 returns : tie.Need-returns
 returns c =
-    let g = c .before .before .before .before .before .before .before .before .before .before .before .before .before .before .before .before .before .before .before .before .before .before .before .args in
-    let d = c .before .before .before .before .before .before .before .before .before .before .before .before .before .before .before .before .before .before .before .before .before .before .before .pre .1 in
+    let g = c .before .before .before .before .before .before .before .before .before .before .before .before .before .before
+    .before .before .before .before .before .before .before .before .before .args in
+    let d = c .before .before .before .before .before .before .before .before .before .before .before .before .before .before
+    .before .before .before .before .before .before .before .before .before .pre .1 in
     let u = c .before .before .before .before .before .before .before .before .before .before .how-many .ensures
     ∙ many-rows (g .rows) (length (g .x .now)) (g .starts .now) (g .ends .now) in
     let v = c .before .before .before .before .before .before .block .ensures in

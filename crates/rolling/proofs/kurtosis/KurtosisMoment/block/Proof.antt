@@ -12,10 +12,12 @@ use Rattle.rolling.proofs.kurtosis.KurtosisMoment.block.Tie as tie
 
 abbrev Inv-loop : tie.InvT-loop
 Inv-loop self rows values has-map map starts ends work₀ figures₀ present₀ first until w₀ next₀ row₀ work figures present w next row =
-    Turn kurtosisStored (λ z. kurtosisFinalize z (self .fisher) (self .bias)) (series has-map map values) (length values) rows starts ends first until work₀ figures₀ present₀ (w .window) (w .«agg_back») next work figures present row
+    Turn kurtosisStored (λ z. kurtosisFinalize z (self .fisher) (self .bias)) (series has-map map values) (length values) rows starts
+    ends first until work₀ figures₀ present₀ (w .window) (w .«agg_back») next work figures present row
 
 abbrev μ-loop : tie.MeasureT-loop
-μ-loop self rows values has-map map starts ends work₀ figures₀ present₀ first until w₀ next₀ row₀ work figures present w next row = until - row
+μ-loop self rows values has-map map starts ends work₀ figures₀ present₀ first until w₀ next₀ row₀ work figures present w next row =
+    until - row
 
 -- where the loop began
 abbrev start : tie.In-loop Inv-loop μ-loop → tie.Start Inv-loop μ-loop
@@ -36,7 +38,8 @@ answer-requires : tie.Need-answer-requires Inv-loop μ-loop
 answer-requires c κs =
     let r = c .before .before .before .before .before .before in
     let q = c .before .before .before .step in
-    let f = turn-fits kurtosisStored _ _ _ _ _ _ _ _ _ _ _ (start r .pre) (r .before .loop .inv) (r .loop-test .taken) (q .ensures) (q .kept .0) in
+    let f = turn-fits kurtosisStored _ _ _ _ _ _ _ _ _ _ _ (start r .pre) (r .before .loop .inv) (r .loop-test .taken) (q .ensures)
+    (q .kept .0) in
     record { front-in = f .0; few = f .1; rises = f .2 }
 
 write-requires : tie.Need-write-requires Inv-loop μ-loop
@@ -58,7 +61,8 @@ loop-again c =
     let r = c .before .before .before .before .before .before .before .before .before .before .before .before .before .before in
     let q = c .before .before .before .before .before .before .before .before .before .before .before .step in
     turn-next kurtosisStored _ _ _ _ _ _ _ _ _ _ _ (start r .pre) (r .before .loop .inv) (r .loop-test .taken) (q .ensures) (q .kept .0)
-    (c .before .before .before .before .before .before .before .answer .ensures) (c .before .before .before .before .write .ensures) (c .before .before .before .before .before .before .before .before .before .before .before .before .before .next .ensures)
+    (c .before .before .before .before .before .before .before .answer .ensures) (c .before .before .before .before .write .ensures)
+    (c .before .before .before .before .before .before .before .before .before .before .before .before .before .next .ensures)
 
 same-length : tie.Need-same-length Inv-loop μ-loop
 same-length c = c .before .loop .inv .working .same

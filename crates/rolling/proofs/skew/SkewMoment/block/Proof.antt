@@ -10,11 +10,14 @@ use Rattle.rolling.proofs.skew.SkewMoment.block.Statement.{statement}
 use Rattle.rolling.proofs.skew.SkewMoment.block.Tie as tie
 
 abbrev Inv-loop : tie.InvT-loop
-Inv-loop self rows values has-map map starts ends work₀ present₀ first until counts₀ corrections₀ m2s₀ m3s₀ factors₀ w₀ next₀ row₀ work present counts corrections m2s m3s factors w next row =
-    BlockTurn (self .bias) has-map map values rows starts ends first until work₀ present₀ (w .window) (w .«agg_back») next work present counts corrections m2s m3s factors row
+Inv-loop self rows values has-map map starts ends work₀ present₀ first until counts₀ corrections₀ m2s₀ m3s₀ factors₀ w₀ next₀ row₀
+    work present counts corrections m2s m3s factors w next row =
+    BlockTurn (self .bias) has-map map values rows starts ends first until work₀ present₀ (w .window) (w .«agg_back») next work
+    present counts corrections m2s m3s factors row
 
 abbrev μ-loop : tie.MeasureT-loop
-μ-loop self rows values has-map map starts ends work₀ present₀ first until counts₀ corrections₀ m2s₀ m3s₀ factors₀ w₀ next₀ row₀ work present counts corrections m2s m3s factors w next row = until - row
+μ-loop self rows values has-map map starts ends work₀ present₀ first until counts₀ corrections₀ m2s₀ m3s₀ factors₀ w₀ next₀ row₀ work
+    present counts corrections m2s m3s factors w next row = until - row
 
 -- where the loop began
 abbrev start : tie.In-loop Inv-loop μ-loop → tie.Start Inv-loop μ-loop
@@ -47,7 +50,8 @@ prepare-requires c κs =
 
 slice-write-present : tie.Need-slice-write-present Inv-loop μ-loop
 slice-write-present c =
-    let r = c .before .before .before .before .before .before .before .before .before .before .before .before .before .before .before .before .before .before .before .before .before .before in
+    let r = c .before .before .before .before .before .before .before .before .before .before .before .before .before .before
+    .before .before .before .before .before .before .before .before in
     let v = r .before .loop .inv in
     let l = block-row _ _ _ _ _ _ _ _ _ _ _ (start r .pre) v (r .loop-test .taken) .listed in
     let f = start r .pre .can .can .outputs-fit in
@@ -56,7 +60,8 @@ slice-write-present c =
 
 add-row : tie.Need-add-row Inv-loop μ-loop
 add-row c =
-    let r = c .before .before .before .before .before .before .before .before .before .before .before .before .before .before .before .before .before .before .before .before .before .before in
+    let r = c .before .before .before .before .before .before .before .before .before .before .before .before .before .before
+    .before .before .before .before .before .before .before .before in
     let h = r .loop-test .taken in
     omega (arith, start r .fits)
 
@@ -65,10 +70,13 @@ loop-less c = let h = c .before .before .before .before .before .before .before 
 
 loop-again : tie.Need-loop-again Inv-loop μ-loop
 loop-again c =
-    let r = c .before .before .before .before .before .before .before .before .before .before .before .before .before .before .before .before .before .before .before .before .before .before in
+    let r = c .before .before .before .before .before .before .before .before .before .before .before .before .before .before
+    .before .before .before .before .before .before .before .before in
     let q = c .before .before .before .before .before .before .before .before .before .before .before .before .before .before .before .before .before .before .before .step in
     let h = c .before .before .before .before .before .before .before .before .before .before .prepare .ensures in
-    block-next _ _ _ _ _ _ _ _ _ _ _ (start r .pre) (r .before .loop .inv) (r .loop-test .taken) (q .ensures) (q .kept .0) (h .0) (h .1) (c .before .before .before .before .before .before .before .before .before .before .before .before .before .before .before .before .before .before .before .before .before .next .ensures)
+    block-next _ _ _ _ _ _ _ _ _ _ _ (start r .pre) (r .before .loop .inv) (r .loop-test .taken) (q .ensures) (q .kept .0) (h .0)
+    (h .1) (c .before .before .before .before .before .before .before .before .before .before .before .before .before
+    .before .before .before .before .before .before .before .before .next .ensures)
 
 same-length : tie.Need-same-length Inv-loop μ-loop
 same-length c = search needs

@@ -18,11 +18,14 @@ use Rattle.rolling.proofs.skew.SkewMoment.rows.Statement.{statement}
 use Rattle.rolling.proofs.skew.SkewMoment.rows.Tie as tie
 
 abbrev Inv-loop : tie.InvT-loop
-Inv-loop self rows values has-map map starts ends work₀ figures₀ present₀ w₀ counts₀ none corrections₀ m2s₀ m3s₀ factors₀ roots₀ at₀ many first₀ work figures present w counts corrections m2s m3s factors roots at first =
-    Blocks (self .bias) has-map map values rows starts ends work₀ figures₀ present₀ (w .window) (w .«agg_back») at work figures present counts corrections m2s m3s factors roots first
+Inv-loop self rows values has-map map starts ends work₀ figures₀ present₀ w₀ counts₀ none corrections₀ m2s₀ m3s₀ factors₀ roots₀ at₀
+    many first₀ work figures present w counts corrections m2s m3s factors roots at first =
+    Blocks (self .bias) has-map map values rows starts ends work₀ figures₀ present₀ (w .window) (w .«agg_back») at work figures
+    present counts corrections m2s m3s factors roots first
 
 abbrev μ-loop : tie.MeasureT-loop
-μ-loop self rows values has-map map starts ends work₀ figures₀ present₀ w₀ counts₀ none corrections₀ m2s₀ m3s₀ factors₀ roots₀ at₀ many first₀ work figures present w counts corrections m2s m3s factors roots at first =
+μ-loop self rows values has-map map starts ends work₀ figures₀ present₀ w₀ counts₀ none corrections₀ m2s₀ m3s₀ factors₀ roots₀ at₀
+    many first₀ work figures present w counts corrections m2s m3s factors roots at first =
     many - first
 
 empty-at-requires : tie.Need-empty-at-requires Inv-loop μ-loop
@@ -43,7 +46,9 @@ how-many-requires c κs = search needs
 loop-holds : tie.Need-loop-holds Inv-loop μ-loop
 loop-holds c =
     let l = length-replicate {A = Float} 32 zero64 in
-    blocks-start _ _ _ _ _ _ _ _ _ _ (c .before .before .before .before .before .before .before .before .before .before .before .before .pre) (c .before .before .before .before .empty-at .ensures) (c .before .before .before .empty .ensures) (c .before .opening .ensures)
+    blocks-start _ _ _ _ _ _ _ _ _ _ (c .before .before .before .before .before .before .before .before .before .before .before
+    .before .pre) (c .before .before .before .before .empty-at .ensures) (c .before .before .before .empty .ensures) (c
+    .before .opening .ensures)
     (record { kept = first-places _ (c .before .before .correction .ensures); m2s-long = l; m3s-long = l; factors-long = l }) l
 
 abbrev start : tie.After-end-of Inv-loop μ-loop → tie.Start Inv-loop μ-loop
@@ -53,8 +58,10 @@ abbrev plan : tie.Start Inv-loop μ-loop → Plan
 plan s = let g = s .args in planBy (g .rows) (length (g .values .now)) (g .starts .now) (g .ends .now)
 
 -- all rows
-told : (a : tie.After-how-many Inv-loop μ-loop) → a .how-many .result ≡ rows (plan (a .before .before .before .before .before .before .before .before .before .before .before .before))
-told a = let g = a .before .before .before .before .before .before .before .before .before .before .before .before .args in a .how-many .ensures ∙ many-rows (g .rows) (length (g .values .now)) (g .starts .now) (g .ends .now)
+told : (a : tie.After-how-many Inv-loop μ-loop) → a .how-many .result ≡ rows (plan (a .before .before .before .before .before
+    .before .before .before .before .before .before .before))
+told a = let g = a .before .before .before .before .before .before .before .before .before .before .before .before .args in
+    a .how-many .ensures ∙ many-rows (g .rows) (length (g .values .now)) (g .starts .now) (g .ends .now)
 
 -- where a block ends
 ends : (e : tie.After-end-of Inv-loop μ-loop) → let first = e .before .before .loop .first in let u = e .end-of .result in
@@ -100,25 +107,31 @@ slice-aggregate-finish-3 : tie.Need-slice-aggregate-finish-3 Inv-loop μ-loop
 slice-aggregate-finish-3 c = search needs
 
 slice-aggregate-finish-4 : tie.Need-slice-aggregate-finish-4 Inv-loop μ-loop
-slice-aggregate-finish-4 c = sym (c .before .before .before .before .before .before .before .before .before .before .before .before .before .before .before .before .before .before .before .before .before .before .before .before .before .loop .inv .roots-long)
+slice-aggregate-finish-4 c = sym (c .before .before .before .before .before .before .before .before .before .before .before
+    .before .before .before .before .before .before .before .before .before .before .before .before .before
+    .before .loop .inv .roots-long)
 
 mul-finish : tie.Need-mul-finish Inv-loop μ-loop
 mul-finish c =
-    let e = c .before .before .before .before .before .before .before .before .before .before .before .before .before .before .before .before .before .before .before .before .before .before .before in
+    let e = c .before .before .before .before .before .before .before .before .before .before .before .before .before .before
+    .before .before .before .before .before .before .before .before .before in
     let x = ends e in
     let y = e .before .before .loop .inv .figures-same in
     let z = start e .pre .outputs-fit in
     omega (arith, start e .good)
 
 sub-finish : tie.Need-sub-finish Inv-loop μ-loop
-sub-finish c = ends (c .before .before .before .before .before .before .before .before .before .before .before .before .before .before .before .before .before .before .before .before .before .before .before) .0
+sub-finish c = ends (c .before .before .before .before .before .before .before .before .before .before .before .before .before
+    .before .before .before .before .before .before .before .before .before .before) .0
 
 part-finish-start : tie.Need-part-finish-start Inv-loop μ-loop
-part-finish-start c = ends (c .before .before .before .before .before .before .before .before .before .before .before .before .before .before .before .before .before .before .before .before .before .before .before) .0
+part-finish-start c = ends (c .before .before .before .before .before .before .before .before .before .before .before .before
+    .before .before .before .before .before .before .before .before .before .before .before) .0
 
 part-finish-end : tie.Need-part-finish-end Inv-loop μ-loop
 part-finish-end c =
-    let e = c .before .before .before .before .before .before .before .before .before .before .before .before .before .before .before .before .before .before .before .before .before .before .before in
+    let e = c .before .before .before .before .before .before .before .before .before .before .before .before .before .before
+    .before .before .before .before .before .before .before .before .before in
     let x = ends e in
     let y = e .before .before .loop .inv .figures-same in
     let z = start e .pre .outputs-fit in
@@ -126,8 +139,10 @@ part-finish-end c =
 
 finish-requires : tie.Need-finish-requires Inv-loop μ-loop
 finish-requires c κs =
-    let e = c .before .before .before .before .before .before .before .before .before .before .before .before .before .before .before .before .before .before .before .before .before .before .before .before in
-    let v = c .before .before .before .before .before .before .before .before .before .before .before .before .before .before .before .before .block .ensures .slots in
+    let e = c .before .before .before .before .before .before .before .before .before .before .before .before .before .before
+    .before .before .before .before .before .before .before .before .before .before in
+    let v = c .before .before .before .before .before .before .before .before .before .before .before .before .before .before
+    .before .before .block .ensures .slots in
     let u = e .end-of .result in
     let l = e .before .before .loop in
     let x = ends e in
@@ -139,14 +154,18 @@ finish-requires c κs =
     record { m2s-long = omega arith; m3s-long = omega arith; factors-long = omega arith; roots-long = omega arith }
 
 loop-less : tie.Need-loop-less Inv-loop μ-loop
-loop-less c = let e = c .before .before .before .before .before .before .before .before .before .before .before .before .before .before .before .before .before .before .before .before .before .before .before .before .before .before .before .before in let x = ends e in let h = e .before .loop-test .taken in omega arith
+loop-less c = let e = c .before .before .before .before .before .before .before .before .before .before .before .before .before
+    .before .before .before .before .before .before .before .before .before .before .before .before .before .before .before in let x =
+    ends e in let h = e .before .loop-test .taken in omega arith
 
 loop-again : tie.Need-loop-again Inv-loop μ-loop
 loop-again c =
-    let e = c .before .before .before .before .before .before .before .before .before .before .before .before .before .before .before .before .before .before .before .before .before .before .before .before .before .before .before .before in
+    let e = c .before .before .before .before .before .before .before .before .before .before .before .before .before .before
+    .before .before .before .before .before .before .before .before .before .before .before .before .before .before in
     let x = ends e in
     let f = c .before .before .before .finish in
-    let b = c .before .before .before .before .before .before .before .before .before .before .before .before .before .before .before .before .before .before .before .before .block in
+    let b = c .before .before .before .before .before .before .before .before .before .before .before .before .before .before
+    .before .before .before .before .before .before .block in
     blocks-next _ _ _ _ _ _ _ _ _ _ (start e .pre) (e .before .before .loop .inv) (e .end-of .result) (x .0) (x .1) (x .2) (omega arith) (b .ensures) (b .kept .1 .1 .1 .1 .1 .1 .1 .0) (b .kept .1 .1 .1 .1 .1 .1 .1 .1 .0) (f .kept .1 .1 .1 .1 .0) (f .ensures) refl
 
 same-length : tie.Need-same-length Inv-loop μ-loop

@@ -42,7 +42,8 @@ same-length-3 c = search needs
 
 returns : tie.Need-returns
 returns c =
-    let s = c .before .before .before .before .before .before .before .before .before .before .before .before .before .before .before .before .before .before .before .before .before in
+    let s = c .before .before .before .before .before .before .before .before .before .before .before .before .before .before
+    .before .before .before .before .before .before .before in
     let g = s .args in
     let u = c .before .before .before .before .before .before .before .before .before .before .how-many .ensures ∙ many-rows (g .rows) (length (g .values .now)) (g .starts .now) (g .ends .now) in
     let v = c .before .before .before .before .before .before .block .ensures in
