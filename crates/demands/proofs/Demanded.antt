@@ -1,12 +1,12 @@
 -- A call meets the demands because its contract is what their theorems speak of. Assumes nothing.
-use Prim.Native.Nat.{ℕ, _+_, _-_, _%_, _^_, _<_}
+use Prim.Native.Nat.{ℕ, _-_, _^_, _<_}
 use mathlib.Core.Path.{_≡_, sym, ap, _∙_, subst}
 use mathlib.Core.Bool.{Bool, true}
 use mathlib.Core.List.{List}
 use mathlib.Core.Logic.{_⊎_, inl, inr, ⊎-elim}
 use native.Mathlib.Omega.{arith}
 use borrow.Author.Tests.{lt-ltb}
-use lib.Dec.{T, ltb}
+use lib.Dec.{T}
 use lib.Ieee.{Float, nan, binary64, fits}
 use Rattle.trace.specs.Trace.{Trace}
 use Rattle.root.specs.Root.{root}
@@ -30,7 +30,7 @@ use Rattle.promises.specs.DemandTwo.{CorrectRoot}
 use Rattle.plan.specs.Bounds.{bounds, boundsAt, offsetsAt, nextOffsets}
 use Rattle.plan.specs.Code.Reaching.{rightOf, StepsTo}
 use Rattle.plan.specs.declared.bounds.Offsets.{Offsets}
-use Rattle.plan.proofs.FixedWindows.{bounds-at}
+use Rattle.plan.proofs.FixedWindows.{steps-bounds}
 use Rattle.window.specs.Given.{Given}
 use Rattle.window.specs.Outputs.{Column, Lent}
 use Rattle.rolling.specs.Moments.{Statistic, Variance, Skewness, Kurtosis, Covariance, Correlation, kindOf}
@@ -354,24 +354,25 @@ pub root-meets : {x r : Float} → r ≡ root x → T (fits binary64 x) → Meet
 root-meets {x} {r} e h = record { one = demand-one .states (root x) r e; two = subst (CorrectRoot x) (sym e) (demand-two .root-is x h) }
 
 -- ---- a step
--- a row's window, and the step of it as the code has it, are `det_offsets`'s pair and the next row's
+-- of a row's window, as `det_offsets` has it and the code steps on
 pub step-meets : {center : Bool} {size n i right : ℕ} {at next : Offsets} → right ≡ rightOf center size → n < 2 ^ 64
     → (at .start ≡ offsetsAt center size n i .0) × (at .end ≡ offsetsAt center size n i .1)
-    → StepsTo (nextOffsets i (at .start, at .end) (size - right) n) (next .start) (next .end)
-    → MeetsStep center size n i at next
-step-meets {center} {size} {n} {i} {right} {at} {next} r few is steps h =
-    let o : ltb i n ≡ true = lt-ltb i n (omega arith) in
-    let here : _≡_ {A = ℕ × ℕ} (at .start, at .end) (boundsAt center size n i) = rw (is .0, is .1, o) in
-    let left : size - right ≡ leftWindow center size = rw r (left-is center size) in
-    let told = ap (λ (p : ℕ × ℕ). nextOffsets i p (size - right) n) here
-    ∙ ap (λ (l : ℕ). nextOffsets i (boundsAt center size n i) l n) left ∙ kept-bounds .next center size n i h in
-    let b = bounds-at center size n (i + 1) h in
-    let fits : boundsAt center size n (i + 1) .0 % 2 ^ 64 ≡ boundsAt center size n (i + 1) .0 = rw (b .0) (omega arith) in
-    let start = steps .start-is ∙ ap (λ (p : ℕ × ℕ). p .0 % 2 ^ 64) told ∙ fits in
-    let end = steps .end-is ∙ ap (λ (p : ℕ × ℕ). p .1) told in
-    let there : _≡_ {A = ℕ × ℕ} (next .start, next .end) (boundsAt center size n (i + 1)) = rw (start, end) in
+    → StepsTo (nextOffsets i (at .start, at .end) (size - right) n) (next .start) (next .end) → MeetsStep center size n i at next
+step-meets {center} {size} {n} {i} {right} {at} {next} r few is steps =
+    let asked : _≡_ {A = ℕ × ℕ} (at .start, at .end) (offsetsAt center size n i) = rw (is .0, is .1) in
+    let reach : size - right ≡ size - rightOf center size = rw r in
+    let left = reach ∙ left-is center size in
+    let Step : ℕ → Type 0 = λ l. StepsTo (nextOffsets i (at .start, at .end) l n) (next .start) (next .end) in
     record {
-      row = here;
-      next-row = there;
-      raises = subst (RaisesEach (at .start, at .end)) (told ∙ sym there) (kept-bounds .raises i (at .start, at .end) (size - right) n);
+      asked = asked;
+      stepped = subst Step left steps;
+      shown = λ h.
+          let row = asked ∙ rw (lt-ltb i n (omega arith)) in
+          let there = steps-bounds center size n i h few row (subst Step reach steps) in
+          let told = ap (λ (p : ℕ × ℕ). nextOffsets i p (leftWindow center size) n) row ∙ kept-bounds .next center size n i h in
+          record {
+            row = row;
+            next-row = there;
+            raises = subst (RaisesEach (at .start, at .end)) (told ∙ sym there) (kept-bounds .raises i (at .start, at .end) (leftWindow center size) n);
+          };
     }

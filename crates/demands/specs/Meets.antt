@@ -17,7 +17,8 @@ use Rattle.moment.specs.Skew.{skewNew}
 use Rattle.moment.specs.Kurtosis.{kurtosisNew}
 use Rattle.moment.specs.Arrays.{varWhole, covWhole, pearsonWhole, skewWhole, kurtosisWhole}
 use Rattle.plan.specs.Plan.{rows}
-use Rattle.plan.specs.Bounds.{boundsAt}
+use Rattle.plan.specs.Bounds.{boundsAt, offsetsAt, nextOffsets}
+use Rattle.plan.specs.Code.Reaching.{StepsTo}
 use Rattle.plan.specs.declared.bounds.Offsets.{Offsets}
 use Rattle.window.specs.Given.{Given}
 use Rattle.window.specs.Outputs.{Column, Lent, columnAfter}
@@ -36,7 +37,7 @@ use Rattle.promises.specs.DemandTwo.{sourceVar, sourceSkew, sourceKurtosis, sou
 use Rattle.promises.specs.DemandTwo.{RowsEqual, FixedRowsEqual, WeightedRowsEqual, CorrectRoot}
 use Rattle.promises.specs.DemandThree.{Alike, SameAnswers, Yielded}
 use Rattle.promises.specs.TwoTraces.{PairYielded}
-use Rattle.promises.specs.KeptBounds.{RaisesEach}
+use Rattle.promises.specs.KeptBounds.{leftWindow, RaisesEach}
 use Rattle.promises.specs.Maps.{SameMaps, SameGiven, SameHost, SameRoom, SameReadingRoom, SameColumnRoom, SameAnswer, SameColumns, SameRows}
 
 -- ---- host calls
@@ -117,15 +118,18 @@ pub record MeetTwoWeights (center : Bool) (windowSize minPeriods : ℕ) (weights
   pub maps : SameMaps t t′ → SameColumnRoom (c .0) (c′ .0)
       → SameAnswer number number′ (SameColumns (length (t .readings)) (c .1 ∷ []) (c′ .1 ∷ []))
 
--- ---- a step from row i's bounds to those of the next row
-pub record SteppedOn (center : Bool) (windowSize n i : ℕ) (at next : Offsets) : Type 0 where
-  pub row : (at .start, at .end) ≡ boundsAt center windowSize n i
-  pub next-row : (next .start, next .end) ≡ boundsAt center windowSize n (i + 1)
-  pub raises : RaisesEach (at .start, at .end) (next .start, next .end)
+-- ---- a step from row i's bounds
+-- to those of the next row
+pub record ToNextRow (center : Bool) (windowSize n i : ℕ) (at next : ℕ × ℕ) : Type 0 where
+  pub row : at ≡ boundsAt center windowSize n i
+  pub next-row : next ≡ boundsAt center windowSize n (i + 1)
+  pub raises : RaisesEach at next
 
--- of a row with a next row
-abbrev pub MeetsStep : Bool → ℕ → ℕ → ℕ → Offsets → Offsets → Type 0
-MeetsStep center windowSize n i at next = i + 1 < n → SteppedOn center windowSize n i at next
+-- what is asked and what is stepped to, of any row; of a row with a next row what is shown
+pub record MeetsStep (center : Bool) (windowSize n i : ℕ) (at next : Offsets) : Type 0 where
+  pub asked : (at .start, at .end) ≡ offsetsAt center windowSize n i
+  pub stepped : StepsTo (nextOffsets i (at .start, at .end) (leftWindow center windowSize) n) (next .start) (next .end)
+  pub shown : i + 1 < n → ToNextRow center windowSize n i (at .start, at .end) (next .start, next .end)
 
 -- ---- whole arrays, pairs and ranges
 -- the calls that hand out a state, each named as the entry is

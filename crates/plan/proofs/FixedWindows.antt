@@ -1,5 +1,6 @@
 -- The bounds of fixed windows are rows that reach so many places to each side, and these are a plan in order, whose widest window is
--- the smaller of size and series; so nothing more refuses a plan call of them. Assumes nothing.
+-- the smaller of size and series; so nothing more refuses a plan call of them. From row to row a start stays until there are enough
+-- places before it and an end until there are none behind it; so the step of a row is the next row. Assumes nothing.
 use Prim.Native.Nat.{ℕ, _+_, _-_, _*_, _/_, _%_, _^_, _≤_, _<_, min}
 use mathlib.Core.Path.{_≡_, refl, sym, ap, _∙_, subst}
 use mathlib.Core.Bool.{Bool, true, false, cond, _||_}
@@ -8,8 +9,8 @@ use native.Mathlib.Nat.{le-refl, le-trans}
 use native.Mathlib.Omega.{arith}
 use borrow.Author.Tests.{eq-eqb, le-ltb, ltb-true, ltb-false, eqb-true, eqb-false}
 use lib.Dec.{eqb, ltb, lit≤}
-use lib.ListN.{length, getD}
-use Rattle.float.proofs.Cases.{apart, Or, here, there, order}
+use lib.ListN.{length}
+use Rattle.float.proofs.Cases.{Or, here, there, order}
 use Rattle.float.proofs.Tables.{table-length, table-place, table-same}
 use Rattle.trace.specs.Refusals.{refusal, _orElse_, tooMany}
 use Rattle.trace.proofs.Accepted.{none-of, not-refused}
@@ -31,41 +32,43 @@ rows-are left right n starts ends false = refl
 pair-is : (p : ℕ × ℕ) {a b : ℕ} → p .0 ≡ a → p .1 ≡ b → p ≡ (a, b)
 pair-is p e f = rw (← e, ← f) refl
 
--- a bound that stays or moves to the next place
-pub stays-or-moves : (b : Bool) (bound : ℕ) → (bound ≤ cond b bound (bound + 1)) × (cond b bound (bound + 1) ≤ bound + 1)
-stays-or-moves true bound = (omega arith, omega arith)
-stays-or-moves false bound = (omega arith, omega arith)
+-- row k's window, as far as it reaches
+pub record Reaches (left right n k s e : ℕ) : Type 0 where
+  pub start-is : s ≡ k - left
+  pub end-is : e ≡ min n (k + right)
 
-pub moves-or-stays : (b : Bool) (bound : ℕ) → (bound ≤ cond b (bound + 1) bound) × (cond b (bound + 1) bound ≤ bound + 1)
-moves-or-stays true bound = stays-or-moves false bound
-moves-or-stays false bound = stays-or-moves true bound
+module _ (left right n : ℕ) where
+  pub reaches-first : {s e : ℕ} → s ≡ 0 → e ≡ min n right → Reaches left right n 0 s e
+  reaches-first a b = record { start-is = a ∙ omega arith; end-is = b ∙ omega arith }
 
--- the step of a row that starts `left` places before its own and ends at x or with the places
-module _ (left x n i : ℕ) where
-  next-start : cond (ltb i left) (i - left) (i - left + 1) ≡ (i + 1) - left
-  next-start = go (ltb i left) refl
-    where
-      go : (b : Bool) → ltb i left ≡ b → cond b (i - left) (i - left + 1) ≡ (i + 1) - left
-      go true e = let o = ltb-true i left e in omega arith
-      go false e = let o = ltb-false i left e in omega arith
+  module _ (i : ℕ) where
+    next-start : nextOffsets i (i - left, min n (i + right)) left n .0 ≡ (i + 1) - left
+    next-start = go (ltb i left) refl
+      where
+        go : (b : Bool) → ltb i left ≡ b → cond b (i - left) (i - left + 1) ≡ (i + 1) - left
+        go true e = let o = ltb-true i left e in omega arith
+        go false e = let o = ltb-false i left e in omega arith
 
-  next-end : cond (ltb (min n x) n) (min n x + 1) (min n x) ≡ min n (x + 1)
-  next-end = go (ltb (min n x) n) refl
-    where
-      go : (b : Bool) → ltb (min n x) n ≡ b → cond b (min n x + 1) (min n x) ≡ min n (x + 1)
-      go true e = let o = ltb-true (min n x) n e in omega arith
-      go false e = let o = ltb-false (min n x) n e in omega arith
+    next-end : nextOffsets i (i - left, min n (i + right)) left n .1 ≡ min n (i + 1 + right)
+    next-end = go (ltb (min n (i + right)) n) refl
+      where
+        go : (b : Bool) → ltb (min n (i + right)) n ≡ b → cond b (min n (i + right) + 1) (min n (i + right)) ≡ min n (i + 1 + right)
+        go true e = let o = ltb-true (min n (i + right)) n e in omega arith
+        go false e = let o = ltb-false (min n (i + right)) n e in omega arith
 
-  pub next-reaches : nextOffsets i (i - left, min n x) left n ≡ ((i + 1) - left, min n (x + 1))
-  next-reaches = rw (next-start, next-end)
+    next-reaches : nextOffsets i (i - left, min n (i + right)) left n ≡ ((i + 1) - left, min n (i + 1 + right))
+    next-reaches = pair-is (nextOffsets i (i - left, min n (i + right)) left n) next-start next-end
 
-  -- the same in the code's numbers
-  pub steps-reach : i < n → n < 2 ^ 64 → {s e s' e' : ℕ} → s ≡ i - left → e ≡ min n x → StepsTo (nextOffsets i (s, e) left n) s' e' →
-      (s' ≡ (i + 1) - left) × (e' ≡ min n (x + 1))
-  steps-reach h f {s} {e} a b o =
-      let q : nextOffsets i (s, e) left n ≡ ((i + 1) - left, min n (x + 1)) = rw (a, b) next-reaches in
-      let z : (i + 1 - left) % 2 ^ 64 ≡ (i + 1) - left = omega arith in
-      (o .start-is ∙ ap (λ (p : ℕ × ℕ). p .0 % 2 ^ 64) q ∙ z, o .end-is ∙ ap (λ (p : ℕ × ℕ). p .1) q)
+    -- the code's step, whose start does not wrap
+    pub reaches-next : i < n → n < 2 ^ 64 → {s e s' e' : ℕ} → Reaches left right n i s e → StepsTo (nextOffsets i (s, e) left n) s' e'
+        → Reaches left right n (i + 1) s' e'
+    reaches-next h f {s} {e} v o =
+        let q : nextOffsets i (s, e) left n ≡ ((i + 1) - left, min n (i + 1 + right)) = rw (v .start-is, v .end-is) next-reaches in
+        let z : (i + 1 - left) % 2 ^ 64 ≡ (i + 1) - left = omega arith in
+        record {
+          start-is = o .start-is ∙ ap (λ (p : ℕ × ℕ). p .0 % 2 ^ 64) q ∙ z;
+          end-is = o .end-is ∙ ap (λ (p : ℕ × ℕ). p .1) q;
+        }
 
 -- ---- rows that reach `left` places before their own and `right` from it on
 module _ (left right n : ℕ) where
@@ -165,14 +168,24 @@ module _ (center : Bool) (size n : ℕ) where
       go false true e = let z = eqb-true size 0 e in (omega arith, omega arith)
       go false false e = let z = eqb-false size 0 e in (omega arith, omega arith)
 
-  -- the step of a row's pair is the next row's
+  -- a row's pair, and its step
+  bounds-pair : (i : ℕ) → i < n → boundsAt center size n i ≡ (i - left, min n (i + right))
+  bounds-pair i h = let b = bounds-at i h in pair-is (boundsAt center size n i) (b .0) (b .1)
+
   pub next-bounds : (i : ℕ) → i + 1 < n → nextOffsets i (boundsAt center size n i) left n ≡ boundsAt center size n (i + 1)
   next-bounds i h =
-      let here = bounds-at i (omega arith) in
-      let next = bounds-at (i + 1) h in
-      ap (λ (p : ℕ × ℕ). nextOffsets i p left n) (pair-is (boundsAt center size n i) (here .0) (here .1)) ∙ next-reaches left (i +
-      right) n i
-      ∙ sym (pair-is (boundsAt center size n (i + 1)) (next .0) (next .1 ∙ omega arith))
+      ap (λ (p : ℕ × ℕ). nextOffsets i p left n) (bounds-pair i (omega arith))
+      ∙ next-reaches left right n i
+      ∙ sym (bounds-pair (i + 1) h)
+
+  -- and in the code's numbers
+  pub steps-bounds : (i : ℕ) → i + 1 < n → n < 2 ^ 64 → {s e s' e' : ℕ} → (s, e) ≡ boundsAt center size n i
+      → StepsTo (nextOffsets i (s, e) left n) s' e' → (s', e') ≡ boundsAt center size n (i + 1)
+  steps-bounds i h f {s} {e} {s'} {e'} b o =
+      let q = b ∙ bounds-pair i (omega arith) in
+      let v : Reaches left right n i s e = record { start-is = ap (λ (p : ℕ × ℕ). p .0) q; end-is = ap (λ (p : ℕ × ℕ). p .1) q } in
+      let w = reaches-next left right n i (omega arith) f v o in
+      pair-is (s', e') (w .start-is) (w .end-is) ∙ sym (bounds-pair (i + 1) h)
 
   pub bounds-reach : bounds center size n ≡ reaching left right n
   unfolding bounds

@@ -29,7 +29,7 @@ fn start_of(left: usize, row: usize) -> usize
     if row < left { 0 } else { row - left }
 }
 
-// Where the fixed window of a row ends, `right` places from the row's own on, within the n places. From row `last` on that is n; a
+// Where the fixed window of a row ends, `right` places from the row's own on, within the n places; or a block of so many rows. From row `last` on that is n; a
 // sum that might wrap is never made.
 pub fn end_of(right: usize, n: usize, row: usize) -> usize
     ensures { λ r. ⌜ r ≡ min n (row + right) ⌝ }
@@ -56,8 +56,8 @@ pub fn det_offsets(i: usize, window_size: usize, len: usize, center: bool) -> Of
     }
 }
 
-// The window of the row behind row i, from row i's own, where windows start `left` places before their own and there are `len` places. No
-// row's start is 2^64 - 1; of any other pair with that start the next one wraps.
+// The window of the row behind row i, from row i's own, where windows start `left` places before their own and there are `len` places. A
+// start of 2^64 - 1, which no row has, wraps where it moves: a test of it would cost every row.
 pub fn next_offsets(i: usize, at: Offsets, left: usize, len: usize) -> Offsets
     ensures { λ r. ⌜ StepsTo (nextOffsets i (at .start, at .end) left len) (r .start) (r .end) ⌝ }
 {

@@ -1,14 +1,14 @@
 -- A step moves a start once the row has all places before it, and an end until the places end: so the pair is the next row's. Assumes
 -- nothing.
-use Prim.Native.Nat.{ℕ, _-_}
+use Prim.Native.Nat.{ℕ, _+_, _-_}
 use mathlib.Core.Path.{_≡_, refl, sym, ap, _∙_}
-use mathlib.Core.Bool.{Bool, true, false}
+use mathlib.Core.Bool.{Bool, true, false, cond}
 use native.Mathlib.Omega.{arith}
 use lib.Dec.{ltb}
 use Rattle.plan.specs.Bounds.{boundsAt, nextOffsets}
 use Rattle.plan.specs.Code.Reaching.{rightOf}
-use Rattle.plan.proofs.FixedWindows.{stays-or-moves, moves-or-stays, next-bounds}
-use Rattle.promises.specs.KeptBounds.{leftWindow, StepsOn, RaisesEach, KeptBounds}
+use Rattle.plan.proofs.FixedWindows.{next-bounds}
+use Rattle.promises.specs.KeptBounds.{leftWindow, StepsOn, AtMostOne, RaisesEach, KeptBounds}
 
 -- as far as the code's windows reach
 pub left-is : (center : Bool) (size : ℕ) → size - rightOf center size ≡ leftWindow center size
@@ -16,19 +16,25 @@ unfolding rightOf
 left-is true size = refl
 left-is false size = omega arith
 
+-- a bound that stays or moves to the next place
+stays-or-moves : (b : Bool) (bound : ℕ) → AtMostOne bound (cond b bound (bound + 1))
+stays-or-moves true bound = record { not-lowered = omega arith; by-one = omega arith }
+stays-or-moves false bound = record { not-lowered = omega arith; by-one = omega arith }
+
+moves-or-stays : (b : Bool) (bound : ℕ) → AtMostOne bound (cond b (bound + 1) bound)
+moves-or-stays true bound = stays-or-moves false bound
+moves-or-stays false bound = stays-or-moves true bound
+
 pub raises-each : (i : ℕ) (at : ℕ × ℕ) (left len : ℕ) → RaisesEach at (nextOffsets i at left len)
-raises-each i at left len =
-    let s = stays-or-moves (ltb i left) (at .0) in
-    let e = moves-or-stays (ltb (at .1) len) (at .1) in
-    record { start = record { not-lowered = s .0; by-one = s .1 }; end = record { not-lowered = e .0; by-one = e .1 } }
+raises-each i at left len = record { start = stays-or-moves (ltb i left) (at .0); end = moves-or-stays (ltb (at .1) len) (at .1) }
 
 pub kept-bounds : KeptBounds
 kept-bounds =
     record {
       raises = raises-each;
       next = λ center size len i h.
-          ap (λ (left : ℕ). nextOffsets i (boundsAt center size len i) left len) (sym (left-is center size)) ∙ next-bounds center size
-          len i h;
+          ap (λ (left : ℕ). nextOffsets i (boundsAt center size len i) left len) (sym (left-is center size))
+          ∙ next-bounds center size len i h;
     }
 
 -- ---- computed: every row of 5 places that has a next one

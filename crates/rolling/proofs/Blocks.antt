@@ -24,7 +24,7 @@ use Rattle.window.specs.Code.Stacks.{emptyAt, answerBy, Movable, Stepped}
 use Rattle.window.specs.Code.Filling.{Fills}
 use Rattle.window.specs.declared.Window.{Window}
 use Rattle.window.proofs.Outputs.{fills-none, fills-next, fills-both, fills-part}
-use Rattle.window.proofs.Steps.{Working, work-starts, work-done, work-listed, work-movable, work-fits, work-next, work-answer}
+use Rattle.window.proofs.Steps.{Working, work-starts, work-listed, work-movable, work-fits, work-next, work-answer}
 use Rattle.rolling.specs.Code.Layouts.{skewStored}
 use Rattle.rolling.specs.Code.Rows.{planBy, RowIn, Ahead, Driven, rowAnswer, Works}
 use Rattle.rolling.specs.Code.Slots.{Corrections, estimate, doubleAt, SlotFree, SlotHolds, Slots, CanFill, BlockFilled}
@@ -61,7 +61,7 @@ module _ (bias has : Bool) (map : List ℕ) (values : List Float) (r : Rows) (st
       block-starts =
           record {
             ahead = can .can .ahead;
-            working = work-starts skewStored t (can .can .can);
+            working = work-starts skewStored t (can .can .workable);
             present-same = refl;
             bytes = fills-none (λ j. byteOf (Answer j)) first present₀;
             slots = can .slots;
@@ -83,8 +83,8 @@ module _ (bias has : Bool) (map : List ℕ) (values : List Float) (r : Rows) (st
         module _ (more : k < until) where
           pub block-row : RowIn r (length values) starts ends k at
           block-row =
-              let l = work-listed skewStored t (can .can .can) (v .working) more in
-              record { same = can .can .can .plan .same; listed = l; bounds = v .ahead l }
+              let l = work-listed skewStored t (can .can .workable) (v .working) more in
+              record { same = can .can .workable .plan .same; listed = l; bounds = v .ahead l }
 
           pub block-slot : SlotFree (k - first) m2s m3s factors
           block-slot =
@@ -96,14 +96,14 @@ module _ (bias has : Bool) (map : List ℕ) (values : List Float) (r : Rows) (st
               record { m2-in = omega arith; m3-in = omega arith; factor-in = omega arith }
 
           pub block-movable : Movable skewStored t (at .start) (at .end) (length values) (r .widest) w agg work
-          block-movable = work-movable skewStored t (can .can .can) (v .working) more (block-row .bounds .start-is)
+          block-movable = work-movable skewStored t (can .can .workable) (v .working) more (block-row .bounds .start-is)
               (block-row .bounds .end-is)
 
           module _ {w' : Window} {agg' : SkewState} {work' : List Float}
               (q : Stepped skewStored t (r .widest) (r .«min_periods») k (at .start) (at .end) w work w' agg' work') (same : length
               work' ≡ length work) where
             pub block-fits : (4 * w' .front ≤ length work') × (w' .front + w' .back ≤ 2 ^ 53) × (at .start ≤ at .end)
-            block-fits = work-fits skewStored t (can .can .can) (v .working) more (block-row .bounds .start-is)
+            block-fits = work-fits skewStored t (can .can .workable) (v .working) more (block-row .bounds .start-is)
                 (block-row .bounds .end-is) q same
 
             pub block-next : {byte : ℕ} {at' : Offsets} {counts' : List ℕ} {corrections' m2s' m3s' factors' : List Float}
@@ -113,13 +113,13 @@ module _ (bias has : Bool) (map : List ℕ) (values : List Float) (r : Rows) (st
                 → BlockTurn w' agg' at' work' (set present k byte) counts' corrections' m2s' m3s' factors' (k + 1)
             block-next {byte} {m2s' = m2s'} {m3s' = m3s'} {factors' = factors'} o c h′ =
                 let b = block-row .bounds in
-                let a = work-answer skewStored t (can .can .can) (v .working) more (b .start-is) (b .end-is) q same (λ z. skewFinalize
+                let a = work-answer skewStored t (can .can .workable) (v .working) more (b .start-is) (b .end-is) q same (λ z. skewFinalize
                 z bias) refl in
                 let l = v .working .low in
                 let f = block-slot in
                 record {
                   ahead = h′;
-                  working = work-next skewStored t (can .can .can) (v .working) more (b .start-is) (b .end-is) q same;
+                  working = work-next skewStored t (can .can .workable) (v .working) more (b .start-is) (b .end-is) q same;
                   present-same = length-set present k byte ∙ v .present-same;
                   bytes = fills-next (λ j. byteOf (Answer j)) first k present₀ present (set present k byte) byte (v .bytes)
                       (o .byte-is ∙ ap byteOf a) refl;
@@ -183,7 +183,7 @@ module _ (bias has : Bool) (map : List ℕ) (values : List Float) (r : Rows) (st
             works = record {
               worked = record {
                 standing = rows-can skewStored (series has map values) (length values) r starts ends d g e refl
-                    h .can .standing;
+                    h .workable .standing;
                 rest = refl;
               };
               figures-are = fills-none (λ j. doubleOf (Answer j)) 0 figures₀;
@@ -206,7 +206,7 @@ module _ (bias has : Bool) (map : List ℕ) (values : List Float) (r : Rows) (st
             let y = d .work-fits in
             record {
               can = record {
-                can = record {
+                workable = record {
                   plan = d .plan;
                   standing = v .works .worked .standing;
                   rises = rises;

@@ -15,7 +15,7 @@ use Rattle.plan.specs.Bounds.{nextOffsets}
 use Rattle.plan.specs.Refusals.{needed}
 use Rattle.plan.specs.Code.Reaching.{reaching, StepsTo}
 use Rattle.plan.specs.declared.bounds.Offsets.{Offsets}
-use Rattle.plan.proofs.FixedWindows.{rows-are, start-at, end-at, steps-reach}
+use Rattle.plan.proofs.FixedWindows.{rows-are, start-at, end-at, Reaches, reaches-first, reaches-next}
 use Rattle.window.specs.Places.{Series}
 use Rattle.window.specs.Outputs.{filled, kept}
 use Rattle.window.specs.Code.Memory.{Stored}
@@ -37,23 +37,30 @@ module _ (r : Rows) (n : ℕ) (starts ends : List ℕ) where
   fixed-listed : r .fixed ≡ true → {k : ℕ} → k < rows (planBy r n starts ends) → k < n
   fixed-listed f h = rw (← many-rows r n starts ends, f) at h
 
-  fixed-ahead : r .fixed ≡ true → (k : ℕ) {at : Offsets} → at .start ≡ k - r .left → at .end ≡ min n (k + r .right)
+  fixed-ahead : r .fixed ≡ true → (k : ℕ) {at : Offsets} → Reaches (r .left) (r .right) n k (at .start) (at .end)
       → Ahead (planBy r n starts ends) k at
-  fixed-ahead f k a b i =
+  fixed-ahead f k v i =
       let h = fixed-listed f i in
-      rw f (record { start-is = a ∙ sym (start-at (r .left) (r .right) n k h); end-is = b ∙ sym (end-at (r .left) (r .right) n k h) })
+      rw f
+      (record {
+        start-is = v .start-is ∙ sym (start-at (r .left) (r .right) n k h);
+        end-is = v .end-is ∙ sym (end-at (r .left) (r .right) n k h);
+      })
 
   pub opens-fixed : r .fixed ≡ true → (at : Offsets) → at .start ≡ 0 → at .end ≡ min n (r .right) → Ahead (planBy r n starts ends) 0 at
-  opens-fixed f at a b = fixed-ahead f 0 {at = at} (a ∙ omega arith) (b ∙ omega arith)
+  opens-fixed f at a b = fixed-ahead f 0 {at = at} (reaches-first (r .left) (r .right) n a b)
 
   pub next-fixed : r .fixed ≡ true → n < 2 ^ 64 → {k : ℕ} {at next : Offsets} → RowIn r n starts ends k at
       → StepsTo (nextOffsets k (at .start, at .end) (r .left) n) (next .start) (next .end) → Ahead (planBy r n starts ends) (k + 1) next
   next-fixed f o {k} {at} {next} i q =
       let h = fixed-listed f (i .listed) in
       let b : RowBounds (reaching (r .left) (r .right) n) k at = rw f at (i .bounds) in
-      let s = steps-reach (r .left) (k + r .right) n k h o (b .start-is ∙ start-at (r .left) (r .right) n k h)
-      (b .end-is ∙ end-at (r .left) (r .right) n k h) q in
-      fixed-ahead f (k + 1) {at = next} (s .0) (s .1 ∙ omega arith)
+      let v : Reaches (r .left) (r .right) n k (at .start) (at .end) =
+      record {
+        start-is = b .start-is ∙ start-at (r .left) (r .right) n k h;
+        end-is = b .end-is ∙ end-at (r .left) (r .right) n k h;
+      } in
+      fixed-ahead f (k + 1) {at = next} (reaches-next (r .left) (r .right) n k h o v q)
 
   pub listed-ahead : r .fixed ≡ false → {k : ℕ} {at : Offsets} → RowBounds (planOf starts ends) k at → Ahead (planBy r n starts ends) k at
   listed-ahead f b i = rw f b
@@ -88,7 +95,7 @@ module _ {A : Type 0} (M : Stored Float A) (final : M .moment .State → Figure)
     turn-starts =
         record {
           ahead = can .ahead;
-          working = work-starts M t (can .can);
+          working = work-starts M t (can .workable);
           figures-same = refl;
           present-same = refl;
           figures-are = fills-none (λ j. doubleOf (Answer j)) first figures₀;
@@ -102,7 +109,7 @@ module _ {A : Type 0} (M : Stored Float A) (final : M .moment .State → Figure)
           let u = v .working .high in
           let e : k ≡ until = omega arith in
           record {
-            worked = work-done M t (can .can) (v .working) h;
+            worked = work-done M t (can .workable) (v .working) h;
             figures-are = subst (λ (j : ℕ). Fills (λ i. doubleOf (Answer i)) first j figures₀ figures) e (v .figures-are);
             present-are = subst (λ (j : ℕ). Fills (λ i. byteOf (Answer i)) first j present₀ present) e (v .present-are);
           }
@@ -110,37 +117,37 @@ module _ {A : Type 0} (M : Stored Float A) (final : M .moment .State → Figure)
       module _ (more : k < until) where
         pub turn-row : RowIn r n starts ends k at
         turn-row =
-            let l = work-listed M t (can .can) (v .working) more in
-            record { same = can .can .plan .same; listed = l; bounds = v .ahead l }
+            let l = work-listed M t (can .workable) (v .working) more in
+            record { same = can .workable .plan .same; listed = l; bounds = v .ahead l }
 
         pub turn-there : RowThere k (length figures) (length present)
         turn-there =
             let l = turn-row .listed in
-            let h = can .can .outputs-fit in
+            let h = can .workable .outputs-fit in
             let x = v .figures-same in
             let y = v .present-same in
             record { in-figures = omega arith; in-present = omega arith }
 
         pub turn-movable : Movable M t (at .start) (at .end) n (r .widest) w agg work
-        turn-movable = work-movable M t (can .can) (v .working) more (turn-row .bounds .start-is) (turn-row .bounds .end-is)
+        turn-movable = work-movable M t (can .workable) (v .working) more (turn-row .bounds .start-is) (turn-row .bounds .end-is)
 
         module _ {w' : Window} {agg' : M .moment .State} {work' : List Float}
             (q : Stepped M t (r .widest) (r .«min_periods») k (at .start) (at .end) w work w' agg' work') (same : length work' ≡
             length work) where
           pub turn-fits : (M .inFront .width * w' .front ≤ length work') × (w' .front + w' .back ≤ 2 ^ 53) × (at .start ≤ at .end)
-          turn-fits = work-fits M t (can .can) (v .working) more (turn-row .bounds .start-is) (turn-row .bounds .end-is) q same
+          turn-fits = work-fits M t (can .workable) (v .working) more (turn-row .bounds .start-is) (turn-row .bounds .end-is) q same
 
           pub turn-next : {f : Figure} {figures' : List Float} {present' : List ℕ} {at' : Offsets}
               → f ≡ answerBy M final (t .places .mapped) (r .«min_periods») (at .start) (at .end) w' agg' work'
               → RowSet k f figures figures' present present' → Ahead p (k + 1) at' → Turn w' agg' at' work' figures' present' (k + 1)
           turn-next {f} {figures'} {present'} g o h =
               let b = turn-row .bounds in
-              let a = work-answer M t (can .can) (v .working) more (b .start-is) (b .end-is) q same final g in
+              let a = work-answer M t (can .workable) (v .working) more (b .start-is) (b .end-is) q same final g in
               let x = v .figures-same in
               let y = v .present-same in
               record {
                 ahead = h;
-                working = work-next M t (can .can) (v .working) more (b .start-is) (b .end-is) q same;
+                working = work-next M t (can .workable) (v .working) more (b .start-is) (b .end-is) q same;
                 figures-same = ap length (o .figures-are) ∙ length-set figures k (doubleOf f) ∙ x;
                 present-same = ap length (o .present-are) ∙ length-set present k (byteOf f) ∙ y;
                 figures-are = fills-next (λ j. doubleOf (Answer j)) first k figures₀ figures figures' (doubleOf f) (v .figures-are)
@@ -171,7 +178,7 @@ module _ {A : Type 0} (M : Stored Float A) (t : Series A) (n : ℕ) (r : Rows) (
   pub rows-can : {w : Window} {agg : M .moment .State} → w ≡ emptyAt 0 → agg ≡ M .moment .empty → {until : ℕ}
       → until ≡ rows (planBy r n starts ends) →
       {at : Offsets} → Ahead (planBy r n starts ends) 0 at → CanWork M t n r starts ends outputs 0 until at w agg work₀
-  rows-can g e u h = record { can = rows-workable g e u; ahead = h }
+  rows-can g e u h = record { workable = rows-workable g e u; ahead = h }
 
   pub rows-kept : {w : Window} {agg : M .moment .State} {work : List Float} {until : ℕ} → HasWorked M t n r starts ends until work₀ w agg work
       → kept 0 (needed (placeWidth M) (planBy r n starts ends)) work₀ work

@@ -291,7 +291,7 @@ impl KurtosisMoment {
     }
 
     // The rows from `first` up to `until`, from the window that stands before them and the bounds `at` of the first; the window after
-    // them. The next row's bounds come from this row's before the row is worked: then nothing waits for them.
+    // them. The next row's bounds are told before the row is worked: the row behind it then waits for no store.
     fn block(
         self,
         rows: Rows,
@@ -350,7 +350,7 @@ impl KurtosisMoment {
             window: Window::empty_at(0),
             agg_back: KurtosisMoment::empty(),
         };
-        let at = row::opening(rows, values.len(), starts, ends);
+        let at = row::first_offsets(rows, values.len(), starts, ends);
         let until = row::how_many(rows, values.len(), starts.len());
         self.block(
             rows,

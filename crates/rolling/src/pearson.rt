@@ -497,7 +497,7 @@ impl PearsonMoment {
     }
 
     // The rows from `first` up to `until`, from the window that stands before them and the bounds `at` of the first; the window after
-    // them. The next row's bounds come from this row's before the row is worked: then nothing waits for them.
+    // them. The next row's bounds are told before the row is worked: the row behind it then waits for no store.
     fn block(
         rows: Rows,
         x: &[f64],
@@ -584,7 +584,7 @@ impl PearsonMoment {
             window: Window::empty_at(0),
             agg_back: PearsonMoment::empty(),
         };
-        let at = row::opening(rows, x.len(), starts, ends);
+        let at = row::first_offsets(rows, x.len(), starts, ends);
         let until = row::how_many(rows, x.len(), starts.len());
         PearsonMoment::block(
             rows,

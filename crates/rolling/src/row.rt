@@ -42,8 +42,8 @@ fn listed(starts: &[u32], ends: &[u32], row: usize) -> Offsets
     }
 }
 
-// The window of a call's first row, where it has one: the pair that its row loop opens with.
-pub(crate) fn opening(rows: Rows, n: usize, starts: &[u32], ends: &[u32]) -> Offsets
+// The window of a call's first row, where it has one: the pair that its row loop opens with, by how far fixed windows reach.
+pub(crate) fn first_offsets(rows: Rows, n: usize, starts: &[u32], ends: &[u32]) -> Offsets
     requires { ⌜ SameMany rows n (now starts) (now ends) ⌝ }
     ensures { λ r. ⌜ RowAt rows n starts ends 0 r ⌝ }
 {

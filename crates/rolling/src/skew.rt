@@ -441,7 +441,7 @@ impl SkewMoment {
     }
 
     // The rows of a block, from `first` up to `until`, with the bounds `at` of the first; what stands behind them, with their bytes and
-    // slots written.
+    // slots written. The next row's bounds are told before the row is worked, as in the other moments.
     fn block(
         self,
         rows: Rows,
@@ -525,7 +525,7 @@ impl SkewMoment {
         let mut m3s = [0.0; 32];
         let mut factors = [0.0; 32];
         let mut roots = [0.0; 32];
-        let mut at = row::opening(rows, values.len(), starts, ends);
+        let mut at = row::first_offsets(rows, values.len(), starts, ends);
         let many = row::how_many(rows, values.len(), starts.len());
         let mut first: usize = 0;
         while first < many {

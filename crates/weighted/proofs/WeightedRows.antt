@@ -1,6 +1,6 @@
--- What a row has gained when all weights are done is what 002's fold over the aligned part gives, so a row's answer is the paper's; and
--- what the ends of a weighted call leave. Assumes nothing.
-use Prim.Native.Nat.{ℕ, _+_, _-_, _/_, _^_, _≤_, _<_, min}
+-- A row's byte is told by the window that is held before it. What a row has gained when all weights are done is what 002's fold over the
+-- aligned part gives, so a row's answer is the paper's; and what the ends of a weighted call leave. Assumes nothing.
+use Prim.Native.Nat.{ℕ, _+_, _-_, _/_, _≤_, _<_, min}
 use mathlib.Core.Path.{_≡_, refl, sym, ap, _∙_}
 use mathlib.Core.Bool.{Bool, true, false, cond}
 use mathlib.Core.List.{List, [], _∷_, _++_}
@@ -23,10 +23,10 @@ use Rattle.moment.specs.Figure.{doubleOf, byteOf}
 use Rattle.moment.specs.declared.Figure.{Figure}
 use Rattle.moment.specs.declared.Figure.the-variants.{Missing, Present}
 use Rattle.moment.proofs.Weights.{at-zero}
-use Rattle.plan.specs.Bounds.{boundsAt, nextOffsets}
-use Rattle.plan.specs.Code.Reaching.{rightOf, StepsTo}
+use Rattle.plan.specs.Bounds.{boundsAt}
+use Rattle.plan.specs.Code.Reaching.{rightOf}
 use Rattle.plan.specs.declared.bounds.Offsets.{Offsets}
-use Rattle.plan.proofs.FixedWindows.{bounds-at, steps-reach}
+use Rattle.plan.proofs.FixedWindows.{bounds-at, Reaches}
 use Rattle.window.specs.Outputs.{Column, column, columnAfter, filled}
 use Rattle.window.specs.Code.Filling.{Upto}
 use Rattle.window.proofs.Outputs.{upto-done, unfilled, column-is}
@@ -37,34 +37,20 @@ use Rattle.weighted.specs.Code.Rows.{lengthAt, validityAt, answerOf, dou
 use Rattle.weighted.specs.Code.Rows.{AcceptedWeights, WrittenWeights}
 
 -- ---- the window that is held before row k, where there is such a row
-pub record Reaches (n left right k : ℕ) (at : Offsets) : Type 0 where
-  pub start-is : at .start ≡ k - left
-  pub end-is : at .end ≡ min n (k + right)
+abbrev pub Held : ℕ → ℕ → ℕ → ℕ → Offsets → Type 0
+Held n left right k at = k < n → Reaches left right n k (at .start) (at .end)
 
-abbrev pub Ahead : ℕ → ℕ → ℕ → ℕ → Offsets → Type 0
-Ahead n left right k at = k < n → Reaches n left right k at
+module _ (n left right k : ℕ) {at : Offsets} (v : Held n left right k at) (h : k < n) where
+  pub rises : at .start ≤ at .end
+  rises = let x = v h .start-is in let y = v h .end-is in omega arith
 
-module _ (n left right k : ℕ) where
-  pub opens : {at : Offsets} → at .start ≡ 0 → at .end ≡ min n right → Ahead n left right 0 at
-  opens a b _ = record { start-is = a ∙ omega arith; end-is = b ∙ omega arith }
-
-  module _ {at : Offsets} (v : Ahead n left right k at) (h : k < n) where
-    pub rises : at .start ≤ at .end
-    rises = let x = v h .start-is in let y = v h .end-is in omega arith
-
-    pub steps : n < 2 ^ 64 → {next : Offsets} → StepsTo (nextOffsets k (at .start, at .end) left n) (next .start) (next .end)
-        → Ahead n left right (k + 1) next
-    steps f q _ =
-        let s = steps-reach left (k + right) n k h f (v h .start-is) (v h .end-is) q in
-        record { start-is = s .0; end-is = s .1 ∙ omega arith }
-
-    -- whether it is long enough
-    pub mark-is : (minPeriods : ℕ) → boolByte (leb minPeriods (at .end - at .start)) ≡ validityAt n left right minPeriods k
-    mark-is minPeriods = rw (v h .start-is, v h .end-is) (go (leb minPeriods (lengthAt n left right k)) refl)
-      where
-        go : (b : Bool) → leb minPeriods (lengthAt n left right k) ≡ b → boolByte b ≡ validityAt n left right minPeriods k
-        go true e = rw (le-ltb _ _ (leb-true _ _ e))
-        go false e = rw (lt-ltb _ _ (leb-false _ _ e))
+  -- whether it is long enough
+  pub validity-is : (minPeriods : ℕ) → boolByte (leb minPeriods (at .end - at .start)) ≡ validityAt n left right minPeriods k
+  validity-is minPeriods = rw (v h .start-is, v h .end-is) (go (leb minPeriods (lengthAt n left right k)) refl)
+    where
+      go : (b : Bool) → leb minPeriods (lengthAt n left right k) ≡ b → boolByte b ≡ validityAt n left right minPeriods k
+      go true e = rw (le-ltb _ _ (leb-true _ _ e))
+      go false e = rw (lt-ltb _ _ (leb-false _ _ e))
 
 -- ---- after the last weight
 -- a row's variance, of its sums

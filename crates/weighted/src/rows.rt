@@ -26,8 +26,7 @@ fn variance(wssq: f64, wsum: f64, wtot: f64) -> f64
     wssq / wtot - mean * mean
 }
 
-// Which rows have a window that is no shorter than the minimum, as their bytes: 006's `create_validity`. A row's window is held and
-// stepped on.
+// Which rows have a window that is no shorter than the minimum, as their bytes; named as 006's. A row's window is held and stepped on.
 fn create_validity(n: usize, left: usize, right: usize, min_periods: usize, present: &mut [u8])
     requires { ⌜ n ≤ length (now present) ⌝ }
     ensures { λ _. ⌜ Upto (validityAt n left right «min_periods») (entering present) (leaving present) n ⌝ }

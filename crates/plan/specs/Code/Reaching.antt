@@ -18,7 +18,7 @@ reaching left right n = planOf (table (λ i. i - left) n) (table (λ i. min n (i
 abbrev pub rowsOf : Bool → ℕ → ℕ → ℕ → List ℕ → List ℕ → Plan
 rowsOf fixed left right n starts ends = cond fixed (reaching left right n) (planOf starts ends)
 
--- the next row's pair as numbers of 64 bits: a start of 2^64 - 1, which no row has, wraps
+-- the next row's pair as numbers of 64 bits: a start of 2^64 - 1, which no row has, wraps where it moves
 pub record StepsTo (next : ℕ × ℕ) (start end : ℕ) : Type 0 where
   pub start-is : start ≡ next .0 % 2 ^ 64
   pub end-is : end ≡ next .1

@@ -87,6 +87,7 @@ pub record RowIn (r : Rows) (n : ℕ) (starts ends : List ℕ) (row : ℕ) (at :
 abbrev pub Ahead : Plan → ℕ → Offsets → Type 0
 Ahead p row at = row < rows p → RowBounds p row at
 
+-- the same, of a call's parameters
 abbrev pub RowAt : Rows → ℕ → Slice ℕ → Slice ℕ → ℕ → Offsets → Type 0
 RowAt r n starts ends row at = Ahead (planBy r n (entering starts) (entering ends)) row at
 
@@ -120,7 +121,7 @@ rowAnswer M final t n r starts ends k = answerAt (M .moment) final t (r .«min_p
 -- where the rows from `first` up to `until` may be worked, with the bounds of the first
 pub record CanWork {A : Type 0} (M : Stored Float A) (t : Series A) (n : ℕ) (r : Rows) (starts ends : List ℕ) (outputs first until : ℕ)
     (at : Offsets) (w : Window) (agg : M .moment .State) (work : List Float) : Type 0 where
-  pub can : Workable M t (r .«min_periods») n (r .widest) (planBy r n starts ends) outputs first until w agg work
+  pub workable : Workable M t (r .«min_periods») n (r .widest) (planBy r n starts ends) outputs first until w agg work
   pub ahead : Ahead (planBy r n starts ends) first at
 
 -- the window after them

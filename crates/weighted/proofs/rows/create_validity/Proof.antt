@@ -6,13 +6,14 @@ use borrow.Author.Needs.{needs}
 use Rattle.window.specs.Code.Filling.{Upto}
 use Rattle.window.proofs.Outputs.{upto-start, upto-next}
 use Rattle.weighted.specs.Code.Rows.{validityAt}
-use Rattle.weighted.proofs.WeightedRows.{Ahead, opens, rises, steps, mark-is}
+use Rattle.plan.proofs.FixedWindows.{reaches-first, reaches-next}
+use Rattle.weighted.proofs.WeightedRows.{Held, rises, validity-is}
 use Rattle.weighted.proofs.rows.create_validity.Statement.{statement}
 use Rattle.weighted.proofs.rows.create_validity.Tie as tie
 
 abbrev Inv-loop : tie.InvT-loop
 Inv-loop n left right min-periods present₀ at₀ row₀ present at row =
-    (row ≤ n) × Upto (validityAt n left right min-periods) present₀ present row × Ahead n left right row at
+    (row ≤ n) × Upto (validityAt n left right min-periods) present₀ present row × Held n left right row at
 
 abbrev μ-loop : tie.MeasureT-loop
 μ-loop n left right min-periods present₀ at₀ row₀ present at row = n - row
@@ -21,7 +22,7 @@ shorter-requires : tie.Need-shorter-requires Inv-loop μ-loop
 shorter-requires c κs = search needs
 
 loop-holds : tie.Need-loop-holds Inv-loop μ-loop
-loop-holds c = (omega arith, upto-start _ _, opens _ _ _ 0 refl (c .shorter .ensures))
+loop-holds c = (omega arith, upto-start _ _, λ _. reaches-first _ _ _ refl (c .shorter .ensures))
 
 sub-present : tie.Need-sub-present Inv-loop μ-loop
 sub-present c = rises _ _ _ _ (c .before .before .loop .inv .2) (c .before .loop-test .taken)
@@ -54,8 +55,8 @@ loop-again c =
     let p = s .pre in
     let f : s .args .n < 2 ^ 64 = omega (arith, s .fits) in (
       omega arith,
-      upto-next _ _ _ _ _ _ (v .1) (omega arith) (mark-is _ _ _ _ (v .2) h _) refl,
-      steps _ _ _ _ (v .2) h f (c .next-offsets .ensures),
+      upto-next _ _ _ _ _ _ (v .1) (omega arith) (validity-is _ _ _ _ (v .2) h _) refl,
+      λ _. reaches-next _ _ _ _ h f (v .2 h) (c .next-offsets .ensures),
     )
 
 same-length : tie.Need-same-length Inv-loop μ-loop

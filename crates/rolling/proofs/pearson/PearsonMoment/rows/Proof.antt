@@ -16,8 +16,8 @@ empty-at-requires c κs = search needs
 empty-requires : tie.Need-empty-requires
 empty-requires c κs = search needs
 
-opening-requires : tie.Need-opening-requires
-opening-requires c κs = c .before .before .before .before .before .before .before .before .before .before .before .pre .1 .plan .same
+first-offsets-requires : tie.Need-first-offsets-requires
+first-offsets-requires c κs = c .before .before .before .before .before .before .before .before .before .before .before .pre .1 .plan .same
 
 how-many-requires : tie.Need-how-many-requires
 how-many-requires c κs = search needs
@@ -32,7 +32,7 @@ block-requires c κs =
     let k = h .before .before in (
       s .pre .0,
       rows-can pearsonStored _ _ _ _ _ (s .pre .1) (k .before .empty-at .ensures) (k .empty .ensures) u (h
-          .before .opening .ensures),
+          .before .first-offsets .ensures),
     )
 
 same-length : tie.Need-same-length
@@ -67,7 +67,7 @@ rows-spec =
     (tie.spec
     empty-at-requires
     empty-requires
-    opening-requires
+    first-offsets-requires
     how-many-requires
     block-requires
     same-length

@@ -54,7 +54,7 @@ slice-write-present c =
     .before .before .before .before .before .before .before .before in
     let v = r .before .loop .inv in
     let l = block-row _ _ _ _ _ _ _ _ _ _ _ (start r .pre) v (r .loop-test .taken) .listed in
-    let f = start r .pre .can .can .outputs-fit in
+    let f = start r .pre .can .workable .outputs-fit in
     let s = v .present-same in
     omega arith
 

@@ -37,8 +37,8 @@ empty-requires c κs = search needs
 correction-requires : tie.Need-correction-requires Inv-loop μ-loop
 correction-requires c κs = search needs
 
-opening-requires : tie.Need-opening-requires Inv-loop μ-loop
-opening-requires c κs = c .before .before .before .before .before .before .before .before .before .before .pre .plan .same
+first-offsets-requires : tie.Need-first-offsets-requires Inv-loop μ-loop
+first-offsets-requires c κs = c .before .before .before .before .before .before .before .before .before .before .pre .plan .same
 
 how-many-requires : tie.Need-how-many-requires Inv-loop μ-loop
 how-many-requires c κs = search needs
@@ -48,7 +48,7 @@ loop-holds c =
     let l = length-replicate {A = Float} 32 zero64 in
     blocks-start _ _ _ _ _ _ _ _ _ _ (c .before .before .before .before .before .before .before .before .before .before .before
     .before .pre) (c .before .before .before .before .empty-at .ensures) (c .before .before .before .empty .ensures) (c
-    .before .opening .ensures)
+    .before .first-offsets .ensures)
     (record { kept = first-places _ (c .before .before .correction .ensures); m2s-long = l; m3s-long = l; factors-long = l }) l
 
 abbrev start : tie.After-end-of Inv-loop μ-loop → tie.Start Inv-loop μ-loop
@@ -206,7 +206,7 @@ rows-spec =
     empty-at-requires
     empty-requires
     correction-requires
-    opening-requires
+    first-offsets-requires
     how-many-requires
     loop-holds
     end-of-requires

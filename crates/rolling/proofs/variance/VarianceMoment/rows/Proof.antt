@@ -16,8 +16,8 @@ empty-at-requires c κs = search needs
 empty-requires : tie.Need-empty-requires
 empty-requires c κs = search needs
 
-opening-requires : tie.Need-opening-requires
-opening-requires c κs = c .before .before .before .before .before .before .before .before .before .pre .plan .same
+first-offsets-requires : tie.Need-first-offsets-requires
+first-offsets-requires c κs = c .before .before .before .before .before .before .before .before .before .pre .plan .same
 
 how-many-requires : tie.Need-how-many-requires
 how-many-requires c κs = search needs
@@ -29,7 +29,7 @@ block-requires c κs =
     let h = c .before .before .before in
     let u = h .how-many .ensures ∙ many-rows (g .rows) (length (g .values .now)) (g .starts .now) (g .ends .now) in
     let k = h .before .before in
-    rows-can varStored _ _ _ _ _ (s .pre) (k .before .empty-at .ensures) (k .empty .ensures) u (h .before .opening .ensures)
+    rows-can varStored _ _ _ _ _ (s .pre) (k .before .empty-at .ensures) (k .empty .ensures) u (h .before .first-offsets .ensures)
 
 same-length : tie.Need-same-length
 same-length c = search needs
@@ -62,7 +62,7 @@ rows-spec =
     (tie.spec
     empty-at-requires
     empty-requires
-    opening-requires
+    first-offsets-requires
     how-many-requires
     block-requires
     same-length

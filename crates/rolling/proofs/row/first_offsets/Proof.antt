@@ -2,8 +2,8 @@
 use mathlib.Core.Path.{refl}
 use borrow.Author.Needs.{needs}
 use Rattle.rolling.proofs.RowLoops.{opens-fixed, listed-ahead, listed-same}
-use Rattle.rolling.proofs.row.opening.Statement.{statement}
-use Rattle.rolling.proofs.row.opening.Tie as tie
+use Rattle.rolling.proofs.row.first_offsets.Statement.{statement}
+use Rattle.rolling.proofs.row.first_offsets.Tie as tie
 
 shorter-requires : tie.Need-shorter-requires
 shorter-requires c κs = search needs
@@ -17,5 +17,5 @@ listed-requires c κs = listed-same (c .before .before .before .args .rows) _ _ 
 returns-2 : tie.Need-returns-2
 returns-2 c = listed-ahead (c .before .before .before .before .args .rows) _ _ _ (c .before .if1 .left) (c .listed .ensures)
 
-pub opening-spec : {M : Type 1} → statement M
-opening-spec = tie.close (tie.spec shorter-requires returns listed-requires returns-2)
+pub first-offsets-spec : {M : Type 1} → statement M
+first-offsets-spec = tie.close (tie.spec shorter-requires returns listed-requires returns-2)
