@@ -74,7 +74,7 @@ for name, rows in plans.items():
             cases.append((f"plan {name}, {figure}, {tag}", f"moments_plan_{figure}",
                           [*traces, *starts, *ends, size_t(1), *setting, *sum(lists, [])]))
 for size, center in ((size, center) for size in (8, 128, 4096) for center in (False, True)):
-    window, where = [size_t(size), size_t(1), flag(center)], f"{'centred' if center else 'fixed'} {size}"
+    window, where = [size_t(size), size_t(1), flag(center)], f"{'centred' if center else 'trailing'} {size}"
     for figure, setting in settings.items():
         for tag, mapped in maps.items():
             cases.append((f"{where}, {figure}, {tag}", f"moments_rolling_{figure}", [*trace, *mapped, *window, *setting, *sum(lists, [])]))
@@ -83,7 +83,8 @@ for size, center in ((size, center) for size in (8, 128, 4096) for center in (Fa
             cases.append((f"{where}, {figure}, {tag}", f"moments_rolling_{figure}",
                           [*trace, *mapped, *second, *other, *window, *setting, *sum(lists, [])]))
     if size < 4096:
-        cases.append((f"{where}, weights", "moments_rolling_var_weights", [*trace, *none, *window, *lent(double, [1] * size), *figures, *present]))
+        weights = lent(double, [1] * size)
+        cases.append((f"{where}, weights", "moments_rolling_var_weights", [*trace, *none, *window, *weights, *figures, *present]))
 
 bad, ratios = 0, []
 with tempfile.TemporaryDirectory() as room:
