@@ -6,7 +6,7 @@ use mathlib.Core.List.{List}
 use mathlib.Core.Logic.{_⊎_, inl, inr, ⊎-elim}
 use native.Mathlib.Omega.{arith}
 use borrow.Author.Tests.{lt-ltb}
-use lib.Dec.{T}
+use lib.Dec.{T, ltb}
 use lib.Ieee.{Float, nan, binary64, fits}
 use Rattle.trace.specs.Trace.{Trace}
 use Rattle.root.specs.Root.{root}
@@ -367,7 +367,8 @@ step-meets {center} {size} {n} {i} {right} {at} {next} r few is steps =
       asked = asked;
       stepped = subst Step left steps;
       shown = λ h.
-          let row = asked ∙ rw (lt-ltb i n (omega arith)) in
+          let inside : ltb i n ≡ true = lt-ltb i n (omega arith) in
+          let row : _≡_ {A = ℕ × ℕ} (at .start, at .end) (boundsAt center size n i) = asked ∙ rw inside in
           let there = steps-bounds center size n i h few row (subst Step reach steps) in
           let told = ap (λ (p : ℕ × ℕ). nextOffsets i p (leftWindow center size) n) row ∙ kept-bounds .next center size n i h in
           record {
