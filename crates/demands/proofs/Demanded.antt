@@ -374,6 +374,7 @@ step-meets {center} {size} {n} {i} {right} {at} {next} r few is steps =
           record {
             row = row;
             next-row = there;
-            raises = subst (RaisesEach (at .start, at .end)) (told ∙ sym there) (kept-bounds .raises i (at .start, at .end) (leftWindow center size) n);
+            raises = subst (RaisesEach (at .start, at .end)) (told ∙ sym there)
+                (kept-bounds .raises i (at .start, at .end) (leftWindow center size) n);
           };
     }

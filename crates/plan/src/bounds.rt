@@ -29,8 +29,8 @@ fn start_of(left: usize, row: usize) -> usize
     if row < left { 0 } else { row - left }
 }
 
-// Where the fixed window of a row ends, `right` places from the row's own on, within the n places; or a block of so many rows. From row `last` on that is n; a
-// sum that might wrap is never made.
+// Where the fixed window of a row ends, `right` places from the row's own on, within the n places; or a block of so many rows. From row
+// `last` on that is n; a sum that might wrap is never made.
 pub fn end_of(right: usize, n: usize, row: usize) -> usize
     ensures { λ r. ⌜ r ≡ min n (row + right) ⌝ }
 {

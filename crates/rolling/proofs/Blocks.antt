@@ -54,8 +54,8 @@ module _ (bias has : Bool) (map : List ℕ) (values : List Float) (r : Rows) (st
       pub slots : Slots counts corrections m2s m3s factors
       pub doubles : (j : ℕ) → first ≤ j → j < k → doubleAt bias m2s m3s factors (j - first) ≡ doubleOf (Answer j)
 
-    module _ {w₀ : Window} {agg₀ : SkewState} {at₀ : Offsets} {outputs : ℕ} {counts₀ : List ℕ} {corrections₀ m2s₀ m3s₀ factors₀ : List
-        Float}
+    module _ {w₀ : Window} {agg₀ : SkewState} {at₀ : Offsets} {outputs : ℕ} {counts₀ : List ℕ}
+        {corrections₀ m2s₀ m3s₀ factors₀ : List Float}
         (can : CanFill has map values r starts ends outputs first until at₀ w₀ agg₀ work₀ counts₀ corrections₀ m2s₀ m3s₀ factors₀) where
       pub block-starts : BlockTurn w₀ agg₀ at₀ work₀ present₀ counts₀ corrections₀ m2s₀ m3s₀ factors₀ first
       block-starts =
@@ -100,8 +100,8 @@ module _ (bias has : Bool) (map : List ℕ) (values : List Float) (r : Rows) (st
               (block-row .bounds .end-is)
 
           module _ {w' : Window} {agg' : SkewState} {work' : List Float}
-              (q : Stepped skewStored t (r .widest) (r .«min_periods») k (at .start) (at .end) w work w' agg' work') (same : length
-              work' ≡ length work) where
+              (q : Stepped skewStored t (r .widest) (r .«min_periods») k (at .start) (at .end) w work w' agg' work')
+              (same : length work' ≡ length work) where
             pub block-fits : (4 * w' .front ≤ length work') × (w' .front + w' .back ≤ 2 ^ 53) × (at .start ≤ at .end)
             block-fits = work-fits skewStored t (can .can .workable) (v .working) more (block-row .bounds .start-is)
                 (block-row .bounds .end-is) q same
@@ -193,12 +193,12 @@ module _ (bias has : Bool) (map : List ℕ) (values : List Float) (r : Rows) (st
             roots-long = l;
           }
 
-      module _ {w : Window} {agg : SkewState} {at : Offsets} {work figures : List Float} {present counts : List ℕ} {corrections m2s
-          m3s factors roots : List Float} {first : ℕ}
-          (v : Blocks w agg at work figures present counts corrections m2s m3s factors roots first) (until : ℕ) (rises : first ≤
-          until) (short : until ≤ first + 32) (listed : until ≤ rows p) where
-        pub blocks-can : {held : ℕ} → outputs ≤ held → CanFill has map values r starts ends held first until at w agg work counts
-            corrections m2s m3s factors
+      module _ {w : Window} {agg : SkewState} {at : Offsets} {work figures : List Float} {present counts : List ℕ}
+          {corrections m2s m3s factors roots : List Float} {first : ℕ}
+          (v : Blocks w agg at work figures present counts corrections m2s m3s factors roots first)
+          (until : ℕ) (rises : first ≤ until) (short : until ≤ first + 32) (listed : until ≤ rows p) where
+        pub blocks-can : {held : ℕ} → outputs ≤ held
+            → CanFill has map values r starts ends held first until at w agg work counts corrections m2s m3s factors
         blocks-can h =
             let o = d .outputs-fit in
             let z = d .few in
@@ -221,10 +221,10 @@ module _ (bias has : Bool) (map : List ℕ) (values : List Float) (r : Rows) (st
               slots = v .slots;
             }
 
-        pub blocks-next : outputs ≤ length figures₀ → {at' : Offsets} {w' : Window} {agg' : SkewState} {work' figures' out : List
-            Float} {present' counts' : List ℕ} {corrections' m2s' m3s' factors' roots' : List Float}
-            → BlockFilled bias has map values r starts ends first until work present at' w' agg' work' present' counts' corrections'
-            m2s' m3s' factors'
+        pub blocks-next : outputs ≤ length figures₀ → {at' : Offsets} {w' : Window} {agg' : SkewState}
+            {work' figures' out : List Float} {present' counts' : List ℕ} {corrections' m2s' m3s' factors' roots' : List Float}
+            → BlockFilled bias has map values r starts ends first until work present
+            at' w' agg' work' present' counts' corrections' m2s' m3s' factors'
             → length work' ≡ length work → length present' ≡ length present → length roots' ≡ length roots
             → out ≡ table (doubleAt bias m2s' m3s' factors') (length (take (until - first) (drop first figures)))
             → figures' ≡ take first figures ++ (out ++ drop (until - first) (drop first figures))

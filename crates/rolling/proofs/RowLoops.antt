@@ -132,8 +132,8 @@ module _ {A : Type 0} (M : Stored Float A) (final : M .moment .State → Figure)
         turn-movable = work-movable M t (can .workable) (v .working) more (turn-row .bounds .start-is) (turn-row .bounds .end-is)
 
         module _ {w' : Window} {agg' : M .moment .State} {work' : List Float}
-            (q : Stepped M t (r .widest) (r .«min_periods») k (at .start) (at .end) w work w' agg' work') (same : length work' ≡
-            length work) where
+            (q : Stepped M t (r .widest) (r .«min_periods») k (at .start) (at .end) w work w' agg' work')
+            (same : length work' ≡ length work) where
           pub turn-fits : (M .inFront .width * w' .front ≤ length work') × (w' .front + w' .back ≤ 2 ^ 53) × (at .start ≤ at .end)
           turn-fits = work-fits M t (can .workable) (v .working) more (turn-row .bounds .start-is) (turn-row .bounds .end-is) q same
 
@@ -152,8 +152,8 @@ module _ {A : Type 0} (M : Stored Float A) (final : M .moment .State → Figure)
                 present-same = ap length (o .present-are) ∙ length-set present k (byteOf f) ∙ y;
                 figures-are = fills-next (λ j. doubleOf (Answer j)) first k figures₀ figures figures' (doubleOf f) (v .figures-are)
                     (ap doubleOf a) (o .figures-are);
-                present-are = fills-next (λ j. byteOf (Answer j)) first k present₀ present present' (byteOf f) (v .present-are) (ap
-                    byteOf a) (o .present-are);
+                present-are = fills-next (λ j. byteOf (Answer j)) first k present₀ present present' (byteOf f) (v .present-are)
+                    (ap byteOf a) (o .present-are);
               }
 
 -- two lists of readings of one length have as many places as one of them

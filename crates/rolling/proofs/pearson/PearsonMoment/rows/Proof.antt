@@ -29,11 +29,9 @@ block-requires c κs =
     let g = s .args in
     let h = c .before .before .before in
     let u = h .how-many .ensures ∙ many-rows (g .rows) (length (g .x .now)) (g .starts .now) (g .ends .now) in
-    let k = h .before .before in (
-      s .pre .0,
-      rows-can pearsonStored _ _ _ _ _ (s .pre .1) (k .before .empty-at .ensures) (k .empty .ensures) u (h
-          .before .first-offsets .ensures),
-    )
+    let k = h .before .before in
+    let o = h .before .first-offsets .ensures in
+    (s .pre .0, rows-can pearsonStored _ _ _ _ _ (s .pre .1) (k .before .empty-at .ensures) (k .empty .ensures) u o)
 
 same-length : tie.Need-same-length
 same-length c = search needs
