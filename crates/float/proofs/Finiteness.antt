@@ -31,7 +31,7 @@ unfolding round
 round-zero-one true = refl
 round-zero-one false = refl
 
-round-zero : (s : Bool) (c : ℕ) → 0 < c → round binary64 s 0 c ≡ fin s 0 (pos 0)
+pub round-zero : (s : Bool) (c : ℕ) → 0 < c → round binary64 s 0 c ≡ fin s 0 (pos 0)
 round-zero s c C = round-same binary64 s 0 c 0 1 C (zero-lt-suc 0) (sym (zero-mul c)) ∙ round-zero-one s
 
 not-below-itself : (a : ℕ) → ltb a a ≡ false

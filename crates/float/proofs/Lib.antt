@@ -4,6 +4,7 @@ pub mod Booleans
 pub mod Counts
 pub mod Signs
 pub mod Finiteness
+pub mod Ordering
 pub mod Patterns
 pub mod Tables
 pub mod Decoding
