@@ -6,6 +6,7 @@ pub mod Moves
 pub mod Readings
 pub mod Pairs
 pub mod Rows
+pub mod Extremes
 pub mod Steps
 pub mod Outputs
 pub mod Related

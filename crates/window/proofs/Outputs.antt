@@ -1,6 +1,6 @@
 -- Lists that are filled row by row, and lists of them: what a call leaves, and a row's answers in it. Assumes nothing.
-use Prim.Native.Nat.{ℕ, _+_, _-_, _≤_, _<_}
-use mathlib.Core.Path.{_≡_, refl, sym, ap, _∙_}
+use Prim.Native.Nat.{ℕ, _+_, _-_, _≤_, _<_, min}
+use mathlib.Core.Path.{_≡_, refl, sym, ap, _∙_, subst}
 use mathlib.Core.List.{List, [], _∷_, _++_}
 use native.Mathlib.Omega.{arith}
 use borrow.Author.Tests.{ne-eqb}
@@ -11,7 +11,8 @@ use Rattle.float.proofs.Tables.{table-length, table-more, table-at, table-part}
 use Rattle.moment.specs.Figure.{doubleOf, byteOf}
 use Rattle.moment.specs.declared.Figure.{Figure}
 use Rattle.window.specs.Outputs.{Column, column, filled, kept, answered, numbered, answersIn, countsIn, answersAt, countsAt}
-use Rattle.window.specs.Code.Filling.{Upto, Fills}
+use Rattle.window.specs.Outputs.{shortest, shortestOf, answerLengths}
+use Rattle.window.specs.Code.Filling.{Upto, Fills, ColumnsFill, rowOf, RowsSet, AllSameLong, AllThere}
 
 -- ---- one list
 module _ {A : Type 0} (f : ℕ → A) where
@@ -100,3 +101,115 @@ numbered-at n k [] [] h e = refl
 numbered-at n k [] (c ∷ cs) h e = absurd (omega arith)
 numbered-at n k (f ∷ fs) [] h e = absurd (omega arith)
 numbered-at n k (f ∷ fs) (l ∷ ls) h e = rw (table-at f n k (drop n l) 0 h, numbered-at n k fs ls h (omega arith))
+
+-- ---- the lists of several figures, filled row by row
+pub columns-none : (fs : List (ℕ → Figure)) (k : ℕ) (cs : List Column) → length cs ≡ length fs → ColumnsFill fs k k cs cs
+columns-none [] k [] e = tt
+columns-none [] k (c ∷ cs) e = absurd (omega arith)
+columns-none (f ∷ fs) k [] e = absurd (omega arith)
+columns-none (f ∷ fs) k (c ∷ cs) e =
+    (
+      record { doubles-are = fills-none (λ j. doubleOf (f j)) k (c .doubles); bytes-are = fills-none (λ j. byteOf (f j)) k (c .bytes) },
+      columns-none fs k cs (omega arith),
+    )
+
+pub columns-next : (fs : List (ℕ → Figure)) (first k : ℕ) (xs : List Figure) (cs₀ cs cs' : List Column) → ColumnsFill fs first k cs₀ cs
+    → xs ≡ rowOf fs k → RowsSet k xs cs cs' → ColumnsFill fs first (k + 1) cs₀ cs'
+columns-next fs first k xs cs₀ cs cs' v e o = go fs cs₀ cs cs' v (subst (λ (ys : List Figure). RowsSet k ys cs cs') e o)
+  where
+    go : (fs : List (ℕ → Figure)) (cs₀ cs cs' : List Column) → ColumnsFill fs first k cs₀ cs → RowsSet k (rowOf fs k) cs cs'
+        → ColumnsFill fs first (k + 1) cs₀ cs'
+    go [] [] [] [] v o = tt
+    go (f ∷ fs) (c₀ ∷ cs₀) (c ∷ cs) (c' ∷ cs') v o =
+        (
+          record {
+            doubles-are = fills-next (λ j. doubleOf (f j)) first k (c₀ .doubles) (c .doubles) (c' .doubles) (doubleOf (f k)) (v .0 .doubles-are) refl
+                (o .0 .figures-are);
+            bytes-are = fills-next (λ j. byteOf (f j)) first k (c₀ .bytes) (c .bytes) (c' .bytes) (byteOf (f k)) (v .0 .bytes-are) refl
+                (o .0 .present-are);
+          },
+          go fs cs₀ cs cs' (v .1) (o .1),
+        )
+    go [] [] [] (c' ∷ cs') v o = absurd o
+    go [] [] (c ∷ cs) cs' v o = absurd v
+    go [] (c₀ ∷ cs₀) cs cs' v o = absurd v
+    go (f ∷ fs) [] cs cs' v o = absurd v
+    go (f ∷ fs) (c₀ ∷ cs₀) [] cs' v o = absurd v
+    go (f ∷ fs) (c₀ ∷ cs₀) (c ∷ cs) [] v o = absurd o
+
+-- they stay as long as they were
+pub long-same : (cs : List Column) → AllSameLong cs cs
+long-same [] = tt
+long-same (c ∷ cs) = (record { doubles = refl; bytes = refl }, long-same cs)
+
+pub long-next : (k : ℕ) (xs : List Figure) (cs₀ cs cs' : List Column) → AllSameLong cs₀ cs → RowsSet k xs cs cs' → AllSameLong cs₀ cs'
+long-next k [] [] [] [] v o = tt
+long-next k (x ∷ xs) (c₀ ∷ cs₀) (c ∷ cs) (c' ∷ cs') v o =
+    (
+      record {
+        doubles = ap length (o .0 .figures-are) ∙ length-set (c .doubles) k (doubleOf x) ∙ v .0 .doubles;
+        bytes = ap length (o .0 .present-are) ∙ length-set (c .bytes) k (byteOf x) ∙ v .0 .bytes;
+      },
+      long-next k xs cs₀ cs cs' (v .1) (o .1),
+    )
+long-next k [] [] [] (c' ∷ cs') v o = absurd o
+long-next k [] [] (c ∷ cs) cs' v o = absurd v
+long-next k [] (c₀ ∷ cs₀) [] cs' v o = absurd v
+long-next k [] (c₀ ∷ cs₀) (c ∷ cs) cs' v o = absurd o
+long-next k (x ∷ xs) [] [] cs' v o = absurd o
+long-next k (x ∷ xs) [] (c ∷ cs) cs' v o = absurd v
+long-next k (x ∷ xs) (c₀ ∷ cs₀) [] cs' v o = absurd v
+long-next k (x ∷ xs) (c₀ ∷ cs₀) (c ∷ cs) [] v o = absurd o
+
+-- no list is shorter than the shortest
+shortest-first : (a : ℕ) (l : List ℕ) → shortest a l ≤ a
+shortest-first a [] = omega arith
+shortest-first a (b ∷ l) = let h = shortest-first (min a b) l in omega arith
+
+shortest-rest : (a b : ℕ) (l : List ℕ) → a ≤ b → shortest a l ≤ shortest b l
+shortest-rest a b [] h = h
+shortest-rest a b (c ∷ l) h = shortest-rest (min a c) (min b c) l (omega arith)
+
+all-there : (k a : ℕ) (cs₀ cs : List Column) → AllSameLong cs₀ cs → k < shortest a (answerLengths cs₀) → AllThere k cs
+all-there k a [] [] v h = tt
+all-there k a [] (c ∷ cs) v h = absurd v
+all-there k a (c₀ ∷ cs₀) [] v h = absurd v
+all-there k a (c₀ ∷ cs₀) (c ∷ cs) v h =
+    let d = v .0 .doubles in
+    let b = v .0 .bytes in
+    let o = shortest-first (min (min a (length (c₀ .doubles))) (length (c₀ .bytes))) (answerLengths cs₀) in
+    (record { in-figures = omega arith; in-present = omega arith }, all-there k _ cs₀ cs (v .1) h)
+
+pub columns-there : (k : ℕ) (cs₀ cs : List Column) → AllSameLong cs₀ cs → k < shortestOf (answerLengths cs₀) → AllThere k cs
+columns-there k [] [] v h = tt
+columns-there k [] (c ∷ cs) v h = absurd v
+columns-there k (c₀ ∷ cs₀) [] v h = absurd v
+columns-there k (c₀ ∷ cs₀) (c ∷ cs) v h =
+    let a = length (c₀ .doubles) in
+    let o : shortest a (length (c₀ .bytes) ∷ answerLengths cs₀) ≤ shortest a (a ∷ length (c₀ .bytes) ∷ answerLengths cs₀) =
+    shortest-rest (min a (length (c₀ .bytes))) (min (min a a) (length (c₀ .bytes))) (answerLengths cs₀) (omega arith) in
+    all-there k a (c₀ ∷ cs₀) (c ∷ cs) v (omega arith)
+
+-- all n rows, from the first on
+all-filled : (fs : List (ℕ → Figure)) (n a : ℕ) (cs₀ cs : List Column) → n ≤ shortest a (answerLengths cs₀) → ColumnsFill fs 0 n cs₀ cs
+    → cs ≡ answered 0 n fs cs₀
+all-filled [] n a [] [] h v = refl
+all-filled (f ∷ fs) n a (c₀ ∷ cs₀) (c ∷ cs) h v =
+    let o = shortest-first (min (min a (length (c₀ .doubles))) (length (c₀ .bytes))) (answerLengths cs₀) in
+    column-is (fills-all (λ k. doubleOf (f k)) n (c₀ .doubles) (c .doubles) (omega arith) (v .0 .doubles-are))
+    (fills-all (λ k. byteOf (f k)) n (c₀ .bytes) (c .bytes) (omega arith) (v .0 .bytes-are))
+    then all-filled fs n _ cs₀ cs h (v .1)
+all-filled [] n a [] (c ∷ cs) h v = absurd v
+all-filled [] n a (c₀ ∷ cs₀) cs h v = absurd v
+all-filled (f ∷ fs) n a [] cs h v = absurd v
+all-filled (f ∷ fs) n a (c₀ ∷ cs₀) [] h v = absurd v
+
+pub columns-all : (fs : List (ℕ → Figure)) (n : ℕ) (cs₀ cs : List Column) → n ≤ shortestOf (answerLengths cs₀) → ColumnsFill fs 0 n cs₀ cs
+    → cs ≡ answered 0 n fs cs₀
+columns-all [] n [] cs h v = all-filled [] n 0 [] cs h v
+columns-all (f ∷ fs) n [] cs h v = absurd v
+columns-all fs n (c₀ ∷ cs₀) cs h v =
+    let a = length (c₀ .doubles) in
+    let o : shortest a (length (c₀ .bytes) ∷ answerLengths cs₀) ≤ shortest a (a ∷ length (c₀ .bytes) ∷ answerLengths cs₀) =
+    shortest-rest (min a (length (c₀ .bytes))) (min (min a a) (length (c₀ .bytes))) (answerLengths cs₀) (omega arith) in
+    all-filled fs n a (c₀ ∷ cs₀) cs (omega arith) v

@@ -14,7 +14,7 @@ use lib.Ieee.Scale.{finite}
 use Rattle.float.specs.Operators.{zero64}
 use Rattle.trace.specs.Trace.{validAt}
 use Rattle.window.specs.Places.{Series, validCount}
-use Rattle.window.specs.Readings.{series, readingOf, insertedAt, nonfiniteAt}
+use Rattle.window.specs.Readings.{placesBy, series, readingOf, insertedAt, nonfiniteAt}
 use Rattle.window.specs.Code.Memory.{ReadingStates, ofReadings, reading, inMemory}
 use Rattle.window.specs.Code.Stacks.{frontStack, Flippable, Flipped, Appendable, Appended}
 use Rattle.window.proofs.Stacks.{Flip, flip-start, flip-turn, flip-done, Append, append-start, append-room, append-nonfinite-le, append-hit, append-miss, append-done}
@@ -60,47 +60,62 @@ module _ (m : ReadingStates) (l₀ : List Float) (base n : ℕ) where
         subst (λ (Y : List Float). l ≡ inMemory (m .inFront) (frontStack (m .moment) Y) ++ drop (m .inFront .width * n) l₀) x
         (flip-done (ofReadings m) l₀ base n B many room fits′ standing f h)
 
--- ---- readings appended
-module _ (m : ReadingStates) (has : Bool) (map : List ℕ) (values l₀ : List Float) (n nonfinite₀ : ℕ) (s₀ : m .moment .State) (a e : ℕ) where
+-- ---- readings appended, as they are or with a zero for one that is not finite: `entry` is what stands in the back stack for a place
+module _ (m : ReadingStates) (has : Bool) (map : List ℕ) (values : List Float) (entry : ℕ → Float) (l₀ : List Float) (n nonfinite₀ : ℕ)
+    (s₀ : m .moment .State) (a e : ℕ) where
+  abbrev over : Series Float
+  over = record { places = placesBy has map values; entry = entry }
+
   abbrev pub Appending : List Float → ℕ → ℕ → m .moment .State → ℕ → Type 0
-  Appending l at nonfinite s i = Append (ofReadings m) (series has map values) l₀ n nonfinite₀ s₀ a e l at nonfinite s i
+  Appending l at nonfinite s i = Append (ofReadings m) over l₀ n nonfinite₀ s₀ a e l at nonfinite s i
 
   pub appending-start : a ≤ e → Appending l₀ n nonfinite₀ s₀ a
-  appending-start h = append-start (ofReadings m) (series has map values) l₀ n nonfinite₀ s₀ a e h
+  appending-start h = append-start (ofReadings m) over l₀ n nonfinite₀ s₀ a e h
 
   module _ {l : List Float} {at nonfinite : ℕ} {s : m .moment .State} {i : ℕ} (p : Appending l at nonfinite s i) (more : i < e)
-      (can : Appendable (ofReadings m) (series has map values) a e (length values) n nonfinite₀ l₀) where
-    fits : 1 * (n + validCount (series has map values .places) a e) ≤ length l₀
+      (can : Appendable (ofReadings m) over a e (length values) n nonfinite₀ l₀) where
+    fits : 1 * (n + validCount (over .places) a e) ≤ length l₀
     fits = can .room
 
     pub appending-room : validAt has map i ≡ true → at < length l
     appending-room v =
-        let h = append-room (ofReadings m) (series has map values) l₀ n nonfinite₀ s₀ a e p more fits v in
+        let h = append-room (ofReadings m) over l₀ n nonfinite₀ s₀ a e p more fits v in
         omega arith
 
     pub appending-nonfinite : nonfinite ≤ nonfinite₀ + (i - a)
-    appending-nonfinite = append-nonfinite-le (ofReadings m) (series has map values) l₀ n nonfinite₀ s₀ a e p more fits
+    appending-nonfinite = append-nonfinite-le (ofReadings m) over l₀ n nonfinite₀ s₀ a e p more fits
 
-    hit : validAt has map i ≡ true → (x : Float) → x ≡ insertedAt values i → (u : m .moment .State) → u ≡ m .moment .insert s x → (b : Bool) → finite (readingOf values i) ≡ b →
-        (k : ℕ) → k ≡ nonfinite + boolByte (not b) → Appending (set l at x) (at + 1) k u (i + 1)
+    pub appending-hit : validAt has map i ≡ true → (x : Float) → x ≡ entry i → (u : m .moment .State) → u ≡ m .moment .insert s x
+        → (b : Bool) → finite (readingOf values i) ≡ b → (k : ℕ) → k ≡ nonfinite + boolByte (not b) → Appending (set l at x) (at + 1) k u (i + 1)
     unfolding nonfiniteAt
-    hit v x f u g b c k d =
-        append-hit (ofReadings m) (series has map values) l₀ n nonfinite₀ s₀ a e p more fits v at (sym (one-mul at)) x f u g (not b) (rw (v, c)) k d
-
-    pub appending-finite : validAt has map i ≡ true → finite (readingOf values i) ≡ true → (u : m .moment .State) → u ≡ m .moment .insert s (readingOf values i) →
-        Appending (set l at (readingOf values i)) (at + 1) nonfinite u (i + 1)
-    unfolding insertedAt
-    appending-finite v f u g = hit v (readingOf values i) (rw f) u g true f nonfinite (sym (add-zero nonfinite))
-
-    pub appending-zero : validAt has map i ≡ true → finite (readingOf values i) ≡ false → (u : m .moment .State) → u ≡ m .moment .insert s zero64 →
-        Appending (set l at zero64) (at + 1) (nonfinite + 1) u (i + 1)
-    unfolding insertedAt
-    appending-zero v f u g = hit v zero64 (rw f) u g false f (nonfinite + 1) refl
+    appending-hit v x f u g b c k d =
+        append-hit (ofReadings m) over l₀ n nonfinite₀ s₀ a e p more fits v at (sym (one-mul at)) x f u g (not b) (rw (v, c)) k d
 
     pub appending-missing : validAt has map i ≡ false → Appending l at nonfinite s (i + 1)
     unfolding nonfiniteAt
-    appending-missing v = append-miss (ofReadings m) (series has map values) l₀ n nonfinite₀ s₀ a e p more fits v (rw v)
+    appending-missing v = append-miss (ofReadings m) over l₀ n nonfinite₀ s₀ a e p more fits v (rw v)
 
   pub appending-done : {l : List Float} {at nonfinite : ℕ} {s : m .moment .State} {i : ℕ} → Appending l at nonfinite s i → e ≤ i →
-      Appended (ofReadings m) (series has map values) l₀ n nonfinite₀ s₀ a e l at nonfinite s
-  appending-done p h = append-done (ofReadings m) (series has map values) l₀ n nonfinite₀ s₀ a e p h
+      Appended (ofReadings m) over l₀ n nonfinite₀ s₀ a e l at nonfinite s
+  appending-done p h = append-done (ofReadings m) over l₀ n nonfinite₀ s₀ a e p h
+
+-- with a zero for one that is not finite
+module _ (m : ReadingStates) (has : Bool) (map : List ℕ) (values l₀ : List Float) (n nonfinite₀ : ℕ) (s₀ : m .moment .State) (a e : ℕ)
+    {l : List Float} {at nonfinite : ℕ} {s : m .moment .State} {i : ℕ}
+    (p : Appending m has map values (insertedAt values) l₀ n nonfinite₀ s₀ a e l at nonfinite s i) (more : i < e)
+    (can : Appendable (ofReadings m) (series has map values) a e (length values) n nonfinite₀ l₀) (v : validAt has map i ≡ true) where
+  abbrev Next : List Float → ℕ → m .moment .State → Type 0
+  Next l′ k u = Appending m has map values (insertedAt values) l₀ n nonfinite₀ s₀ a e l′ (at + 1) k u (i + 1)
+
+  pub appending-finite : finite (readingOf values i) ≡ true → (u : m .moment .State) → u ≡ m .moment .insert s (readingOf values i) →
+      Next (set l at (readingOf values i)) nonfinite u
+  unfolding insertedAt
+  appending-finite f u g =
+      appending-hit m has map values (insertedAt values) l₀ n nonfinite₀ s₀ a e p more can v (readingOf values i) (rw f) u g true f nonfinite
+      (sym (add-zero nonfinite))
+
+  pub appending-zero : finite (readingOf values i) ≡ false → (u : m .moment .State) → u ≡ m .moment .insert s zero64 →
+      Next (set l at zero64) (nonfinite + 1) u
+  unfolding insertedAt
+  appending-zero f u g =
+      appending-hit m has map values (insertedAt values) l₀ n nonfinite₀ s₀ a e p more can v zero64 (rw f) u g false f (nonfinite + 1) refl

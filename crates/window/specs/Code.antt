@@ -2,3 +2,4 @@
 pub mod Memory
 pub mod Stacks
 pub mod Filling
+pub mod Widening

@@ -71,10 +71,17 @@ pub record Appended {C A : Type 0} (M : Stored C A) (t : Series A) (l₀ : List 
 unfoldable pub topOf : {C A : Type 0} → (M : Stored C A) → List C → ℕ → M .moment .State
 topOf M work n = cond (eqb n 0) (M .moment .empty) (M .inFront .load (drop (M .inFront .width * (n - 1)) work))
 
--- a row's answer by the window's numbers: the back state combined with the state on the front stack's top
+-- a row's answer by the window's numbers, of the state of its two parts
+abbrev pub answerFrom : {S : Type 0} → (S → Figure) → Bool → ℕ → ℕ → ℕ → Window → S → Figure
+answerFrom final mapped minPeriods s e w state =
+    cond (leb minPeriods (cond mapped (w .front + w .back) (e - s))) (orNan (w .nonfinite) (final state)) Missing
+
+-- that state: the back state combined with the state on the front stack's top
+abbrev pub stateBy : {C A : Type 0} → (M : Stored C A) → Window → M .moment .State → List C → M .moment .State
+stateBy M w agg work = M .moment .combine agg (topOf M work (w .front))
+
 abbrev pub answerBy : {C A : Type 0} → (M : Stored C A) → (M .moment .State → Figure) → Bool → ℕ → ℕ → ℕ → Window → M .moment .State → List C → Figure
-answerBy M final mapped minPeriods s e w agg work =
-    cond (leb minPeriods (cond mapped (w .front + w .back) (e - s))) (orNan (w .nonfinite) (final (M .moment .combine agg (topOf M work (w .front))))) Missing
+answerBy M final mapped minPeriods s e w agg work = answerFrom final mapped minPeriods s e w (stateBy M w agg work)
 
 -- a window over n places can move to the row from s up to e, and neither is wider than `widest`
 pub record Ready (w : Window) (s e n widest : ℕ) : Type 0 where
