@@ -3,7 +3,7 @@
 use Prim.Native.Nat.{ℕ, _+_, _-_, _*_, _^_, _≤_, _<_}
 use mathlib.Core.Path.{_≡_, refl, sym, ap, _∙_, subst}
 use mathlib.Core.Bool.{Bool, true, false, cond}
-use mathlib.Core.List.{List, _++_}
+use mathlib.Core.List.{List, [], _∷_, _++_}
 use native.Mathlib.Omega.{arith}
 use borrow.Author.Tests.{eqb-true, eqb-false}
 use lib.Dec.{eqb}
@@ -23,7 +23,8 @@ use Rattle.window.specs.Readings.{series}
 use Rattle.window.specs.Code.Stacks.{emptyAt, answerBy, Movable, Stepped}
 use Rattle.window.specs.Code.Filling.{Fills}
 use Rattle.window.specs.declared.Window.{Window}
-use Rattle.window.proofs.Outputs.{fills-none, fills-next, fills-both, fills-part}
+use Rattle.window.specs.Outputs.{column}
+use Rattle.window.proofs.Outputs.{fills-none, fills-next, fills-both, fills-part, columns-none}
 use Rattle.window.proofs.Steps.{Working, work-starts, work-listed, work-movable, work-fits, work-next, work-answer}
 use Rattle.rolling.specs.Code.Layouts.{skewStored}
 use Rattle.rolling.specs.Code.Rows.{planBy, RowIn, Ahead, Driven, rowAnswer, Works}
@@ -186,8 +187,7 @@ module _ (bias has : Bool) (map : List ℕ) (values : List Float) (r : Rows) (st
                     h .workable .standing;
                 rest = refl;
               };
-              figures-are = fills-none (λ j. doubleOf (Answer j)) 0 figures₀;
-              present-are = fills-none (λ j. byteOf (Answer j)) 0 present₀;
+              written = columns-none ((λ j. Answer j) ∷ []) 0 (column figures₀ present₀ ∷ []) refl;
             };
             slots = s;
             roots-long = l;
@@ -240,12 +240,19 @@ module _ (bias has : Bool) (map : List ℕ) (values : List Float) (r : Rows) (st
               present-same = y ∙ v .present-same;
               works = record {
                 worked = record { standing = f .worked .standing; rest = f .worked .rest ∙ v .works .worked .rest };
-                figures-are = fills-part (λ j. doubleOf (Answer j)) (doubleAt bias m2s' m3s' factors') 0 first until figures₀ figures figures' out rises (v .works .figures-are)
-                    (λ i k.
-                    let n : first + i - first ≡ i = omega arith in
-                    ap (doubleAt bias m2s' m3s' factors') (sym n) ∙ f .doubles (first + i) (omega arith) (omega arith))
-                    (g ∙ ap (table (doubleAt bias m2s' m3s' factors')) m) e;
-                present-are = fills-both (λ j. byteOf (Answer j)) 0 first until present₀ present present' rises (v .works .present-are) (f .bytes);
+                written = (
+                  record {
+                    doubles-are = fills-part (λ j. doubleOf (Answer j)) (doubleAt bias m2s' m3s' factors') 0 first until figures₀ figures figures' out
+                        rises (v .works .written .0 .doubles-are)
+                        (λ i k.
+                        let n : first + i - first ≡ i = omega arith in
+                        ap (doubleAt bias m2s' m3s' factors') (sym n) ∙ f .doubles (first + i) (omega arith) (omega arith))
+                        (g ∙ ap (table (doubleAt bias m2s' m3s' factors')) m) e;
+                    bytes-are = fills-both (λ j. byteOf (Answer j)) 0 first until present₀ present present' rises (v .works .written .0 .bytes-are)
+                        (f .bytes);
+                  },
+                  tt,
+                );
               };
               slots = f .slots;
               roots-long = z ∙ v .roots-long;

@@ -3,12 +3,11 @@
 use Prim.Native.Nat.{ℕ, _+_, _-_, _*_, _^_, _≤_, _<_, min}
 use mathlib.Core.Path.{_≡_, refl, sym, ap, _∙_, subst}
 use mathlib.Core.Bool.{true, false, cond}
-use mathlib.Core.List.{List}
+use mathlib.Core.List.{List, [], _∷_}
 use native.Mathlib.Nat.{le-refl}
 use native.Mathlib.Omega.{arith}
-use lib.ListN.{length, length-set}
+use lib.ListN.{length}
 use lib.Ieee.{Float}
-use Rattle.moment.specs.Figure.{doubleOf, byteOf}
 use Rattle.moment.specs.declared.Figure.{Figure}
 use Rattle.plan.specs.Plan.{Plan, rows, planOf}
 use Rattle.plan.specs.Bounds.{nextOffsets}
@@ -17,15 +16,15 @@ use Rattle.plan.specs.Code.Reaching.{reaching, StepsTo}
 use Rattle.plan.specs.declared.bounds.Offsets.{Offsets}
 use Rattle.plan.proofs.FixedWindows.{rows-are, start-at, end-at, Reaches, reaches-first, reaches-next}
 use Rattle.window.specs.Places.{Series}
-use Rattle.window.specs.Outputs.{filled, kept}
+use Rattle.window.specs.Outputs.{Column, column, kept, answered, shortestOf, answerLengths}
 use Rattle.window.specs.Code.Memory.{Stored}
 use Rattle.window.specs.Code.Stacks.{emptyAt, answerBy, Movable, Stepped, Workable, placeWidth}
-use Rattle.window.specs.Code.Filling.{Fills, RowThere, RowSet}
+use Rattle.window.specs.Code.Filling.{RowThere, RowSet, ColumnsFill, rowOf, RowsSet, AllSameLong, AllThere}
 use Rattle.window.specs.declared.Window.{Window}
 use Rattle.window.proofs.Rows.{stand-start}
 use Rattle.window.proofs.Steps.{Working, work-starts, work-done, work-listed, work-movable, work-fits, work-next, work-answer}
-use Rattle.window.proofs.Outputs.{fills-none, fills-next, fills-all}
-use Rattle.rolling.specs.Code.Rows.{bothHave, planBy, SameMany, RowIn, RowBounds, Ahead, Driven, rowAnswer, CanWork, HasWorked, Works}
+use Rattle.window.proofs.Outputs.{columns-none, columns-next, columns-there, columns-all, long-same, long-next, _then_}
+use Rattle.rolling.specs.Code.Rows.{bothHave, planBy, SameMany, RowIn, RowBounds, Ahead, Driven, rowAnswer, CanWork, HasWorked, Works, WorksColumns}
 use Rattle.rolling.specs.declared.row.Rows.{Rows}
 
 -- as many rows as `how_many` answers
@@ -71,90 +70,118 @@ module _ (r : Rows) (n : ℕ) (starts ends : List ℕ) where
   pub listed-same : r .fixed ≡ false → SameMany r n starts ends → length starts ≡ length ends
   listed-same f e = rw f at e
 
--- ---- the turns of a block
-module _ {A : Type 0} (M : Stored Float A) (final : M .moment .State → Figure) (t : Series A) (n : ℕ) (r : Rows) (starts ends : List ℕ)
-    (first until : ℕ) (work₀ figures₀ : List Float) (present₀ : List ℕ) where
+-- ---- the turns of a block, which writes the answers of several row functions
+module _ {A : Type 0} (M : Stored Float A) (t : Series A) (n : ℕ) (r : Rows) (starts ends : List ℕ) (fs : List (ℕ → Figure))
+    (first until : ℕ) (work₀ : List Float) (cs₀ : List Column) where
   abbrev p : Plan
   p = planBy r n starts ends
 
-  abbrev Answer : ℕ → Figure
-  Answer k = rowAnswer M final t n r starts ends k
-
   -- where the rows from `first` up to row k are worked and their answers written, and row k's window is held
-  pub record Turn (w : Window) (agg : M .moment .State) (at : Offsets) (work figures : List Float) (present : List ℕ) (k : ℕ) : Type 0 where
+  pub record ColumnTurn (w : Window) (agg : M .moment .State) (at : Offsets) (work : List Float) (cs : List Column) (k : ℕ) : Type 0 where
     pub ahead : Ahead p k at
     pub working : Working M t (r .«min_periods») n (r .widest) p first until work₀ w agg work k
-    pub figures-same : length figures ≡ length figures₀
-    pub present-same : length present ≡ length present₀
-    pub figures-are : Fills (λ j. doubleOf (Answer j)) first k figures₀ figures
-    pub present-are : Fills (λ j. byteOf (Answer j)) first k present₀ present
+    pub same : AllSameLong cs₀ cs
+    pub written : ColumnsFill fs first k cs₀ cs
 
   module _ {w₀ : Window} {agg₀ : M .moment .State} {at₀ : Offsets}
-      (can : CanWork M t n r starts ends (min (length figures₀) (length present₀)) first until at₀ w₀ agg₀ work₀) where
-    pub turn-starts : Turn w₀ agg₀ at₀ work₀ figures₀ present₀ first
-    turn-starts =
-        record {
-          ahead = can .ahead;
-          working = work-starts M t (can .workable);
-          figures-same = refl;
-          present-same = refl;
-          figures-are = fills-none (λ j. doubleOf (Answer j)) first figures₀;
-          present-are = fills-none (λ j. byteOf (Answer j)) first present₀;
-        }
+      (can : CanWork M t n r starts ends (shortestOf (answerLengths cs₀)) first until at₀ w₀ agg₀ work₀) where
+    pub columns-start : length cs₀ ≡ length fs → ColumnTurn w₀ agg₀ at₀ work₀ cs₀ first
+    columns-start e =
+        record { ahead = can .ahead; working = work-starts M t (can .workable); same = long-same cs₀; written = columns-none fs first cs₀ e }
 
-    module _ {w : Window} {agg : M .moment .State} {at : Offsets} {work figures : List Float} {present : List ℕ} {k : ℕ}
-        (v : Turn w agg at work figures present k) where
-      pub turn-done : until ≤ k → Works M final t n r starts ends first until work₀ figures₀ present₀ w agg work figures present
-      turn-done h =
+    module _ {w : Window} {agg : M .moment .State} {at : Offsets} {work : List Float} {cs : List Column} {k : ℕ}
+        (v : ColumnTurn w agg at work cs k) where
+      pub columns-done : until ≤ k → WorksColumns M t n r starts ends fs first until work₀ cs₀ w agg work cs
+      columns-done h =
           let u = v .working .high in
           let e : k ≡ until = omega arith in
           record {
             worked = work-done M t (can .workable) (v .working) h;
-            figures-are = subst (λ (j : ℕ). Fills (λ i. doubleOf (Answer i)) first j figures₀ figures) e (v .figures-are);
-            present-are = subst (λ (j : ℕ). Fills (λ i. byteOf (Answer i)) first j present₀ present) e (v .present-are);
+            written = subst (λ (j : ℕ). ColumnsFill fs first j cs₀ cs) e (v .written);
           }
 
       module _ (more : k < until) where
-        pub turn-row : RowIn r n starts ends k at
-        turn-row =
+        pub columns-row : RowIn r n starts ends k at
+        columns-row =
             let l = work-listed M t (can .workable) (v .working) more in
             record { same = can .workable .plan .same; listed = l; bounds = v .ahead l }
 
-        pub turn-there : RowThere k (length figures) (length present)
-        turn-there =
-            let l = turn-row .listed in
+        pub columns-have : AllThere k cs
+        columns-have =
+            let l = columns-row .listed in
             let h = can .workable .outputs-fit in
-            let x = v .figures-same in
-            let y = v .present-same in
-            record { in-figures = omega arith; in-present = omega arith }
+            columns-there k cs₀ cs (v .same) (omega arith)
+
+        pub columns-movable : Movable M t (at .start) (at .end) n (r .widest) w agg work
+        columns-movable = work-movable M t (can .workable) (v .working) more (columns-row .bounds .start-is) (columns-row .bounds .end-is)
+
+        module _ {w' : Window} {agg' : M .moment .State} {work' : List Float}
+            (q : Stepped M t (r .widest) (r .«min_periods») k (at .start) (at .end) w work w' agg' work')
+            (same : length work' ≡ length work) where
+          pub columns-fits : (M .inFront .width * w' .front ≤ length work') × (w' .front + w' .back ≤ 2 ^ 53) × (at .start ≤ at .end)
+          columns-fits = work-fits M t (can .workable) (v .working) more (columns-row .bounds .start-is) (columns-row .bounds .end-is) q same
+
+          -- the figure of a `finalize`
+          pub columns-answer : (final : M .moment .State → Figure) {f : Figure}
+              → f ≡ answerBy M final (t .places .mapped) (r .«min_periods») (at .start) (at .end) w' agg' work'
+              → f ≡ rowAnswer M final t n r starts ends k
+          columns-answer final g =
+              work-answer M t (can .workable) (v .working) more (columns-row .bounds .start-is) (columns-row .bounds .end-is) q same final g
+
+          pub columns-turn : {xs : List Figure} {cs' : List Column} {at' : Offsets} → xs ≡ rowOf fs k → RowsSet k xs cs cs' → Ahead p (k + 1) at'
+              → ColumnTurn w' agg' at' work' cs' (k + 1)
+          columns-turn {xs} {cs'} e o h =
+              record {
+                ahead = h;
+                working = work-next M t (can .workable) (v .working) more (columns-row .bounds .start-is) (columns-row .bounds .end-is) q same;
+                same = long-next k xs cs₀ cs cs' (v .same) o;
+                written = columns-next fs first k xs cs₀ cs cs' (v .written) e o;
+              }
+
+-- ---- of one figure
+module _ {A : Type 0} (M : Stored Float A) (final : M .moment .State → Figure) (t : Series A) (n : ℕ) (r : Rows) (starts ends : List ℕ)
+    (first until : ℕ) (work₀ figures₀ : List Float) (present₀ : List ℕ) where
+  abbrev fs : List (ℕ → Figure)
+  fs = (λ k. rowAnswer M final t n r starts ends k) ∷ []
+
+  abbrev cs₀ : List Column
+  cs₀ = column figures₀ present₀ ∷ []
+
+  abbrev pub Turn : Window → M .moment .State → Offsets → List Float → List Float → List ℕ → ℕ → Type 0
+  Turn w agg at work figures present k = ColumnTurn M t n r starts ends fs first until work₀ cs₀ w agg at work (column figures present ∷ []) k
+
+  module _ {w₀ : Window} {agg₀ : M .moment .State} {at₀ : Offsets}
+      (can : CanWork M t n r starts ends (min (length figures₀) (length present₀)) first until at₀ w₀ agg₀ work₀) where
+    pub turn-starts : Turn w₀ agg₀ at₀ work₀ figures₀ present₀ first
+    turn-starts = columns-start M t n r starts ends fs first until work₀ cs₀ can refl
+
+    module _ {w : Window} {agg : M .moment .State} {at : Offsets} {work figures : List Float} {present : List ℕ} {k : ℕ}
+        (v : Turn w agg at work figures present k) where
+      pub turn-done : until ≤ k → Works M final t n r starts ends first until work₀ figures₀ present₀ w agg work figures present
+      turn-done h = columns-done M t n r starts ends fs first until work₀ cs₀ can v h
+
+      module _ (more : k < until) where
+        pub turn-row : RowIn r n starts ends k at
+        turn-row = columns-row M t n r starts ends fs first until work₀ cs₀ can v more
+
+        pub turn-there : RowThere k (length figures) (length present)
+        turn-there = columns-have M t n r starts ends fs first until work₀ cs₀ can v more .0
 
         pub turn-movable : Movable M t (at .start) (at .end) n (r .widest) w agg work
-        turn-movable = work-movable M t (can .workable) (v .working) more (turn-row .bounds .start-is) (turn-row .bounds .end-is)
+        turn-movable = columns-movable M t n r starts ends fs first until work₀ cs₀ can v more
 
         module _ {w' : Window} {agg' : M .moment .State} {work' : List Float}
             (q : Stepped M t (r .widest) (r .«min_periods») k (at .start) (at .end) w work w' agg' work')
             (same : length work' ≡ length work) where
           pub turn-fits : (M .inFront .width * w' .front ≤ length work') × (w' .front + w' .back ≤ 2 ^ 53) × (at .start ≤ at .end)
-          turn-fits = work-fits M t (can .workable) (v .working) more (turn-row .bounds .start-is) (turn-row .bounds .end-is) q same
+          turn-fits = columns-fits M t n r starts ends fs first until work₀ cs₀ can v more q same
 
           pub turn-next : {f : Figure} {figures' : List Float} {present' : List ℕ} {at' : Offsets}
               → f ≡ answerBy M final (t .places .mapped) (r .«min_periods») (at .start) (at .end) w' agg' work'
-              → RowSet k f figures figures' present present' → Ahead p (k + 1) at' → Turn w' agg' at' work' figures' present' (k + 1)
-          turn-next {f} {figures'} {present'} g o h =
-              let b = turn-row .bounds in
-              let a = work-answer M t (can .workable) (v .working) more (b .start-is) (b .end-is) q same final g in
-              let x = v .figures-same in
-              let y = v .present-same in
-              record {
-                ahead = h;
-                working = work-next M t (can .workable) (v .working) more (b .start-is) (b .end-is) q same;
-                figures-same = ap length (o .figures-are) ∙ length-set figures k (doubleOf f) ∙ x;
-                present-same = ap length (o .present-are) ∙ length-set present k (byteOf f) ∙ y;
-                figures-are = fills-next (λ j. doubleOf (Answer j)) first k figures₀ figures figures' (doubleOf f) (v .figures-are)
-                    (ap doubleOf a) (o .figures-are);
-                present-are = fills-next (λ j. byteOf (Answer j)) first k present₀ present present' (byteOf f) (v .present-are)
-                    (ap byteOf a) (o .present-are);
-              }
+              → RowSet k f figures figures' present present' → Ahead (planBy r n starts ends) (k + 1) at' → Turn w' agg' at' work' figures' present' (k + 1)
+          turn-next {f} g o h =
+              let a = columns-answer M t n r starts ends fs first until work₀ cs₀ can v more q same final g in
+              columns-turn M t n r starts ends fs first until work₀ cs₀ can v more q same {xs = f ∷ []} (a then refl) (o, tt) h
 
 -- two lists of readings of one length have as many places as one of them
 pub within-both : {A : Type 0} (M : Stored Float A) (t : Series A) (xs ys : List Float) → length xs ≡ length ys
@@ -185,16 +212,10 @@ module _ {A : Type 0} (M : Stored Float A) (t : Series A) (n : ℕ) (r : Rows) (
   unfolding kept
   rows-kept v = rw (← d .wide-is) (v .rest)
 
-  module _ (final : M .moment .State → Figure) {until : ℕ} (u : until ≡ rows (planBy r n starts ends)) {figures₀ figures : List Float} {present₀ present : List ℕ} {w : Window} {agg : M .moment .State} {work : List Float}
-      (v : Works M final t n r starts ends 0 until work₀ figures₀ present₀ w agg work figures present) where
-    pub rows-figures : outputs ≤ length figures₀ → figures ≡ filled 0 (λ k. doubleOf (rowAnswer M final t n r starts ends k)) (rows (planBy r n starts ends)) figures₀
-    rows-figures h =
-        let o = d .outputs-fit in
-        fills-all (λ k. doubleOf (rowAnswer M final t n r starts ends k)) (rows (planBy r n starts ends)) figures₀ figures (omega arith)
-        (subst (λ (j : ℕ). Fills (λ k. doubleOf (rowAnswer M final t n r starts ends k)) 0 j figures₀ figures) u (v .figures-are))
-
-    pub rows-present : outputs ≤ length present₀ → present ≡ filled 0 (λ k. byteOf (rowAnswer M final t n r starts ends k)) (rows (planBy r n starts ends)) present₀
-    rows-present h =
-        let o = d .outputs-fit in
-        fills-all (λ k. byteOf (rowAnswer M final t n r starts ends k)) (rows (planBy r n starts ends)) present₀ present (omega arith)
-        (subst (λ (j : ℕ). Fills (λ k. byteOf (rowAnswer M final t n r starts ends k)) 0 j present₀ present) u (v .present-are))
+  -- the lists of every row function
+  pub rows-columns : (fs : List (ℕ → Figure)) {until : ℕ} → until ≡ rows (planBy r n starts ends) → {cs₀ cs : List Column} {w : Window}
+      {agg : M .moment .State} {work : List Float} → WorksColumns M t n r starts ends fs 0 until work₀ cs₀ w agg work cs
+      → outputs ≤ shortestOf (answerLengths cs₀) → cs ≡ answered 0 (rows (planBy r n starts ends)) fs cs₀
+  rows-columns fs {until} u {cs₀} {cs} v h =
+      let o = d .outputs-fit in
+      columns-all fs (rows (planBy r n starts ends)) cs₀ cs (omega arith) (subst (λ (j : ℕ). ColumnsFill fs 0 j cs₀ cs) u (v .written))

@@ -10,12 +10,12 @@ use lib.Ieee.{Float}
 use Rattle.float.specs.Operators.{_⊕_, one64, ofNat64}
 use Rattle.float.proofs.Counts.{zero-is}
 use Rattle.moment.specs.declared.Figure.the-variants.{Missing}
-use Rattle.moment.specs.Var.{varInserted}
 use Rattle.moment.specs.Skew.{skewInserted}
 use Rattle.moment.proofs.Weights.{raising, inserts-count, falls-count, var-raises, var-inserted, skew-raises, skew-inserted}
 use Rattle.window.specs.Places.{Series, entries}
 use Rattle.window.specs.Window.{front, back}
-use Rattle.window.specs.Readings.{series}
+use Rattle.trace.specs.Trace.{validAt}
+use Rattle.window.specs.Readings.{placesBy}
 use Rattle.window.specs.Code.Memory.{ReadingStates, ofReadings}
 use Rattle.window.specs.Code.Stacks.{account, Held, Flippable, Appendable}
 use Rattle.window.specs.declared.Window.{Window}
@@ -23,6 +23,9 @@ use Rattle.window.proofs.Places.{count-le}
 use Rattle.window.proofs.Moves.{front-many, back-many}
 use Rattle.window.proofs.Readings.{Flipping, Appending}
 use Rattle.window.proofs.Rows.{top-is}
+use Rattle.window.specs.Extremes.{lower, higher}
+use Rattle.window.specs.Code.Widening.{inserting, widened}
+use Rattle.rolling.specs.Code.Extremes.{extremesInserted}
 use Rattle.rolling.specs.Code.Layouts.{varStates, skewStates}
 use Rattle.rolling.specs.Code.Weighed.{varWeight, skewWeight, Weighed}
 
@@ -35,7 +38,19 @@ pub record Weighs (m : ReadingStates) : Type 0 where
   pub plain : (s : m .moment .State) (x : Float) (n : ℕ) → n < 2 ^ 53 → weight s ≡ ofNat64 n → inserted s x ≡ m .moment .insert s x
 
 abbrev pub var-weighs : Weighs varStates
-var-weighs = record { weight = varWeight; none = zero-is; raises = var-raises; inserted = varInserted; plain = var-inserted }
+var-weighs =
+    record {
+      weight = varWeight;
+      none = zero-is;
+      raises = λ s x. var-raises (s .var) (inserting x);
+      inserted = extremesInserted;
+      plain = λ s x n h e. λ j.
+          record {
+            var = var-inserted (s .var) (inserting x) n h e j;
+            lowest = widened lower (s .lowest) x;
+            highest = widened higher (s .highest) x;
+          };
+    }
 
 abbrev pub skew-weighs : Weighs skewStates
 skew-weighs = record { weight = skewWeight; none = zero-is; raises = skew-raises; inserted = skewInserted; plain = skew-inserted }
@@ -73,13 +88,13 @@ module _ (m : ReadingStates) (q : Weighs m) where
       q .plain agg x (length (drop j B)) (omega arith) (ap (q .weight) (f .agg-is) ∙ falls-count (q .weight) (m .moment .insert) (raising (q .weight) (m .moment .insert) (q .raises)) (drop j B) (m .moment .empty) (q .none) (omega arith))
 
   -- nor does a turn of an append
-  pub append-inserted : (has : Bool) (map : List ℕ) (values l₀ : List Float) (n nonfinite₀ : ℕ) (s₀ : m .moment .State) (a e : ℕ) {l : List Float} {many nonfinite : ℕ} {s : m .moment .State} {i : ℕ} →
-      Appending m has map values l₀ n nonfinite₀ s₀ a e l many nonfinite s i → i < e → Appendable (ofReadings m) (series has map values) a e (length values) n nonfinite₀ l₀ → q .weight s₀ ≡ ofNat64 n →
+  pub append-inserted : (has : Bool) (map : List ℕ) (values : List Float) (entry : ℕ → Float) (l₀ : List Float) (n nonfinite₀ : ℕ) (s₀ : m .moment .State) (a e : ℕ) {l : List Float} {many nonfinite : ℕ} {s : m .moment .State} {i : ℕ} →
+      Appending m has map values entry l₀ n nonfinite₀ s₀ a e l many nonfinite s i → i < e
+      → Appendable (ofReadings m) (record { places = placesBy has map values; entry = entry }) a e (length values) n nonfinite₀ l₀ → q .weight s₀ ≡ ofNat64 n →
       (x : Float) → q .inserted s x ≡ m .moment .insert s x
-  append-inserted has map values l₀ n nonfinite₀ s₀ a e {s = s} {i = i} f more can w x =
-      let t = series has map values in
-      let l = entries (t .places .valid) (t .entry) a i in
-      let k = count-le (t .places .valid) (t .entry) a i in
+  append-inserted has map values entry l₀ n nonfinite₀ s₀ a e {s = s} {i = i} f more can w x =
+      let l = entries (validAt has map) entry a i in
+      let k = count-le (validAt has map) entry a i in
       let h = can .few in
       let g = can .many-le in
       let low = f .low in

@@ -3,7 +3,7 @@
 use Prim.Native.Nat.{ℕ}
 use mathlib.Core.Path.{_≡_}
 use mathlib.Core.Bool.{Bool, false}
-use mathlib.Core.List.{List, [], _∷_}
+use mathlib.Core.List.{List, [], _∷_, _++_}
 use lib.ListN.{length}
 use lib.Ieee.{Float}
 use Rattle.trace.specs.Slices.{Slice, entering, leaving}
@@ -14,8 +14,9 @@ use Rattle.window.specs.Places.{Series}
 use Rattle.window.specs.Window.{Moment}
 use Rattle.window.specs.Given.{Given, seriesOf, placesOf, givenRefusal}
 use Rattle.window.specs.Rows.{answerAt}
-use Rattle.window.specs.Outputs.{Outputs, Lent, column, outputsOf, kept, answered, numbered, shortestOutput}
-use Rattle.rolling.specs.Moments.{Statistic, kindOf, momentOf, finalsOf, workWidth}
+use Rattle.window.specs.Extremes.{lower, higher, extremeAt}
+use Rattle.window.specs.Outputs.{Column, Outputs, Lent, column, outputsOf, kept, answered, numbered, shortestOutput}
+use Rattle.rolling.specs.Moments.{Statistic, Variance, Skewness, Kurtosis, Covariance, Correlation, kindOf, momentOf, finalsOf, workWidth}
 
 -- a plan, which figure, and a setting: "the minimum that Rows tests and what the figure's `finalize` takes beside the state"
 pub record Query : Type 0 where
@@ -36,9 +37,21 @@ abbrev pub figuresBy : {A : Type 0} → (M : Moment A) → List (M .State → Fi
 figuresBy M [] t minPeriods p = []
 figuresBy M (final ∷ finals) t minPeriods p = (λ k. answerAt M final t minPeriods p k) ∷ figuresBy M finals t minPeriods p
 
--- a row's answers: what the split account yields of the plan, the map, the readings, the figure and the setting, "nothing else"
+-- Document 02, request 4: "Rolling variance without weights shall also give .. the lowest and highest finite valid reading of the window"
+abbrev pub extremesBy : (a : Statistic) → Given (kindOf a) → ℕ → Plan → List (ℕ → Figure)
+extremesBy (Variance ddof) t minPeriods p = (λ k. extremeAt lower t minPeriods p k) ∷ (λ k. extremeAt higher t minPeriods p k) ∷ []
+extremesBy (Skewness bias) t minPeriods p = []
+extremesBy (Kurtosis fisher bias) t minPeriods p = []
+extremesBy (Covariance ddof) t minPeriods p = []
+extremesBy Correlation t minPeriods p = []
+
+-- a row's figures: what the split account yields of the plan, the map, the readings, the figure and the setting, "nothing else"
+abbrev pub figuresOf : (q : Query) → GivenTo q → List (ℕ → Figure)
+figuresOf q t = figuresBy (momentOf (q .statistic)) (finalsOf (q .statistic)) (seriesOf (kindOf (q .statistic)) t) (q .minPeriods) (q .plan)
+
+-- a row's answers: its figures, and behind a variance its lowest and highest reading
 abbrev pub yields : (q : Query) → GivenTo q → List (ℕ → Figure)
-yields q t = figuresBy (momentOf (q .statistic)) (finalsOf (q .statistic)) (seriesOf (kindOf (q .statistic)) t) (q .minPeriods) (q .plan)
+yields q t = figuresOf q t ++ extremesBy (q .statistic) t (q .minPeriods) (q .plan)
 
 -- a row's counts: no call gives any yet
 abbrev pub tallies : (q : Query) → GivenTo q → List (ℕ → ℕ)
@@ -76,12 +89,30 @@ pub record Called (q : Query) (t : GivenTo q) (l₀ l₁ : Lent) (number : ℕ) 
 abbrev pub querying : Slice ℕ → Slice ℕ → ℕ → Statistic → Query
 querying starts ends minPeriods statistic = query (planning starts ends) minPeriods statistic
 
--- what is lent, before and after: the work slice, then the two lists of a figure
-abbrev pub lending : Slice Float → Slice Float → Slice ℕ → Lent × Lent
-lending work figures present = (
-  record { outputs = outputsOf (column (entering figures) (entering present) ∷ []) []; work = entering work },
-  record { outputs = outputsOf (column (leaving figures) (leaving present) ∷ []) []; work = leaving work },
+-- the columns that lists of doubles and bytes are, before and after
+abbrev pub columnsBefore : List (Slice Float × Slice ℕ) → List Column
+columnsBefore [] = []
+columnsBefore (c ∷ cs) = column (entering (c .0)) (entering (c .1)) ∷ columnsBefore cs
+
+abbrev pub columnsAfter : List (Slice Float × Slice ℕ) → List Column
+columnsAfter [] = []
+columnsAfter (c ∷ cs) = column (leaving (c .0)) (leaving (c .1)) ∷ columnsAfter cs
+
+-- what is lent, before and after: the work slice, then the two lists of each figure
+abbrev pub lendingAll : Slice Float → List (Slice Float × Slice ℕ) → Lent × Lent
+lendingAll work cs = (
+  record { outputs = outputsOf (columnsBefore cs) []; work = entering work },
+  record { outputs = outputsOf (columnsAfter cs) []; work = leaving work },
 )
+
+-- of one figure
+abbrev pub lending : Slice Float → Slice Float → Slice ℕ → Lent × Lent
+lending work figures present = lendingAll work ((figures, present) ∷ [])
+
+-- of a variance, its lowest and its highest reading
+abbrev pub lendingThree : Slice Float → Slice Float → Slice ℕ → Slice Float → Slice ℕ → Slice Float → Slice ℕ → Lent × Lent
+lendingThree work figures present lowest lowestPresent highest highestPresent =
+    lendingAll work ((figures, present) ∷ (lowest, lowestPresent) ∷ (highest, highestPresent) ∷ [])
 
 -- a plan call
 abbrev pub Calls : (q : Query) → GivenTo q → Lent × Lent → ℕ → Type 0

@@ -81,9 +81,10 @@ finalsOf (Kurtosis fisher bias) = (λ s. kurtosisFinalize s fisher bias) ∷ []
 finalsOf (Covariance ddof) = (λ s. covFinalize s ddof) ∷ []
 finalsOf Correlation = correlationFinalize ∷ []
 
--- Work slice: "for variance 4, skewness 5, kurtosis 6 doubles", and "6 doubles for covariance and 8 for correlation"
+-- Work slice: "skewness 5, kurtosis 6 doubles", "6 doubles for covariance and 8 for correlation", and of request 4 "work becomes 6 doubles a
+-- place for variance"
 abbrev pub workWidth : Statistic → ℕ
-workWidth (Variance ddof) = 4
+workWidth (Variance ddof) = 6
 workWidth (Skewness bias) = 5
 workWidth (Kurtosis fisher bias) = 6
 workWidth (Covariance ddof) = 6

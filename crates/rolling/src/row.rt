@@ -5,6 +5,7 @@ ghost use Prim.Native.Nat.{_+_, _-_, _≤_};
 ghost use lib.Dec.{leb};
 ghost use lib.ListN.{length};
 ghost use Rattle.window.specs.Rows.{moves};
+ghost use Rattle.window.specs.Extremes.{shortRow};
 ghost use Rattle.window.specs.Code.Filling.{RowThere, SetsRow};
 ghost use Rattle.plan.specs.Plan.{planning};
 ghost use Rattle.rolling.specs.Code.Rows.{SameMany, RowIn, RowBounds, RowAt};
@@ -85,6 +86,17 @@ pub(crate) fn moves(has_map: bool, min_periods: usize, row: usize, start: usize,
         return true;
     }
     row == 0
+}
+
+// Whether a row is short without a map: it then shows no lowest and no highest reading.
+pub(crate) fn is_short(has_map: bool, min_periods: usize, start: usize, end: usize) -> bool
+    requires { ⌜ start ≤ end ⌝ }
+    ensures { λ r. ⌜ r ≡ shortRow «has_map» «min_periods» start end ⌝ }
+{
+    if has_map {
+        return false;
+    }
+    end - start < min_periods
 }
 
 // 001's `is_valid` with a map, of a window with so many valid places; 002's test of the row's length without one.

@@ -1,23 +1,25 @@
-// Variance over moving windows: 001's `VarianceMoment` and `MomentWindow` over it. The two stacks lie in the work slice, states
-// of the front stack from its beginning, readings of the back stack from `base` on.
+// Variance over moving windows, with the lowest and the highest reading: 001's `VarianceMoment` and `MomentWindow` over it. The two stacks
+// lie in the work slice, states of the front stack from its beginning, readings of the back stack, as they are, from `base` on.
 ghost use mathlib.Core.Path.{_≡_};
 ghost use Prim.Native.Nat.{_*_, _≤_, min};
 ghost use lib.ListN.{length};
 ghost use Rattle.float.specs.Operators.{ofNat64};
 ghost use Rattle.trace.specs.Trace.{tracing};
-ghost use Rattle.moment.specs.Var.{varEmpty, varCombine, varFinalize};
-ghost use Rattle.window.specs.Window.{orNan};
-ghost use Rattle.window.specs.Code.Stacks.{answerBy};
+ghost use Rattle.moment.specs.Var.{varFinalize};
 ghost use Rattle.trace.specs.Slices.{entering, leaving};
-ghost use Rattle.window.specs.Readings.{series};
+ghost use Rattle.window.specs.Code.Widening.{rawSeries};
+ghost use Rattle.window.specs.Code.Stacks.{answerFrom, stateBy};
 ghost use Rattle.window.specs.Code.Stacks.{Flippable, Flipped, Appendable, Appended, topOf};
 ghost use Rattle.window.specs.Code.Stacks.{Trimmable, Trimmed, Extendable, Extended, Movable, Updated, Stepped};
 ghost use Rattle.rolling.specs.Moments.{Variance};
-ghost use Rattle.rolling.specs.Calls.{querying, lending, Calls};
+ghost use Rattle.rolling.specs.Calls.{querying, lendingThree, yields, Calls};
 ghost use Rattle.rolling.specs.Fixed.{CallsFixed};
+ghost use Rattle.rolling.specs.Code.Extremes.{noExtremes};
 ghost use Rattle.rolling.specs.Code.Layouts.{varStates, varStored};
 ghost use Rattle.rolling.specs.Code.Weighed.{varWeight, Weighed};
-ghost use Rattle.rolling.specs.Code.Rows.{seriesIn, drivenQuery, Leaves, Driven, CanWork, Works};
+ghost use Rattle.rolling.specs.Code.Rows.{rawSeriesIn, shortestThree, drivenQuery, Leaves, Driven, CanWork, WorksLent, Testable};
+use crate::extremes;
+use crate::extremes::VarExtremes;
 use crate::leaving;
 use crate::row;
 use crate::row::Rows;
@@ -33,28 +35,28 @@ pub struct VarianceMoment {
 // A window with the state of its back part.
 pub struct VarWindow {
     pub window: Window,
-    pub agg_back: VarState,
+    pub agg_back: VarExtremes,
 }
 
 // The back stack grown: how many readings stand in it, how many in the window are not finite, and its state.
 pub struct VarAppended {
     pub back: usize,
     pub nonfinite: usize,
-    pub agg_back: VarState,
+    pub agg_back: VarExtremes,
 }
 
 impl VarianceMoment {
     // Doubles of a state on the front stack, of an entry on the back stack, and of a place of the window in both.
-    const STATE: usize = 3;
+    const STATE: usize = 5;
 
     const ENTRY: usize = 1;
 
     pub const PLACE: usize = VarianceMoment::STATE + VarianceMoment::ENTRY;
 
-    fn empty() -> VarState
-        ensures { λ r. ⌜ r ≡ varEmpty ⌝ }
+    fn empty() -> VarExtremes
+        ensures { λ r. ⌜ r ≡ noExtremes ⌝ }
     {
-        VarState::default()
+        VarExtremes::empty()
     }
 
     // The n readings of the back stack become the front stack, the last of them at its bottom. The weight counts them, so that
@@ -69,9 +71,11 @@ impl VarianceMoment {
         while 0 < j {
             j -= 1;
             agg = agg.inserted(work[base + j]);
-            work[at] = agg.weight;
-            work[at + 1] = agg.mean;
-            work[at + 2] = agg.dp;
+            work[at] = agg.var.weight;
+            work[at + 1] = agg.var.mean;
+            work[at + 2] = agg.var.dp;
+            work[at + 3] = agg.lowest;
+            work[at + 4] = agg.highest;
             at += VarianceMoment::STATE;
         }
     }
@@ -86,11 +90,11 @@ impl VarianceMoment {
         a: usize,
         b: usize,
         nonfinite: usize,
-        agg_back: VarState,
+        agg_back: VarExtremes,
     ) -> VarAppended
-        requires { ⌜ Appendable varStored (series «has_map» (now map) (now values)) a b (length (now values)) n nonfinite (now back) ⌝ }
-        requires { ⌜ «agg_back» .weight ≡ ofNat64 n ⌝ }
-        ensures { λ q. ⌜ Appended varStored (seriesIn «has_map» map values) (entering back) n nonfinite «agg_back» a b
+        requires { ⌜ Appendable varStored (rawSeries «has_map» (now map) (now values)) a b (length (now values)) n nonfinite (now back) ⌝ }
+        requires { ⌜ varWeight «agg_back» ≡ ofNat64 n ⌝ }
+        ensures { λ q. ⌜ Appended varStored (rawSeriesIn «has_map» map values) (entering back) n nonfinite «agg_back» a b
             (leaving back) (q .back) (q .nonfinite) (q .«agg_back») ⌝ }
     {
         let mut state = agg_back;
@@ -100,14 +104,9 @@ impl VarianceMoment {
         while i < b {
             if trace::valid(has_map, map, i) {
                 let x = values[i];
-                if float::is_finite(x) {
-                    back[at] = x;
-                    state = state.inserted(x);
-                } else {
-                    back[at] = 0.0;
-                    state = state.inserted(0.0);
-                    count += 1;
-                }
+                back[at] = x;
+                state = state.inserted(x);
+                count += !float::is_finite(x) as usize;
                 at += 1;
             }
             i += 1;
@@ -120,18 +119,22 @@ impl VarianceMoment {
     }
 
     // The state on the top of the front stack's n, or the empty one.
-    fn last(work: &[f64], n: usize) -> VarState
-        requires { ⌜ 3 * n ≤ length (now work) ⌝ }
+    fn last(work: &[f64], n: usize) -> VarExtremes
+        requires { ⌜ 5 * n ≤ length (now work) ⌝ }
         ensures { λ r. ⌜ r ≡ topOf varStored (entering work) n ⌝ }
     {
         if n == 0 {
             return VarianceMoment::empty();
         }
         let at = VarianceMoment::STATE * (n - 1);
-        VarState {
-            weight: work[at],
-            mean: work[at + 1],
-            dp: work[at + 2],
+        VarExtremes {
+            var: VarState {
+                weight: work[at],
+                mean: work[at + 1],
+                dp: work[at + 2],
+            },
+            lowest: work[at + 3],
+            highest: work[at + 4],
         }
     }
 
@@ -145,9 +148,9 @@ impl VarianceMoment {
         w: VarWindow,
         start: usize,
     ) -> VarWindow
-        requires { ⌜ Trimmable varStored (series «has_map» (now map) (now values)) base start (length (now values))
+        requires { ⌜ Trimmable varStored (rawSeries «has_map» (now map) (now values)) base start (length (now values))
             (w .window) (w .«agg_back») (now work) ⌝ }
-        ensures { λ q. ⌜ Trimmed varStored (seriesIn «has_map» map values) base start (w .window) (entering work)
+        ensures { λ q. ⌜ Trimmed varStored (rawSeriesIn «has_map» map values) base start (w .window) (entering work)
             (q .window) (q .«agg_back») (leaving work) ⌝ }
     {
         let window = w.window;
@@ -186,9 +189,9 @@ impl VarianceMoment {
         w: VarWindow,
         end: usize,
     ) -> VarWindow
-        requires { ⌜ Extendable varStored (series «has_map» (now map) (now values)) base widest end (length (now values))
+        requires { ⌜ Extendable varStored (rawSeries «has_map» (now map) (now values)) base widest end (length (now values))
             (w .window) (w .«agg_back») (now work) ⌝ }
-        ensures { λ q. ⌜ Extended varStored (seriesIn «has_map» map values) base widest end (w .window) (entering work)
+        ensures { λ q. ⌜ Extended varStored (rawSeriesIn «has_map» map values) base widest end (w .window) (entering work)
             (q .window) (q .«agg_back») (leaving work) ⌝ }
     {
         let window = w.window;
@@ -222,9 +225,9 @@ impl VarianceMoment {
         start: usize,
         end: usize,
     ) -> VarWindow
-        requires { ⌜ Movable varStored (series «has_map» (now map) (now values)) start end (length (now values)) widest
+        requires { ⌜ Movable varStored (rawSeries «has_map» (now map) (now values)) start end (length (now values)) widest
             (w .window) (w .«agg_back») (now work) ⌝ }
-        ensures { λ q. ⌜ Updated varStored (seriesIn «has_map» map values) widest start end (w .window) (entering work)
+        ensures { λ q. ⌜ Updated varStored (rawSeriesIn «has_map» map values) widest start end (w .window) (entering work)
             (q .window) (q .«agg_back») (leaving work) ⌝ }
     {
         let base = VarianceMoment::STATE * widest;
@@ -244,9 +247,9 @@ impl VarianceMoment {
         start: usize,
         end: usize,
     ) -> VarWindow
-        requires { ⌜ Movable varStored (series «has_map» (now map) (now values)) start end (length (now values)) (rows .widest)
+        requires { ⌜ Movable varStored (rawSeries «has_map» (now map) (now values)) start end (length (now values)) (rows .widest)
             (w .window) (w .«agg_back») (now work) ⌝ }
-        ensures { λ q. ⌜ Stepped varStored (seriesIn «has_map» map values) (rows .widest) (rows .«min_periods») row start end
+        ensures { λ q. ⌜ Stepped varStored (rawSeriesIn «has_map» map values) (rows .widest) (rows .«min_periods») row start end
             (w .window) (entering work) (q .window) (q .«agg_back») (leaving work) ⌝ }
     {
         if row::moves(has_map, rows.min_periods, row, start, end) {
@@ -256,9 +259,9 @@ impl VarianceMoment {
     }
 
     // The back state combined with the front state. The count tells whether the front state's weight is zero.
-    fn total(work: &[f64], w: VarWindow) -> VarState
+    fn total(work: &[f64], w: VarWindow) -> VarExtremes
         requires { ⌜ Weighed varStates varWeight (w .window) (w .«agg_back») (now work) ⌝ }
-        ensures { λ r. ⌜ r ≡ varCombine (w .«agg_back») (topOf varStored (entering work) (w .window .front)) ⌝ }
+        ensures { λ r. ⌜ r ≡ stateBy varStored (w .window) (w .«agg_back») (entering work) ⌝ }
     {
         let agg_back = w.agg_back;
         if w.window.front == 0 {
@@ -268,34 +271,23 @@ impl VarianceMoment {
         agg_back.merged(top)
     }
 
-    // 001's `get_moment`.
-    fn get_moment(self, work: &[f64], w: VarWindow) -> Figure
-        requires { ⌜ Weighed varStates varWeight (w .window) (w .«agg_back») (now work) ⌝ }
-        ensures { λ r. ⌜ r ≡ orNan (w .window .nonfinite)
-            (varFinalize (varCombine (w .«agg_back») (topOf varStored (entering work) (w .window .front))) (self .ddof)) ⌝ }
-    {
-        let state = VarianceMoment::total(work, w);
-        window::or_nan(state.finalize(self.ddof), w.window.nonfinite)
-    }
-
-    // The row's answer, of the window after its step.
+    // 001's `get_moment` and the test of the minimum: the row's answer, of the window after its step and the state of its two parts.
     fn answer(
         self,
-        work: &[f64],
-        w: VarWindow,
+        state: VarExtremes,
+        w: Window,
         has_map: bool,
         min_periods: usize,
         start: usize,
         end: usize,
     ) -> Figure
-        requires { ⌜ Weighed varStates varWeight (w .window) (w .«agg_back») (now work) ⌝ }
-        requires { ⌜ start ≤ end ⌝ }
-        ensures { λ r. ⌜ r ≡ answerBy varStored (λ z. varFinalize z (self .ddof)) «has_map» «min_periods» start end
-            (w .window) (w .«agg_back») (entering work) ⌝ }
+        requires { ⌜ Testable w start end ⌝ }
+        ensures { λ r. ⌜ r ≡ answerFrom (λ z. varFinalize (z .var) (self .ddof)) «has_map» «min_periods» start end w state ⌝ }
     {
-        let valid = w.window.front + w.window.back;
+        let valid = w.front + w.back;
         if row::is_valid(has_map, min_periods, valid, start, end) {
-            return self.get_moment(work, w);
+            let var = state.var;
+            return window::or_nan(var.finalize(self.ddof), w.nonfinite);
         }
         Figure::Missing
     }
@@ -313,16 +305,21 @@ impl VarianceMoment {
         work: &mut [f64],
         figures: &mut [f64],
         present: &mut [u8],
+        lowest: &mut [f64],
+        lowest_present: &mut [u8],
+        highest: &mut [f64],
+        highest_present: &mut [u8],
         opening: VarWindow,
         at: Offsets,
         first: usize,
         until: usize,
     ) -> VarWindow
-        requires { ⌜ CanWork varStored (series «has_map» (now map) (now values)) (length (now values)) rows (now starts) (now ends)
-            (min (length (now figures)) (length (now present))) first until at (opening .window) (opening .«agg_back») (now work) ⌝ }
-        ensures { λ q. ⌜ Works varStored (λ z. varFinalize z (self .ddof)) (seriesIn «has_map» map values) (length (entering values))
-            rows (entering starts) (entering ends) first until (entering work) (entering figures) (entering present)
-            (q .window) (q .«agg_back») (leaving work) (leaving figures) (leaving present) ⌝ }
+        requires { ⌜ CanWork varStored (rawSeries «has_map» (now map) (now values)) (length (now values)) rows (now starts) (now ends)
+            (shortestThree (now figures) (now present) (now lowest) (now «lowest_present») (now highest) (now «highest_present»))
+            first until at (opening .window) (opening .«agg_back») (now work) ⌝ }
+        ensures { λ q. ⌜ WorksLent varStored (rawSeriesIn «has_map» map values) (length (entering values)) rows (entering starts) (entering ends)
+            (yields (drivenQuery rows values starts ends (Variance (self .ddof))) (tracing values «has_map» map)) first until
+            (lendingThree work figures present lowest «lowest_present» highest «highest_present») (q .window) (q .«agg_back») ⌝ }
     {
         let mut w = opening;
         let mut next = at;
@@ -331,8 +328,22 @@ impl VarianceMoment {
             let at = next;
             next = row::next(rows, values.len(), starts, ends, row, at);
             w = VarianceMoment::step(work, rows, values, has_map, map, w, row, at.start, at.end);
-            let figure = self.answer(work, w, has_map, rows.min_periods, at.start, at.end);
+            let state = VarianceMoment::total(work, w);
+            let figure = self.answer(state, w.window, has_map, rows.min_periods, at.start, at.end);
             row::write(figures, present, row, figure);
+            let short = row::is_short(has_map, rows.min_periods, at.start, at.end);
+            row::write(
+                lowest,
+                lowest_present,
+                row,
+                extremes::extreme(state.lowest, short),
+            );
+            row::write(
+                highest,
+                highest_present,
+                row,
+                extremes::extreme(state.highest, short),
+            );
             row += 1;
         }
         w
@@ -350,11 +361,16 @@ impl VarianceMoment {
         work: &mut [f64],
         figures: &mut [f64],
         present: &mut [u8],
+        lowest: &mut [f64],
+        lowest_present: &mut [u8],
+        highest: &mut [f64],
+        highest_present: &mut [u8],
     )
-        requires { ⌜ Driven rows (length (now values)) (now starts) (now ends) (min (length (now figures)) (length (now present)))
-            4 (length (now work)) ⌝ }
+        requires { ⌜ Driven rows (length (now values)) (now starts) (now ends)
+            (shortestThree (now figures) (now present) (now lowest) (now «lowest_present») (now highest) (now «highest_present»))
+            6 (length (now work)) ⌝ }
         ensures { λ _. ⌜ Leaves (drivenQuery rows values starts ends (Variance (self .ddof))) (tracing values «has_map» map)
-            (lending work figures present) ⌝ }
+            (lendingThree work figures present lowest «lowest_present» highest «highest_present») ⌝ }
     {
         let opening = VarWindow {
             window: Window::empty_at(0),
@@ -372,6 +388,10 @@ impl VarianceMoment {
             work,
             figures,
             present,
+            lowest,
+            lowest_present,
+            highest,
+            highest_present,
             opening,
             at,
             0,
@@ -380,7 +400,23 @@ impl VarianceMoment {
     }
 }
 
-// Rolling variance over a plan.
+// The length of the shortest of three figures' lists.
+fn shortest(
+    figures: usize,
+    present: usize,
+    lowest: usize,
+    lowest_present: usize,
+    highest: usize,
+    highest_present: usize,
+) -> usize
+    ensures { λ r. ⌜ r ≡ min (min (min (min (min figures present) lowest) «lowest_present») highest) «highest_present» ⌝ }
+{
+    let two = plan::shorter(figures, present);
+    let four = plan::shorter(plan::shorter(two, lowest), lowest_present);
+    plan::shorter(plan::shorter(four, highest), highest_present)
+}
+
+// Rolling variance over a plan, with the lowest and the highest finite valid reading of each row's window.
 pub fn plan_var(
     values: &[f64],
     has_map: bool,
@@ -392,9 +428,13 @@ pub fn plan_var(
     work: &mut [f64],
     figures: &mut [f64],
     present: &mut [u8],
+    lowest: &mut [f64],
+    lowest_present: &mut [u8],
+    highest: &mut [f64],
+    highest_present: &mut [u8],
 ) -> u32
     ensures { λ r. ⌜ Calls (querying starts ends «min_periods» (Variance ddof)) (tracing values «has_map» map)
-        (lending work figures present) r ⌝ }
+        (lendingThree work figures present lowest «lowest_present» highest «highest_present») r ⌝ }
 {
     let checked = plan::plan_refusal(
         trace::array_refusal(values.len(), has_map, map),
@@ -402,7 +442,14 @@ pub fn plan_var(
         ends,
         values.len(),
         false,
-        plan::shorter(figures.len(), present.len()),
+        shortest(
+            figures.len(),
+            present.len(),
+            lowest.len(),
+            lowest_present.len(),
+            highest.len(),
+            highest_present.len(),
+        ),
         VarianceMoment::PLACE,
         work.len(),
     );
@@ -427,11 +474,15 @@ pub fn plan_var(
         work,
         figures,
         present,
+        lowest,
+        lowest_present,
+        highest,
+        highest_present,
     );
     0
 }
 
-// Rolling variance over fixed windows: 004's and 005's `rolling_var`.
+// Rolling variance over fixed windows: 004's and 005's `rolling_var`, with the lowest and the highest reading of each window.
 pub fn rolling_var(
     values: &[f64],
     has_map: bool,
@@ -443,15 +494,26 @@ pub fn rolling_var(
     work: &mut [f64],
     figures: &mut [f64],
     present: &mut [u8],
+    lowest: &mut [f64],
+    lowest_present: &mut [u8],
+    highest: &mut [f64],
+    highest_present: &mut [u8],
 ) -> u32
     ensures { λ r. ⌜ CallsFixed center «window_size» «min_periods» (Variance ddof) (tracing values «has_map» map)
-        (lending work figures present) r ⌝ }
+        (lendingThree work figures present lowest «lowest_present» highest «highest_present») r ⌝ }
 {
     let checked = plan::fixed_refusal(
         trace::array_refusal(values.len(), has_map, map),
         values.len(),
         window_size,
-        plan::shorter(figures.len(), present.len()),
+        shortest(
+            figures.len(),
+            present.len(),
+            lowest.len(),
+            lowest_present.len(),
+            highest.len(),
+            highest_present.len(),
+        ),
         VarianceMoment::PLACE,
         work.len(),
     );
@@ -480,6 +542,10 @@ pub fn rolling_var(
         work,
         figures,
         present,
+        lowest,
+        lowest_present,
+        highest,
+        highest_present,
     );
     0
 }

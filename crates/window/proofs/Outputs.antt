@@ -107,11 +107,10 @@ pub columns-none : (fs : List (ℕ → Figure)) (k : ℕ) (cs : List Column) →
 columns-none [] k [] e = tt
 columns-none [] k (c ∷ cs) e = absurd (omega arith)
 columns-none (f ∷ fs) k [] e = absurd (omega arith)
-columns-none (f ∷ fs) k (c ∷ cs) e =
-    (
-      record { doubles-are = fills-none (λ j. doubleOf (f j)) k (c .doubles); bytes-are = fills-none (λ j. byteOf (f j)) k (c .bytes) },
-      columns-none fs k cs (omega arith),
-    )
+columns-none (f ∷ fs) k (c ∷ cs) e = (
+  record { doubles-are = fills-none (λ j. doubleOf (f j)) k (c .doubles); bytes-are = fills-none (λ j. byteOf (f j)) k (c .bytes) },
+  columns-none fs k cs (omega arith),
+)
 
 pub columns-next : (fs : List (ℕ → Figure)) (first k : ℕ) (xs : List Figure) (cs₀ cs cs' : List Column) → ColumnsFill fs first k cs₀ cs
     → xs ≡ rowOf fs k → RowsSet k xs cs cs' → ColumnsFill fs first (k + 1) cs₀ cs'
@@ -120,16 +119,15 @@ columns-next fs first k xs cs₀ cs cs' v e o = go fs cs₀ cs cs' v (subst (λ 
     go : (fs : List (ℕ → Figure)) (cs₀ cs cs' : List Column) → ColumnsFill fs first k cs₀ cs → RowsSet k (rowOf fs k) cs cs'
         → ColumnsFill fs first (k + 1) cs₀ cs'
     go [] [] [] [] v o = tt
-    go (f ∷ fs) (c₀ ∷ cs₀) (c ∷ cs) (c' ∷ cs') v o =
-        (
-          record {
-            doubles-are = fills-next (λ j. doubleOf (f j)) first k (c₀ .doubles) (c .doubles) (c' .doubles) (doubleOf (f k)) (v .0 .doubles-are) refl
-                (o .0 .figures-are);
-            bytes-are = fills-next (λ j. byteOf (f j)) first k (c₀ .bytes) (c .bytes) (c' .bytes) (byteOf (f k)) (v .0 .bytes-are) refl
-                (o .0 .present-are);
-          },
-          go fs cs₀ cs cs' (v .1) (o .1),
-        )
+    go (f ∷ fs) (c₀ ∷ cs₀) (c ∷ cs) (c' ∷ cs') v o = (
+      record {
+        doubles-are = fills-next (λ j. doubleOf (f j)) first k (c₀ .doubles) (c .doubles) (c' .doubles) (doubleOf (f k)) (v .0 .doubles-are) refl
+            (o .0 .figures-are);
+        bytes-are = fills-next (λ j. byteOf (f j)) first k (c₀ .bytes) (c .bytes) (c' .bytes) (byteOf (f k)) (v .0 .bytes-are) refl
+            (o .0 .present-are);
+      },
+      go fs cs₀ cs cs' (v .1) (o .1),
+    )
     go [] [] [] (c' ∷ cs') v o = absurd o
     go [] [] (c ∷ cs) cs' v o = absurd v
     go [] (c₀ ∷ cs₀) cs cs' v o = absurd v
@@ -144,14 +142,13 @@ long-same (c ∷ cs) = (record { doubles = refl; bytes = refl }, long-same cs)
 
 pub long-next : (k : ℕ) (xs : List Figure) (cs₀ cs cs' : List Column) → AllSameLong cs₀ cs → RowsSet k xs cs cs' → AllSameLong cs₀ cs'
 long-next k [] [] [] [] v o = tt
-long-next k (x ∷ xs) (c₀ ∷ cs₀) (c ∷ cs) (c' ∷ cs') v o =
-    (
-      record {
-        doubles = ap length (o .0 .figures-are) ∙ length-set (c .doubles) k (doubleOf x) ∙ v .0 .doubles;
-        bytes = ap length (o .0 .present-are) ∙ length-set (c .bytes) k (byteOf x) ∙ v .0 .bytes;
-      },
-      long-next k xs cs₀ cs cs' (v .1) (o .1),
-    )
+long-next k (x ∷ xs) (c₀ ∷ cs₀) (c ∷ cs) (c' ∷ cs') v o = (
+  record {
+    doubles = ap length (o .0 .figures-are) ∙ length-set (c .doubles) k (doubleOf x) ∙ v .0 .doubles;
+    bytes = ap length (o .0 .present-are) ∙ length-set (c .bytes) k (byteOf x) ∙ v .0 .bytes;
+  },
+  long-next k xs cs₀ cs cs' (v .1) (o .1),
+)
 long-next k [] [] [] (c' ∷ cs') v o = absurd o
 long-next k [] [] (c ∷ cs) cs' v o = absurd v
 long-next k [] (c₀ ∷ cs₀) [] cs' v o = absurd v

@@ -1,22 +1,29 @@
--- How the states of the moments lie on the front stack: their members in the source's order. Assumes nothing.
+-- How the states of the moments lie on the front stack: their members in the source's order, and of variance the lowest and highest
+-- reading behind them. Assumes nothing.
 use mathlib.Core.Path.{refl}
 use mathlib.Core.List.{[], _∷_}
 use lib.ListN.{getD}
 use lib.Ieee.{Float, nan}
-use Rattle.moment.specs.declared.var_state.VarState.{VarState}
 use Rattle.moment.specs.declared.skew_state.SkewState.{SkewState}
 use Rattle.moment.specs.declared.kurtosis_state.KurtosisState.{KurtosisState}
 use Rattle.moment.specs.declared.cov_state.CovState.{CovState}
 use Rattle.moment.specs.declared.pearson_state.PearsonState.{PearsonState}
 use Rattle.window.specs.Code.Memory.{Layout, Stored, ReadingStates, ofReadings, PairStates, ofPairs}
-use Rattle.rolling.specs.Moments.{variance, skewness, kurtosis, covariance, correlation}
+use Rattle.rolling.specs.Moments.{skewness, kurtosis, covariance, correlation}
+use Rattle.rolling.specs.Code.Extremes.{varianceExtremes}
+use Rattle.rolling.specs.declared.extremes.VarExtremes.{VarExtremes}
 
-abbrev pub varLayout : Layout Float VarState
+abbrev pub varLayout : Layout Float VarExtremes
 varLayout =
     record {
-      width = 3;
-      store = λ s. s .weight ∷ s .mean ∷ s .dp ∷ [];
-      load = λ l. record { weight = getD l 0 nan; mean = getD l 1 nan; dp = getD l 2 nan };
+      width = 5;
+      store = λ s. s .var .weight ∷ s .var .mean ∷ s .var .dp ∷ s .lowest ∷ s .highest ∷ [];
+      load = λ l.
+          record {
+            var = record { weight = getD l 0 nan; mean = getD l 1 nan; dp = getD l 2 nan };
+            lowest = getD l 3 nan;
+            highest = getD l 4 nan;
+          };
       stored = λ s. refl;
       loaded = λ s rest. refl;
     }
@@ -70,7 +77,7 @@ pearsonLayout =
     }
 
 abbrev pub varStates : ReadingStates
-varStates = record { moment = variance; inFront = varLayout }
+varStates = record { moment = varianceExtremes; inFront = varLayout }
 
 abbrev pub skewStates : ReadingStates
 skewStates = record { moment = skewness; inFront = skewLayout }

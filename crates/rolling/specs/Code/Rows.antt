@@ -2,11 +2,10 @@
 use Prim.Native.Nat.{ℕ, _+_, _*_, _^_, _≤_, _<_, min}
 use mathlib.Core.Path.{_≡_}
 use mathlib.Core.Bool.{Bool}
-use mathlib.Core.List.{List}
+use mathlib.Core.List.{List, [], _∷_}
 use lib.ListN.{length}
 use lib.Ieee.{Float}
 use Rattle.trace.specs.Slices.{Slice, entering}
-use Rattle.moment.specs.Figure.{doubleOf, byteOf}
 use Rattle.moment.specs.declared.Figure.{Figure}
 use Rattle.plan.specs.Plan.{Plan, rows, rowStart, rowEnd}
 use Rattle.plan.specs.Refusals.{widest}
@@ -18,9 +17,10 @@ use Rattle.window.specs.Readings.{placesBy, series}
 use Rattle.window.specs.Pairs.{pairPlaces, pairSeries}
 use Rattle.window.specs.Rows.{answerAt}
 use Rattle.window.specs.Code.Memory.{Stored}
-use Rattle.window.specs.Outputs.{Lent}
+use Rattle.window.specs.Outputs.{Column, Lent, column, shortestOf, answerLengths}
 use Rattle.window.specs.Code.Stacks.{Counted, Tallied, Workable, Worked}
-use Rattle.window.specs.Code.Filling.{Fills}
+use Rattle.window.specs.Code.Filling.{ColumnsFill}
+use Rattle.window.specs.Code.Widening.{rawSeries}
 use Rattle.window.specs.declared.Window.{Window}
 use Rattle.rolling.specs.Moments.{Statistic}
 use Rattle.rolling.specs.Calls.{Query, query, GivenTo, Left}
@@ -29,6 +29,10 @@ use Rattle.rolling.specs.declared.row.Rows.{Rows}
 -- the series and the places that a call's parameters are
 abbrev pub seriesIn : Bool → Slice ℕ → Slice Float → Series Float
 seriesIn has map values = series has (entering map) (entering values)
+
+-- the same with the readings as they are
+abbrev pub rawSeriesIn : Bool → Slice ℕ → Slice Float → Series Float
+rawSeriesIn has map values = rawSeries has (entering map) (entering values)
 
 abbrev pub placesIn : Bool → Slice ℕ → Slice Float → Places
 placesIn has map values = placesBy has (entering map) (entering values)
@@ -105,6 +109,11 @@ pub record Answerable (width : ℕ) (w : Window) (work s e : ℕ) : Type 0 where
   pub few : w .front + w .back ≤ 2 ^ 53
   pub rises : s ≤ e
 
+-- a window whose readings can be counted, and a row from s up to e
+pub record Testable (w : Window) (s e : ℕ) : Type 0 where
+  pub few : w .front + w .back ≤ 2 ^ 53
+  pub rises : s ≤ e
+
 -- what an accepted call tells of its rows over n places, into lists that hold `outputs` rows, with a work slice of `width` doubles a place
 pub record Driven (r : Rows) (n : ℕ) (starts ends : List ℕ) (outputs width work : ℕ) : Type 0 where
   pub plan : Planned n (r .widest) (planBy r n starts ends)
@@ -130,10 +139,26 @@ abbrev pub HasWorked : {A : Type 0} → (M : Stored Float A) → Series A → �
 HasWorked M t n r starts ends until work₀ w agg work =
     Worked M t (r .«min_periods») n (r .widest) (planBy r n starts ends) until work₀ w agg work
 
--- the rows from `first` up to `until` worked, and their answers written
-pub record Works {A : Type 0} (M : Stored Float A) (final : M .moment .State → Figure) (t : Series A) (n : ℕ) (r : Rows)
-    (starts ends : List ℕ) (first until : ℕ) (work₀ figures₀ : List Float) (present₀ : List ℕ)
-    (w : Window) (agg : M .moment .State) (work figures : List Float) (present : List ℕ) : Type 0 where
+-- the rows from `first` up to `until` worked, and their answers written: each row function's in its two lists
+pub record WorksColumns {A : Type 0} (M : Stored Float A) (t : Series A) (n : ℕ) (r : Rows) (starts ends : List ℕ)
+    (fs : List (ℕ → Figure)) (first until : ℕ) (work₀ : List Float) (cs₀ : List Column)
+    (w : Window) (agg : M .moment .State) (work : List Float) (cs : List Column) : Type 0 where
   pub worked : HasWorked M t n r starts ends until work₀ w agg work
-  pub figures-are : Fills (λ k. doubleOf (rowAnswer M final t n r starts ends k)) first until figures₀ figures
-  pub present-are : Fills (λ k. byteOf (rowAnswer M final t n r starts ends k)) first until present₀ present
+  pub written : ColumnsFill fs first until cs₀ cs
+
+-- the same, of the lists that are lent
+abbrev pub WorksLent : {A : Type 0} → (M : Stored Float A) → Series A → ℕ → Rows → List ℕ → List ℕ → List (ℕ → Figure) → ℕ → ℕ → Lent × Lent
+    → Window → M .moment .State → Type 0
+WorksLent M t n r starts ends fs first until l w agg =
+    WorksColumns M t n r starts ends fs first until (l .0 .work) (l .0 .outputs .answers) w agg (l .1 .work) (l .1 .outputs .answers)
+
+-- the same of one figure
+abbrev pub Works : {A : Type 0} → (M : Stored Float A) → (M .moment .State → Figure) → Series A → ℕ → Rows → List ℕ → List ℕ → ℕ → ℕ
+    → List Float → List Float → List ℕ → Window → M .moment .State → List Float → List Float → List ℕ → Type 0
+Works M final t n r starts ends first until work₀ figures₀ present₀ w agg work figures present =
+    WorksColumns M t n r starts ends ((λ k. rowAnswer M final t n r starts ends k) ∷ []) first until work₀ (column figures₀ present₀ ∷ [])
+    w agg work (column figures present ∷ [])
+
+-- the length of the shortest of three figures' lists
+abbrev pub shortestThree : List Float → List ℕ → List Float → List ℕ → List Float → List ℕ → ℕ
+shortestThree d b d′ b′ d″ b″ = shortestOf (answerLengths (column d b ∷ column d′ b′ ∷ column d″ b″ ∷ []))

@@ -6,15 +6,15 @@ use mathlib.Core.List.{List}
 use lib.ListN.{length}
 use lib.Ieee.{Float}
 use Rattle.float.specs.Operators.{ofNat64}
-use Rattle.moment.specs.declared.var_state.VarState.{VarState}
 use Rattle.moment.specs.declared.skew_state.SkewState.{SkewState}
 use Rattle.window.specs.Code.Memory.{ReadingStates, ofReadings}
 use Rattle.window.specs.Code.Stacks.{topOf}
 use Rattle.window.specs.declared.Window.{Window}
+use Rattle.rolling.specs.declared.extremes.VarExtremes.{VarExtremes}
 
 -- the weight of a state, for each moment
-abbrev pub varWeight : VarState → Float
-varWeight s = s .weight
+abbrev pub varWeight : VarExtremes → Float
+varWeight s = s .var .weight
 
 abbrev pub skewWeight : SkewState → Float
 skewWeight s = s .weight

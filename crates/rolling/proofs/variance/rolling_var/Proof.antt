@@ -11,8 +11,8 @@ use Rattle.rolling.proofs.variance.rolling_var.Tie as tie
 array-refusal-requires : tie.Need-array-refusal-requires
 array-refusal-requires c κs = search needs
 
-shorter-requires : tie.Need-shorter-requires
-shorter-requires c κs = search needs
+shortest-requires : tie.Need-shortest-requires
+shortest-requires c κs = search needs
 
 fixed-refusal-requires : tie.Need-fixed-refusal-requires
 fixed-refusal-requires c κs = search needs
@@ -20,7 +20,7 @@ fixed-refusal-requires c κs = search needs
 returns : tie.Need-returns
 returns c =
     let k = c .before .before in
-    fixed-refused _ _ _ _ _ _ (k .before .before .array-refusal .ensures) (k .before .shorter .ensures) (k .fixed-refusal .ensures .number-is)
+    fixed-refused _ _ _ _ _ _ (k .before .before .array-refusal .ensures) (k .before .shortest .ensures) (k .fixed-refusal .ensures .number-is)
     (record { answers = refl; counts = refl }) (c .if1 .taken)
 
 right-window-requires : tie.Need-right-window-requires
@@ -37,10 +37,12 @@ slice-aggregate-rows-2 c = search needs
 
 rows-requires : tie.Need-rows-requires
 rows-requires c κs =
-    let k = c .before .before .before .before .before .before .before .before in
-    let g = k .before .before .before .before .before .before .before .before .args in
-    driven _ Readings (traceOf (g .values .now) (g .has-map) (g .map .now)) _ _ (k .before .before .array-refusal .ensures) (k .before .shorter .ensures)
-    (reach-accepted _ _ _ _ (c .before .before .before .before .before .right-window .ensures .0) (k .fixed-refusal .ensures .accepted (c .before .before .before .before .before .before .if1 .left) _))
+    let w = c .before .before .before .before .before .before .before .before .before in
+    let k = w .before .before .before in
+    let g = k .before .before .before .before .before .before .before .before .before .before .before .before .args in
+    driven _ Readings (traceOf (g .values .now) (g .has-map) (g .map .now)) _ _ (k .before .before .array-refusal .ensures)
+    (k .before .shortest .ensures)
+    (reach-accepted _ _ _ _ (w .right-window .ensures .0) (k .fixed-refusal .ensures .accepted (w .before .if1 .left) _))
 
 same-length : tie.Need-same-length
 same-length c = search needs
@@ -51,18 +53,32 @@ same-length-2 c = search needs
 same-length-3 : tie.Need-same-length-3
 same-length-3 c = search needs
 
+same-length-4 : tie.Need-same-length-4
+same-length-4 c = search needs
+
+same-length-5 : tie.Need-same-length-5
+same-length-5 c = search needs
+
+same-length-6 : tie.Need-same-length-6
+same-length-6 c = search needs
+
+same-length-7 : tie.Need-same-length-7
+same-length-7 c = search needs
+
 returns-2 : tie.Need-returns-2
 returns-2 c =
-    let k = c .before .before .before .before .before .before .before .before .before .before .before .before .before .before .before in
-    fixed-called _ _ _ _ _ _ (k .before .before .array-refusal .ensures) (k .before .shorter .ensures) (k .fixed-refusal .ensures .number-is)
-    _ _ (c .before .before .before .before .before .before .before .before .before .before .before .before .right-window .ensures .0) (c .before .before .before .before .before .before .before .before .before .before .before .before .before .if1 .left) (c .before .before .before .before .before .before .rows .ensures)
+    let r = c .before .before .before .before .before .before .before .before .before .before .before .before .before .before in
+    let w = r .before .before .before .before .before .before .before .before .before .before in
+    let k = w .before .before .before in
+    fixed-called _ _ _ _ _ _ (k .before .before .array-refusal .ensures) (k .before .shortest .ensures) (k .fixed-refusal .ensures .number-is)
+    _ _ (w .right-window .ensures .0) (w .before .if1 .left) (r .rows .ensures)
 
 pub rolling-var-spec : {M : Type 1} → statement M
 rolling-var-spec =
     tie.close
     (tie.spec
     array-refusal-requires
-    shorter-requires
+    shortest-requires
     fixed-refusal-requires
     returns
     right-window-requires
@@ -73,4 +89,8 @@ rolling-var-spec =
     same-length
     same-length-2
     same-length-3
+    same-length-4
+    same-length-5
+    same-length-6
+    same-length-7
     returns-2)

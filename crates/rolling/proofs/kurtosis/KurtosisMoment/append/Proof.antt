@@ -5,6 +5,7 @@ use mathlib.Core.Logic.{⊎-elim}
 use native.Mathlib.Omega.{arith}
 use borrow.Author.Needs.{needs}
 use lib.ListN.{length}
+use Rattle.window.specs.Readings.{insertedAt}
 use Rattle.window.proofs.Readings.{Appending, appending-start, appending-room, appending-nonfinite, appending-finite, appending-zero, appending-missing, appending-done}
 use Rattle.rolling.specs.Code.Layouts.{kurtosisStates}
 use Rattle.rolling.proofs.kurtosis.KurtosisMoment.append.Statement.{statement}
@@ -12,13 +13,13 @@ use Rattle.rolling.proofs.kurtosis.KurtosisMoment.append.Tie as tie
 
 abbrev Inv-loop : tie.InvT-loop
 Inv-loop back₀ n values has-map map a b nonfinite state₀ at₀ count₀ i₀ back state at count i =
-    Appending kurtosisStates has-map map values back₀ n nonfinite state₀ a b back at count state i
+    Appending kurtosisStates has-map map values (insertedAt values) back₀ n nonfinite state₀ a b back at count state i
 
 abbrev μ-loop : tie.MeasureT-loop
 μ-loop back₀ n values has-map map a b nonfinite state₀ at₀ count₀ i₀ back state at count i = b - i
 
 loop-holds : tie.Need-loop-holds Inv-loop μ-loop
-loop-holds c = appending-start kurtosisStates _ _ _ _ _ _ _ _ _ (c .before .before .before .pre .rises)
+loop-holds c = appending-start kurtosisStates _ _ _ _ _ _ _ _ _ _ (c .before .before .before .pre .rises)
 
 valid-requires : tie.Need-valid-requires Inv-loop μ-loop
 valid-requires c κs = search needs
@@ -36,7 +37,7 @@ is-finite-requires c κs = search needs
 room : (c : tie.After-is-finite Inv-loop μ-loop) → c .before .before .before .before .before .loop .at < length (c .before .before .before .before .before .loop .back)
 room c =
     let l = c .before .before .before .before .before in
-    appending-room kurtosisStates _ _ _ _ _ _ _ _ _ (l .loop .inv) (c .before .before .before .before .loop-test .taken) (l .before .before .before .before .pre)
+    appending-room kurtosisStates _ _ _ _ _ _ _ _ _ _ (l .loop .inv) (c .before .before .before .before .loop-test .taken) (l .before .before .before .before .pre)
     (sym (c .before .before .before .valid .ensures) ∙ c .before .before .if1 .taken)
 
 mul-back : tie.Need-mul-back Inv-loop μ-loop
@@ -61,7 +62,7 @@ add-count : tie.Need-add-count Inv-loop μ-loop
 add-count c =
     let l = c .before .before .before .before .before .before .before in
     let s = l .before .before .before .before in
-    let h = appending-nonfinite kurtosisStates _ _ _ _ _ _ _ _ _ (l .loop .inv) (c .before .before .before .before .before .before .loop-test .taken) (s .pre) in
+    let h = appending-nonfinite kurtosisStates _ _ _ _ _ _ _ _ _ _ (l .loop .inv) (c .before .before .before .before .before .before .loop-test .taken) (s .pre) in
     let k = l .loop .inv .low in
     omega arith
 
@@ -87,14 +88,14 @@ loop-again c =
     (λ u. rw (u .2, u .3, u .4) (appending-finite kurtosisStates _ _ _ _ _ _ _ _ _ (l .loop .inv) more (s .pre) v (sym (w .2 .ensures) ∙ u .0 .taken) _ (u .1 .ensures)))
     (λ u. rw (u .2, u .3, u .4) (appending-zero kurtosisStates _ _ _ _ _ _ _ _ _ (l .loop .inv) more (s .pre) v (sym (w .2 .ensures) ∙ u .0 .left) _ (u .1 .ensures)))
     (w .3 .came)))
-    (λ w. rw (w .1, w .2, w .3, w .4) (appending-missing kurtosisStates _ _ _ _ _ _ _ _ _ (l .loop .inv) more (s .pre) (sym (c .before .valid .ensures) ∙ w .0 .left)))
+    (λ w. rw (w .1, w .2, w .3, w .4) (appending-missing kurtosisStates _ _ _ _ _ _ _ _ _ _ (l .loop .inv) more (s .pre) (sym (c .before .valid .ensures) ∙ w .0 .left)))
     (c .if1 .came)
 
 same-length : tie.Need-same-length Inv-loop μ-loop
 same-length c = c .before .loop .inv .same
 
 returns : tie.Need-returns Inv-loop μ-loop
-returns c = appending-done kurtosisStates _ _ _ _ _ _ _ _ _ (c .before .loop .inv) (c .loop-test .left)
+returns c = appending-done kurtosisStates _ _ _ _ _ _ _ _ _ _ (c .before .loop .inv) (c .loop-test .left)
 
 pub append-spec : {M : Type 1} → statement M
 append-spec =

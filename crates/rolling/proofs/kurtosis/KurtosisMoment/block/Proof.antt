@@ -68,10 +68,10 @@ same-length : tie.Need-same-length Inv-loop μ-loop
 same-length c = c .before .loop .inv .working .same
 
 same-length-2 : tie.Need-same-length-2 Inv-loop μ-loop
-same-length-2 c = c .before .loop .inv .figures-same
+same-length-2 c = c .before .loop .inv .same .0 .doubles
 
 same-length-3 : tie.Need-same-length-3 Inv-loop μ-loop
-same-length-3 c = c .before .loop .inv .present-same
+same-length-3 c = c .before .loop .inv .same .0 .bytes
 
 returns : tie.Need-returns Inv-loop μ-loop
 returns c =

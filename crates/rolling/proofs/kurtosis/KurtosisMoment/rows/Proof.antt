@@ -4,9 +4,8 @@ use native.Mathlib.Omega.{arith}
 use borrow.Author.Needs.{needs}
 use lib.ListN.{length}
 use Rattle.moment.specs.Kurtosis.{kurtosisFinalize}
-use Rattle.window.proofs.Outputs.{column-is, _then_}
 use Rattle.rolling.specs.Code.Layouts.{kurtosisStored}
-use Rattle.rolling.proofs.RowLoops.{many-rows, rows-can, rows-kept, rows-figures, rows-present}
+use Rattle.rolling.proofs.RowLoops.{many-rows, rows-can, rows-kept, rows-columns}
 use Rattle.rolling.proofs.kurtosis.KurtosisMoment.rows.Statement.{statement}
 use Rattle.rolling.proofs.kurtosis.KurtosisMoment.rows.Tie as tie
 
@@ -50,7 +49,7 @@ returns c =
     record {
       fits = record { answers = refl; counts = refl };
       written = record {
-        answers-are = column-is (rows-figures kurtosisStored _ _ _ _ _ (s .pre) (λ z. kurtosisFinalize z (g .self .fisher) (g .self .bias)) u v (omega arith)) (rows-present kurtosisStored _ _ _ _ _ (s .pre) (λ z. kurtosisFinalize z (g .self .fisher) (g .self .bias)) u v (omega arith)) then refl;
+        answers-are = rows-columns kurtosisStored _ _ _ _ _ (s .pre) _ u v (omega arith);
         counts-are = refl;
       };
       work-kept = rows-kept kurtosisStored _ _ _ _ _ (s .pre) (v .worked);

@@ -3,9 +3,8 @@ use mathlib.Core.Path.{refl, _∙_}
 use native.Mathlib.Omega.{arith}
 use lib.ListN.{length}
 use Rattle.rolling.specs.Moments.{correlationFinalize}
-use Rattle.window.proofs.Outputs.{column-is, _then_}
 use Rattle.rolling.specs.Code.Layouts.{pearsonStored}
-use Rattle.rolling.proofs.RowLoops.{many-rows, rows-can, rows-kept, rows-figures, rows-present}
+use Rattle.rolling.proofs.RowLoops.{many-rows, rows-can, rows-kept, rows-columns}
 use borrow.Author.Needs.{needs}
 use Rattle.rolling.proofs.pearson.PearsonMoment.rows.Statement.{statement}
 use Rattle.rolling.proofs.pearson.PearsonMoment.rows.Tie as tie
@@ -51,11 +50,9 @@ returns c =
     let u = c .before .before .before .before .before .before .before .before .before .before .how-many .ensures
     ∙ many-rows (g .rows) (length (g .x .now)) (g .starts .now) (g .ends .now) in
     let v = c .before .before .before .before .before .before .block .ensures in
-    let f = rows-figures pearsonStored _ _ _ _ _ d correlationFinalize u v (omega arith) in
-    let b = rows-present pearsonStored _ _ _ _ _ d correlationFinalize u v (omega arith) in
     record {
       fits = record { answers = refl; counts = refl };
-      written = record { answers-are = column-is f b then refl; counts-are = refl };
+      written = record { answers-are = rows-columns pearsonStored _ _ _ _ _ d _ u v (omega arith); counts-are = refl };
       work-kept = rows-kept pearsonStored _ _ _ _ _ d (v .worked);
     }
 

@@ -5,6 +5,7 @@ use mathlib.Core.Logic.{⊎-elim}
 use native.Mathlib.Omega.{arith}
 use borrow.Author.Needs.{needs}
 use lib.ListN.{length}
+use Rattle.window.specs.Readings.{insertedAt}
 use Rattle.window.proofs.Readings.{Appending, appending-start, appending-room, appending-nonfinite, appending-finite, appending-zero, appending-missing, appending-done}
 use Rattle.rolling.specs.Code.Layouts.{skewStates}
 use Rattle.rolling.proofs.Weighed.{skew-weighs, append-inserted}
@@ -13,13 +14,13 @@ use Rattle.rolling.proofs.skew.SkewMoment.append.Tie as tie
 
 abbrev Inv-loop : tie.InvT-loop
 Inv-loop back₀ n values has-map map a b nonfinite state₀ at₀ count₀ i₀ back state at count i =
-    Appending skewStates has-map map values back₀ n nonfinite state₀ a b back at count state i
+    Appending skewStates has-map map values (insertedAt values) back₀ n nonfinite state₀ a b back at count state i
 
 abbrev μ-loop : tie.MeasureT-loop
 μ-loop back₀ n values has-map map a b nonfinite state₀ at₀ count₀ i₀ back state at count i = b - i
 
 loop-holds : tie.Need-loop-holds Inv-loop μ-loop
-loop-holds c = appending-start skewStates _ _ _ _ _ _ _ _ _ (c .before .before .before .pre .0 .rises)
+loop-holds c = appending-start skewStates _ _ _ _ _ _ _ _ _ _ (c .before .before .before .pre .0 .rises)
 
 valid-requires : tie.Need-valid-requires Inv-loop μ-loop
 valid-requires c κs = search needs
@@ -37,7 +38,7 @@ is-finite-requires c κs = search needs
 room : (c : tie.After-is-finite Inv-loop μ-loop) → c .before .before .before .before .before .loop .at < length (c .before .before .before .before .before .loop .back)
 room c =
     let l = c .before .before .before .before .before in
-    appending-room skewStates _ _ _ _ _ _ _ _ _ (l .loop .inv) (c .before .before .before .before .loop-test .taken) (l .before .before .before .before .pre .0)
+    appending-room skewStates _ _ _ _ _ _ _ _ _ _ (l .loop .inv) (c .before .before .before .before .loop-test .taken) (l .before .before .before .before .pre .0)
     (sym (c .before .before .before .valid .ensures) ∙ c .before .before .if1 .taken)
 
 mul-back : tie.Need-mul-back Inv-loop μ-loop
@@ -62,7 +63,7 @@ add-count : tie.Need-add-count Inv-loop μ-loop
 add-count c =
     let l = c .before .before .before .before .before .before .before in
     let s = l .before .before .before .before in
-    let h = appending-nonfinite skewStates _ _ _ _ _ _ _ _ _ (l .loop .inv) (c .before .before .before .before .before .before .loop-test .taken) (s .pre .0) in
+    let h = appending-nonfinite skewStates _ _ _ _ _ _ _ _ _ _ (l .loop .inv) (c .before .before .before .before .before .before .loop-test .taken) (s .pre .0) in
     let k = l .loop .inv .low in
     omega arith
 
@@ -80,7 +81,7 @@ loop-again c =
     let l = c .before .before .before in
     let s = l .before .before .before .before in
     let more = c .before .before .loop-test .taken in
-    let plain = append-inserted skewStates skew-weighs _ _ _ _ _ _ _ _ _ (l .loop .inv) more (s .pre .0) (s .pre .1) in
+    let plain = append-inserted skewStates skew-weighs _ _ _ _ _ _ _ _ _ _ (l .loop .inv) more (s .pre .0) (s .pre .1) in
     ⊎-elim
     (λ w.
     let v = sym (c .before .valid .ensures) ∙ w .0 .taken in
@@ -89,14 +90,14 @@ loop-again c =
     (λ u. rw (u .2, u .3, u .4) (appending-finite skewStates _ _ _ _ _ _ _ _ _ (l .loop .inv) more (s .pre .0) v (sym (w .2 .ensures) ∙ u .0 .taken) _ (u .1 .ensures ∙ plain _)))
     (λ u. rw (u .2, u .3, u .4) (appending-zero skewStates _ _ _ _ _ _ _ _ _ (l .loop .inv) more (s .pre .0) v (sym (w .2 .ensures) ∙ u .0 .left) _ (u .1 .ensures ∙ plain _)))
     (w .3 .came)))
-    (λ w. rw (w .1, w .2, w .3, w .4) (appending-missing skewStates _ _ _ _ _ _ _ _ _ (l .loop .inv) more (s .pre .0) (sym (c .before .valid .ensures) ∙ w .0 .left)))
+    (λ w. rw (w .1, w .2, w .3, w .4) (appending-missing skewStates _ _ _ _ _ _ _ _ _ _ (l .loop .inv) more (s .pre .0) (sym (c .before .valid .ensures) ∙ w .0 .left)))
     (c .if1 .came)
 
 same-length : tie.Need-same-length Inv-loop μ-loop
 same-length c = c .before .loop .inv .same
 
 returns : tie.Need-returns Inv-loop μ-loop
-returns c = appending-done skewStates _ _ _ _ _ _ _ _ _ (c .before .loop .inv) (c .loop-test .left)
+returns c = appending-done skewStates _ _ _ _ _ _ _ _ _ _ (c .before .loop .inv) (c .loop-test .left)
 
 pub append-spec : {M : Type 1} → statement M
 append-spec =

@@ -8,10 +8,9 @@ use lib.Ieee.{Float}
 use Rattle.float.specs.Operators.{zero64}
 use Rattle.moment.specs.Skew.{skewFinalize}
 use Rattle.plan.specs.Plan.{Plan, rows}
-use Rattle.window.proofs.Outputs.{column-is, _then_}
 use Rattle.rolling.specs.Code.Layouts.{skewStored}
 use Rattle.rolling.specs.Code.Rows.{planBy}
-use Rattle.rolling.proofs.RowLoops.{many-rows, rows-kept, rows-figures, rows-present}
+use Rattle.rolling.proofs.RowLoops.{many-rows, rows-kept, rows-columns}
 use Rattle.rolling.proofs.Slots.{first-places}
 use Rattle.rolling.proofs.Blocks.{Blocks, blocks-start, blocks-can, blocks-next}
 use Rattle.rolling.proofs.skew.SkewMoment.rows.Statement.{statement}
@@ -189,9 +188,7 @@ returns c =
     record {
       fits = record { answers = refl; counts = refl };
       written = record {
-        answers-are = column-is (rows-figures skewStored _ _ _ _ _ (s .pre) (λ z. skewFinalize z (g .self .bias)) u v (omega arith))
-            (rows-present skewStored _ _ _ _ _ (s .pre) (λ z. skewFinalize z (g .self .bias)) u v (omega arith))
-            then refl;
+        answers-are = rows-columns skewStored _ _ _ _ _ (s .pre) _ u v (omega arith);
         counts-are = refl;
       };
       work-kept = rows-kept skewStored _ _ _ _ _ (s .pre) (v .worked);

@@ -2,9 +2,11 @@
 use mathlib.Core.Path.{_∙_}
 use native.Mathlib.Omega.{arith}
 use borrow.Author.Needs.{needs}
-use lib.ListN.{length-set}
+use Prim.Native.Nat.{_+_, _-_}
+use lib.ListN.{length-set, getD}
+use lib.Ieee.{nan}
 use Rattle.window.proofs.Readings.{Flipping, flipping-start, flipping-turn, flipping-done}
-use Rattle.rolling.proofs.Rolling.{puts3}
+use Rattle.rolling.proofs.Rolling.{puts5}
 use Rattle.rolling.proofs.Weighed.{var-weighs, flip-inserted}
 use Rattle.rolling.specs.Code.Layouts.{varStates}
 use Rattle.rolling.proofs.variance.VarianceMoment.flip.Statement.{statement}
@@ -61,6 +63,24 @@ mul-work-3 c = search needs
 slice-write-work-3 : tie.Need-slice-write-work-3 Inv-loop μ-loop
 slice-write-work-3 c = simp length-set (omega arith)
 
+add-work-3 : tie.Need-add-work-3 Inv-loop μ-loop
+add-work-3 c = search needs
+
+mul-work-4 : tie.Need-mul-work-4 Inv-loop μ-loop
+mul-work-4 c = search needs
+
+slice-write-work-4 : tie.Need-slice-write-work-4 Inv-loop μ-loop
+slice-write-work-4 c = simp length-set (omega arith)
+
+add-work-4 : tie.Need-add-work-4 Inv-loop μ-loop
+add-work-4 c = search needs
+
+mul-work-5 : tie.Need-mul-work-5 Inv-loop μ-loop
+mul-work-5 c = search needs
+
+slice-write-work-5 : tie.Need-slice-write-work-5 Inv-loop μ-loop
+slice-write-work-5 c = simp length-set (omega arith)
+
 add-at : tie.Need-add-at Inv-loop μ-loop
 add-at c = search needs
 
@@ -72,8 +92,10 @@ loop-again c =
     let a = c .before .before .before in
     let s = a .before .before .before in
     let h = c .before .before .loop-test .taken in
-    rw puts3
-    (flipping-turn varStates _ _ _ (s .pre) (a .loop .inv) h (c .inserted .ensures ∙ flip-inserted varStates var-weighs _ _ _ (s .pre) (a .loop .inv) h _))
+    rw puts5
+    (flipping-turn varStates _ _ _ (s .pre) (a .loop .inv) h
+    (c .inserted .ensures
+    ∙ flip-inserted varStates var-weighs _ _ _ (s .pre) (a .loop .inv) h (getD (a .loop .work) (s .args .base + (a .loop .j - 1)) nan)))
 
 same-length : tie.Need-same-length Inv-loop μ-loop
 same-length c = search needs
@@ -104,6 +126,12 @@ flip-spec =
     add-work-2
     mul-work-3
     slice-write-work-3
+    add-work-3
+    mul-work-4
+    slice-write-work-4
+    add-work-4
+    mul-work-5
+    slice-write-work-5
     add-at
     loop-less
     loop-again

@@ -44,9 +44,27 @@ mul-t13 c = search needs
 shared-slice-read-t15 : tie.Need-shared-slice-read-t15
 shared-slice-read-t15 c = search needs
 
+add-t17 : tie.Need-add-t17
+add-t17 c = search needs
+
+mul-t18 : tie.Need-mul-t18
+mul-t18 c = search needs
+
+shared-slice-read-t20 : tie.Need-shared-slice-read-t20
+shared-slice-read-t20 c = search needs
+
+add-t21 : tie.Need-add-t21
+add-t21 c = search needs
+
+mul-t22 : tie.Need-mul-t22
+mul-t22 c = search needs
+
+shared-slice-read-t24 : tie.Need-shared-slice-read-t24
+shared-slice-read-t24 c = search needs
+
 returns-2 : tie.Need-returns-2
 unfolding topOf
-returns-2 c = rw (ne-eqb _ _ (c .before .before .before .if1 .left)) (simp (getD-drop, add-zero))
+returns-2 c = rw (ne-eqb _ _ (c .before .before .before .before .before .if1 .left)) (simp (getD-drop, add-zero))
 
 pub last-spec : {M : Type 1} → statement M
 last-spec =
@@ -64,4 +82,10 @@ last-spec =
     add-t12
     mul-t13
     shared-slice-read-t15
+    add-t17
+    mul-t18
+    shared-slice-read-t20
+    add-t21
+    mul-t22
+    shared-slice-read-t24
     returns-2)
