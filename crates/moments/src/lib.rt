@@ -16,7 +16,7 @@ ghost use Rattle.trace.specs.Slices.{entering, leaving};
 ghost use Rattle.trace.specs.Trace.{tracing};
 ghost use Rattle.window.specs.Pairs.{pairing};
 ghost use Rattle.rolling.specs.Moments.{Variance, Skewness, Kurtosis, Covariance, Correlation};
-ghost use Rattle.rolling.specs.Calls.{querying, lending};
+ghost use Rattle.rolling.specs.Calls.{querying, lending, lendingThree};
 ghost use Rattle.rolling.specs.Fixed.{CallsFixed};
 ghost use Rattle.weighted.specs.Weights.{CallsWeights, lendingColumn};
 ghost use Rattle.moments.specs.HostCall.{hosting, decoding, hostingPair, decodingPair, CallsBytes};
@@ -53,9 +53,14 @@ pub extern "C" fn moments_plan_var(
     work: &mut [f64],
     figures: &mut [f64],
     present: &mut [u8],
+    lowest: &mut [f64],
+    lowest_present: &mut [u8],
+    highest: &mut [f64],
+    highest_present: &mut [u8],
 ) -> u32
     ensures { λ r. ⌜ CallsBytes (querying starts ends «min_periods» (Variance ddof)) (hosting trace «has_map» map)
-        (decoding readings) (lending work figures present) r ⌝ }
+        (decoding readings)
+        (lendingThree work figures present lowest «lowest_present» highest «highest_present») r ⌝ }
 {
     if trace.len() % 8 != 0 {
         return 14;
@@ -67,7 +72,14 @@ pub extern "C" fn moments_plan_var(
         ends,
         n,
         readings.len() < n,
-        plan::shorter(figures.len(), present.len()),
+        VarianceMoment::shortest(
+            figures.len(),
+            present.len(),
+            lowest.len(),
+            lowest_present.len(),
+            highest.len(),
+            highest_present.len(),
+        ),
         VarianceMoment::PLACE,
         work.len(),
     );
@@ -86,6 +98,10 @@ pub extern "C" fn moments_plan_var(
         work,
         figures,
         present,
+        lowest,
+        lowest_present,
+        highest,
+        highest_present,
     )
 }
 
@@ -325,9 +341,13 @@ pub extern "C" fn moments_rolling_var(
     work: &mut [f64],
     figures: &mut [f64],
     present: &mut [u8],
+    lowest: &mut [f64],
+    lowest_present: &mut [u8],
+    highest: &mut [f64],
+    highest_present: &mut [u8],
 ) -> u32
     ensures { λ r. ⌜ CallsFixed center «window_size» «min_periods» (Variance ddof) (tracing trace «has_map» map)
-        (lending work figures present) r ⌝ }
+        (lendingThree work figures present lowest «lowest_present» highest «highest_present») r ⌝ }
 {
     rolling::rolling_var(
         trace,
@@ -340,6 +360,10 @@ pub extern "C" fn moments_rolling_var(
         work,
         figures,
         present,
+        lowest,
+        lowest_present,
+        highest,
+        highest_present,
     )
 }
 

@@ -53,6 +53,22 @@ impl VarianceMoment {
 
     pub const PLACE: usize = VarianceMoment::STATE + VarianceMoment::ENTRY;
 
+    // The length of the shortest of a call's six lists.
+    pub fn shortest(
+        figures: usize,
+        present: usize,
+        lowest: usize,
+        lowest_present: usize,
+        highest: usize,
+        highest_present: usize,
+    ) -> usize
+        ensures { λ r. ⌜ r ≡ min (min (min (min (min figures present) lowest) «lowest_present») highest) «highest_present» ⌝ }
+    {
+        let two = plan::shorter(figures, present);
+        let four = plan::shorter(plan::shorter(two, lowest), lowest_present);
+        plan::shorter(plan::shorter(four, highest), highest_present)
+    }
+
     fn empty() -> VarExtremes
         ensures { λ r. ⌜ r ≡ noExtremes ⌝ }
     {
@@ -400,22 +416,6 @@ impl VarianceMoment {
     }
 }
 
-// The length of the shortest of three figures' lists.
-fn shortest(
-    figures: usize,
-    present: usize,
-    lowest: usize,
-    lowest_present: usize,
-    highest: usize,
-    highest_present: usize,
-) -> usize
-    ensures { λ r. ⌜ r ≡ min (min (min (min (min figures present) lowest) «lowest_present») highest) «highest_present» ⌝ }
-{
-    let two = plan::shorter(figures, present);
-    let four = plan::shorter(plan::shorter(two, lowest), lowest_present);
-    plan::shorter(plan::shorter(four, highest), highest_present)
-}
-
 // Rolling variance over a plan, with the lowest and the highest finite valid reading of each row's window.
 pub fn plan_var(
     values: &[f64],
@@ -442,7 +442,7 @@ pub fn plan_var(
         ends,
         values.len(),
         false,
-        shortest(
+        VarianceMoment::shortest(
             figures.len(),
             present.len(),
             lowest.len(),
@@ -506,7 +506,7 @@ pub fn rolling_var(
         trace::array_refusal(values.len(), has_map, map),
         values.len(),
         window_size,
-        shortest(
+        VarianceMoment::shortest(
             figures.len(),
             present.len(),
             lowest.len(),

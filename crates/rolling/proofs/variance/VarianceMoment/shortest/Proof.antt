@@ -1,7 +1,7 @@
 -- Two at a time. Assumes nothing.
 use borrow.Author.Needs.{needs}
-use Rattle.rolling.proofs.variance.shortest.Statement.{statement}
-use Rattle.rolling.proofs.variance.shortest.Tie as tie
+use Rattle.rolling.proofs.variance.VarianceMoment.shortest.Statement.{statement}
+use Rattle.rolling.proofs.variance.VarianceMoment.shortest.Tie as tie
 
 shorter-requires : tie.Need-shorter-requires
 shorter-requires c κs = search needs
