@@ -1,6 +1,6 @@
 //! A second implementation beside the Rust, reached by function pointers: `fuzz` asks both. With the feature `host` it is our
 //! libmoments.a, by the crate `moments` of ../host.
-use crate::host::Call;
+use crate::host::{Call, Room};
 use crate::{pairs, windows};
 #[cfg(feature = "host")]
 use crate::{Figure, PairFigure};
@@ -20,10 +20,24 @@ impl Answer {
         }
     }
 }
-/// call, readings out, work, figures out, present out
-pub type PlanFn = fn(&Call, &mut [f64], &mut [f64], &mut [f64], &mut [u8]) -> Answer;
-/// call (of a figure, or with weights), work, figures out, present out
-pub type WindowsFn = fn(&windows::Call, &mut [f64], &mut [f64], &mut [u8]) -> Answer;
+/// The lists that take the answers of a call on one trace. Those of the lowest and of the highest are lent to variance without weights
+/// alone.
+pub struct Outputs<'a> {
+    pub figures: &'a mut [f64],
+    pub present: &'a mut [u8],
+    pub lowest: (&'a mut [f64], &'a mut [u8]),
+    pub highest: (&'a mut [f64], &'a mut [u8]),
+}
+impl Outputs<'_> {
+    fn room(&self, readings: usize, work: usize) -> Room {
+        let extremes = [self.lowest.0.len(), self.lowest.1.len(), self.highest.0.len(), self.highest.1.len()];
+        Room { readings, work, figures: self.figures.len(), present: self.present.len(), extremes }
+    }
+}
+/// call, readings out, work, answers
+pub type PlanFn = fn(&Call, &mut [f64], &mut [f64], Outputs) -> Answer;
+/// call (of a figure, or with weights), work, answers
+pub type WindowsFn = fn(&windows::Call, &mut [f64], Outputs) -> Answer;
 /// call (over a plan or fixed windows), readings of both out (none for fixed windows), work, figures out, present out
 pub type PairsFn = fn(&pairs::Case, [&mut [f64]; 2], &mut [f64], &mut [f64], &mut [u8]) -> Answer;
 
@@ -37,7 +51,7 @@ pub struct Impl {
 
 /// A demonstration: the work-slice model of src/model.rs, which has no weights.
 pub fn demo() -> Impl {
-    use crate::host::Room;
+    use crate::extremes::Extremes;
     fn put(outv: &mut [f64], outp: &mut [u8], i: usize, r: Option<f64>) {
         // a NaN that arithmetic made has the bits FFF8... on x86: document 01 wants 7FF8...
         outv[i] = match r {
@@ -47,23 +61,31 @@ pub fn demo() -> Impl {
         };
         outp[i] = r.is_some() as u8;
     }
-    fn plan(c: &Call, readings: &mut [f64], work: &mut [f64], figures: &mut [f64], present: &mut [u8]) -> Answer {
-        let room = Room { readings: readings.len(), work: work.len(), figures: figures.len(), present: present.len() };
-        let number = c.refusal(room);
+    fn put_all(outs: &mut Outputs, extremes: bool, i: usize, figure: Option<f64>, [lowest, highest]: Extremes) {
+        put(outs.figures, outs.present, i, figure);
+        if extremes {
+            put(outs.lowest.0, outs.lowest.1, i, lowest);
+            put(outs.highest.0, outs.highest.1, i, highest);
+        }
+    }
+    fn plan(c: &Call, readings: &mut [f64], work: &mut [f64], mut outs: Outputs) -> Answer {
+        let number = c.refusal(outs.room(readings.len(), work.len()));
         if number == 0 {
-            let x = c.readings();
+            let (x, given) = (c.readings(), c.figure.has_extremes());
             readings[..x.len()].copy_from_slice(&x);
             let rows = c.starts.iter().zip(c.ends).map(|(a, b)| (*a as usize, *b as usize));
-            crate::model::plan_into(&x, c.map(), rows, c.figure, c.min, work, |i, r| put(figures, present, i, r), &mut ());
+            let put = |i: usize, figure: Option<f64>, extremes: Extremes| put_all(&mut outs, given, i, figure, extremes);
+            crate::model::plan_into(&x, c.map(), rows, c.figure, c.min, work, put, &mut ());
         }
         Answer::Number(number)
     }
-    fn fixed(c: &windows::Call, work: &mut [f64], figures: &mut [f64], present: &mut [u8]) -> Answer {
-        let number = c.refusal(Room { readings: 0, work: work.len(), figures: figures.len(), present: present.len() });
+    fn fixed(c: &windows::Call, work: &mut [f64], mut outs: Outputs) -> Answer {
+        let number = c.refusal(outs.room(0, work.len()));
         if number == 0 {
-            let n = c.x.len();
+            let (n, given) = (c.x.len(), c.has_extremes());
             let rows = (0..n).map(|i| crate::offsets(i, c.size, n, c.centre));
-            crate::model::plan_into(c.x, c.map(), rows, c.figure, c.min, work, |i, r| put(figures, present, i, r), &mut ());
+            let put = |i: usize, figure: Option<f64>, extremes: Extremes| put_all(&mut outs, given, i, figure, extremes);
+            crate::model::plan_into(c.x, c.map(), rows, c.figure, c.min, work, put, &mut ());
         }
         Answer::Number(number)
     }
