@@ -1,6 +1,7 @@
 //! The lowest and the highest finite valid reading of a window (document 02, request 4), by going over the whole window in every row.
 use crate::account::valid;
 use crate::rng::Rng;
+use std::fmt;
 
 /// The lowest and the highest of a window, none where it is missing.
 pub type Extremes = [Option<f64>; 2];
@@ -62,5 +63,48 @@ pub fn roughen(r: &mut Rng, x: &mut [f64]) {
                 _ => ROUGH[r.below(ROUGH.len())],
             };
         }
+    }
+}
+
+/// How many rows of accepted calls have what a wrong program would trip over.
+#[derive(Default)]
+pub struct Tally {
+    given: u64,
+    variance_missing: u64,
+    short: u64,
+    none_finite: u64,
+    bad_would_show: u64,
+    minus_zero: u64,
+    left: u64,
+}
+impl Tally {
+    /// A call's trace, map and rows, with the figures and what this request wants of them.
+    pub fn count(&mut self, x: &[f64], map: Option<&[u8]>, rows: &[(usize, usize)], figures: &[Option<f64>], wanted: &[Extremes]) {
+        for (k, row) in wanted.iter().enumerate() {
+            let (s, e) = rows[k];
+            let [Some(low), Some(high)] = row else {
+                let none = of_window(x, map, rows[k]) == [None; 2];
+                self.none_finite += none as u64;
+                self.short += !none as u64;
+                continue;
+            };
+            let any = |test: fn(f64) -> bool| (s..e).any(|i| valid(map, i) && test(x[i]));
+            self.given += 1;
+            self.variance_missing += figures[k].is_none() as u64;
+            self.bad_would_show += ((*low > 0.0 || *high < 0.0) && any(|x| !x.is_finite())) as u64;
+            self.minus_zero += ((*low == 0.0 || *high == 0.0) && any(|x| x.to_bits() == 1 << 63)) as u64;
+            // the row before had a lower lowest or a higher highest
+            let before = k.checked_sub(1).map(|k| wanted[k]);
+            self.left += matches!(before, Some([Some(a), Some(b)]) if a < *low || b > *high) as u64;
+        }
+    }
+}
+impl fmt::Display for Tally {
+    fn fmt(&self, f: &mut fmt::Formatter<'_>) -> fmt::Result {
+        let Tally { given, variance_missing, short, none_finite, bad_would_show, minus_zero, left } = self;
+        write!(f, "rows with lowest and highest: {given}, of them with the variance missing {variance_missing}, ")?;
+        write!(f, "with a bad reading whose 0.0 would show {bad_would_show}, with a -0.0 that goes out as +0.0 {minus_zero}, ")?;
+        write!(f, "with a lower or higher one that left {left}; ")?;
+        write!(f, "rows without them: {short} short, {none_finite} with no finite reading")
     }
 }

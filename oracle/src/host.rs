@@ -215,8 +215,8 @@ impl Case {
             0 => {
                 if r.chance(1, 2) || self.trace.is_empty() {
                     (0..1 + r.below(7)).for_each(|i| self.trace.push(i as u8))
-                } else {
-                    self.trace.truncate(self.trace.len() - 1 - r.below(7))
+                } else if let Some(left) = self.trace.len().checked_sub(1 + r.below(7)) {
+                    self.trace.truncate(left)
                 }
             }
             1 if !self.has_map => (self.has_map, self.map) = (true, vec![0xFF; n.div_ceil(8) + 1]),
