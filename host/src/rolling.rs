@@ -282,7 +282,8 @@ impl<'a> Column<'a> {
     }
 }
 
-/// What a caller lends to a call that answers variance, lowest and highest of each row. Each list keeps what it holds where [`Lists`] do.
+/// What a caller lends to a call that answers variance, lowest and highest of each row. Each list keeps what it holds where those of
+/// [`Lists`] do.
 #[derive(Debug)]
 pub struct VarLists<'a> {
     /// [`Setting::work`] doubles, for the call's own use.
@@ -624,7 +625,8 @@ pub fn plan_pair_into(
     given.result_of_work(number, || setting.work(plan.widest()))
 }
 
-/// A figure of each of a trace's windows of one size: none where it is missing. Of the variance it is that alone; [`rolling_var`] gives all.
+/// A figure of each of a trace's windows of one size: none where it is missing. Of the variance it is that alone; [`rolling_var`] gives
+/// all.
 ///
 /// ```
 /// use moments::{rolling, Setting, Window};
