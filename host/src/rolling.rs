@@ -304,8 +304,8 @@ impl VarLists<'_> {
     }
 }
 
-/// What [`plan_var`] and [`rolling_var`] give for a row. Lowest and highest are over the valid places of the window whose reading is finite,
-/// and a zero of either sign is +0.0; both are missing where there is no such place.
+/// What [`plan_var`] and [`rolling_var`] give for a row. Lowest and highest are over the valid places of the window whose reading is
+/// finite, and a zero of either sign is +0.0; both are missing where there is no such place.
 ///
 /// They are given also where the variance is missing: where the count is at most ddof, and with a map where it is below the minimum. But
 /// without a map a row that is shorter than the minimum has none of the three. A reading that is not finite makes the variance NaN and

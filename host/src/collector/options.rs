@@ -29,7 +29,7 @@ windows
 
 figure
   --figure NAME      of one trace: variance (the default), skewness or kurtosis; of two: covariance or correlation.
-                     With the variance, unless it is weighted, come the lowest and the highest finite reading of a window
+                     With the variance, unless it is weighted, come the lowest and the highest finite reading
   --ddof N           variance and covariance: divided by the count less N, from 0 to 255 (default 1)
   --unbiased         skewness and kurtosis: corrected for bias
   --pearson          kurtosis: not less three, so that a normal distribution has 3 and not 0
@@ -37,13 +37,14 @@ figure
                      the library is lent a map and counts a window's valid readings or pairs, and else its places
 
 output
-  --csv              the table as CSV: row,label,start,end,from,to,valid,figure,mark and, with the variance, lowest,highest
+  --csv              the table as CSV: row,label,start,end,from,to,valid,figure,mark and, with the variance unless it is
+                     weighted, lowest,highest
   --output FILE      the table to FILE instead of standard output
-  --svg FILE         a picture of the figure and the trace or traces; behind the variance it has the band from the lowest to
-                     the highest reading of each window
+  --svg FILE         a picture of the figure and the trace or traces; behind the variance the band from the lowest
+                     to the highest reading of each window
   --help             this text
 
-In the table `-` is a missing figure or reading, and `!` (in CSV the mark `not finite`) a figure that is NaN or infinite.
+In the table `-` is a missing number, and `!` (in CSV the mark `not finite`) a figure that is NaN or infinite.
 A wrong command line, a bad file or a refused plan gets a message and exit status 2, and nothing is written.
 ";
 

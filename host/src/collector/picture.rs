@@ -266,36 +266,43 @@ impl<'a> Picture<'a> {
     fn has_bars(&self) -> bool {
         matches!(self.report.rows, Rows::Plan(_)) && self.report.len() <= MOST_BARS
     }
-    /// The band from the lowest to the highest reading of each window. Windows that overlap share their overlap out, so that each shows.
+    /// The band from the lowest to the highest reading of each window, with its axis.
     fn swings(&mut self) {
-        let between = |row: &Row<'_>| {
-            let (lowest, highest) = row.lowest.zip(row.highest)?;
-            // One reading alone is a line.
-            Some(widened((self.swing.y(highest), self.swing.y(lowest)), 1.5))
-        };
-        let (mut band, mut apart) = (String::new(), true);
-        if self.has_bars() {
-            let (mut rows, mut from) = (self.report.rows().peekable(), 0.0);
-            while let Some(row) = rows.next() {
-                let next = rows.peek().map_or(row.end, |next| next.start);
-                let to = (row.end as f64).min((row.end + next) as f64 / 2.0);
-                let (left, right) = widened((self.x(f64::max(from, row.start as f64)), self.x(to)), 2.0);
-                // Where there is room, a line between neighbours tells them apart.
-                let right = if right - left > 5.0 { right - 1.0 } else { right };
-                if let Some((top, bottom)) = between(&row) {
-                    let _ = write!(band, "M{left:.1} {top:.1}H{right:.1}V{bottom:.1}H{left:.1}Z");
-                }
-                (from, apart) = (to, apart && next >= row.end);
-            }
-        } else {
-            band = area(self.points().map(|(x, row)| (x, between(&row))));
-        }
-        if band.is_empty() {
+        if self.swing.scale.is_none() {
             return;
         }
-        self.push(format_args!("<path d=\"{band}\" fill=\"{BAND}\"/>"));
+        let mut text = "lowest to highest";
+        if self.has_bars() {
+            let (bands, apart) = self.bands();
+            bands.into_iter().for_each(|(across, down)| self.rect(across, down, BAND));
+            text = if apart { text } else { "lowest to highest, overlaps halved" };
+        } else {
+            let band = area(self.points().map(|(x, row)| (x, self.swing_of(&row))));
+            self.push(format_args!("<path d=\"{band}\" fill=\"{BAND}\"/>"));
+        }
         self.second_values();
-        self.in_key(true, Swatch::Band, BAND, if apart { "lowest to highest" } else { "lowest to highest, overlaps halved" });
+        self.in_key(true, Swatch::Band, BAND, text);
+    }
+    /// Where a row's band starts and ends from top to bottom. Of one reading alone it is a line.
+    fn swing_of(&self, row: &Row<'_>) -> Option<(f64, f64)> {
+        let (lowest, highest) = row.lowest.zip(row.highest)?;
+        Some(widened((self.swing.y(highest), self.swing.y(lowest)), 1.5))
+    }
+    /// The bands across and down, and whether all windows lie apart. Neighbours that overlap have half of that each, so that every one
+    /// shows: as starts and ends do not fall, no band then lies on another.
+    fn bands(&self) -> (Vec<((f64, f64), (f64, f64))>, bool) {
+        let (mut bands, mut apart, mut from) = (Vec::new(), true, 0.0);
+        let mut rows = self.report.rows().peekable();
+        while let Some(row) = rows.next() {
+            let next = rows.peek().map_or(row.end, |next| next.start);
+            let to = (row.end as f64).min((row.end + next) as f64 / 2.0);
+            let (left, right) = widened((self.x(f64::max(from, row.start as f64)), self.x(to)), 2.0);
+            // Where there is room, a line between neighbours tells them apart.
+            let right = if right - left > 5.0 { right - 1.0 } else { right };
+            bands.extend(self.swing_of(&row).map(|down| ((left, right), down)));
+            (from, apart) = (to, apart && next >= row.end);
+        }
+        (bands, apart)
     }
 
     fn figures(&mut self) {
@@ -464,46 +471,57 @@ fn stretches(spans: impl Iterator<Item = (f64, f64)>, least: f64) -> Vec<(f64, f
     all
 }
 
-/// The area between two lines as one path: along the upper and back along the lower, anew behind a gap. Points come in order of x, each
-/// with the upper y and the lower; those of one pixel are one. A place without them breaks the area, if its pixel has no other.
+/// What a band has in one pixel's width.
+#[derive(Clone, Copy)]
+struct Slice {
+    from: f64,
+    to: f64,
+    top: f64,
+    bottom: f64,
+}
+
+/// The area between two lines as one path: along the upper one and back along the lower, anew behind a gap. Points come in order of x, each
+/// with the y of both. A place without them breaks the area, if its pixel has no other.
 fn area(points: impl Iterator<Item = (f64, Option<(f64, f64)>)>) -> String {
-    let (mut path, mut run, mut gap) = (String::new(), Vec::<(f64, f64, f64)>::new(), None);
-    let mut close = |run: &mut Vec<(f64, f64, f64)>, to: f64| {
-        // Of a run of one pixel there would be nothing to see.
-        if let (Some((from, ..)), Some((_, upper, lower))) = (run.first().copied(), run.last().copied()) {
-            let (from, to) = widened((from, to), 2.0);
-            run.iter_mut().take(1).for_each(|first| first.0 = from);
-            run.push((to, upper, lower));
-        }
-        let upper = run.iter().map(|(x, upper, _)| (x, upper));
-        let lower = run.iter().rev().map(|(x, _, lower)| (x, lower));
-        for (number, (x, y)) in upper.chain(lower).enumerate() {
-            let _ = write!(path, "{}{x:.1} {y:.1}", if number == 0 { "M" } else { "L" });
-        }
-        path.push_str(if run.is_empty() { "" } else { "Z" });
-        run.clear();
-    };
-    let mut last = 0.0;
-    for (x, values) in points {
-        let number = x.floor();
-        let same = run.last().is_some_and(|(before, ..)| before.floor() == number);
-        match (values, run.last_mut()) {
-            (None, _) if same => {}
-            (None, _) => gap = gap.or(Some(number)),
-            (Some((upper, lower)), Some(column)) if same => {
-                (column.1, column.2, last) = (column.1.min(upper), column.2.max(lower), x);
+    let (mut runs, mut gap) = (Vec::<Vec<Slice>>::new(), None);
+    for (x, down) in points {
+        let pixel = x.floor();
+        let slice = runs.last_mut().and_then(|run| run.last_mut()).filter(|slice| slice.from.floor() == pixel);
+        match (down, slice) {
+            (None, Some(_)) => {}
+            (None, None) => gap = gap.or(Some(pixel)),
+            (Some((top, bottom)), Some(slice)) => {
+                *slice = Slice { from: slice.from, to: x, top: top.min(slice.top), bottom: bottom.max(slice.bottom) };
             }
-            (Some((upper, lower)), _) => {
-                if gap.take().is_some_and(|gap| gap != number) {
-                    close(&mut run, last);
+            (Some((top, bottom)), None) => {
+                let breaks = gap.take().is_some_and(|gap| gap != pixel);
+                let slice = Slice { from: x, to: x, top, bottom };
+                match runs.last_mut().filter(|_| !breaks) {
+                    Some(run) => run.push(slice),
+                    None => runs.push(vec![slice]),
                 }
-                run.push((x, upper, lower));
-                last = x;
             }
         }
     }
-    close(&mut run, last);
-    path
+    runs.iter().map(|run| outline(run)).collect()
+}
+fn outline(run: &[Slice]) -> String {
+    let (Some(first), Some(last)) = (run.first(), run.last()) else { return String::new() };
+    // A run of one place would else have nothing to see.
+    let (from, to) = widened((first.from, last.to), 2.0);
+    let between = run.iter().skip(1).map(|slice| (slice.from, slice));
+    let mut slices: Vec<(f64, f64, f64)> = std::iter::once((from, first))
+        .chain(between)
+        .chain([(to, last)])
+        .map(|(x, slice)| (x, slice.top, slice.bottom))
+        .collect();
+    slices.dedup();
+    let (top, bottom) = (slices.iter().map(|(x, top, _)| (x, top)), slices.iter().rev().map(|(x, _, bottom)| (x, bottom)));
+    let mut path = String::new();
+    for (number, (x, y)) in top.chain(bottom).enumerate() {
+        let _ = write!(path, "{}{x:.1} {y:.1}", if number == 0 { "M" } else { "L" });
+    }
+    path + "Z"
 }
 
 /// The points of one pixel's width that a line cannot do without.
@@ -604,6 +622,19 @@ mod tests {
         let inside = [(0.1, Some(5.0)), (1.1, None), (1.2, Some(5.0)), (2.1, Some(5.0))];
         assert_eq!(drawn(&inside).0, "M0.1 5.0L1.2 5.0L2.1 5.0");
         assert_eq!(drawn(&[(0.1, None)]), (String::new(), String::new()));
+    }
+
+    #[test]
+    fn areas_break_at_gaps_and_keep_extremes() {
+        let drawn = |points: &[(f64, Option<(f64, f64)>)]| area(points.iter().copied());
+        let few = [(0.5, Some((1.0, 3.0))), (4.5, Some((2.0, 5.0))), (6.5, None), (8.5, Some((3.0, 4.0))), (9.5, None)];
+        assert_eq!(drawn(&few), "M0.5 1.0L4.5 2.0L4.5 5.0L0.5 3.0ZM7.5 3.0L9.5 3.0L9.5 4.0L7.5 4.0Z");
+        let many =
+            [(0.1, Some((5.0, 6.0))), (0.2, Some((4.0, 5.0))), (0.3, None), (0.4, Some((5.0, 9.0))), (7.2, Some((1.0, 2.0)))];
+        assert_eq!(drawn(&many), "M0.1 4.0L7.2 1.0L7.2 2.0L0.1 9.0Z");
+        let inside = [(0.1, Some((1.0, 2.0))), (3.1, None), (3.2, Some((1.0, 2.0))), (3.6, Some((1.0, 2.0)))];
+        assert_eq!(drawn(&inside), "M0.1 1.0L3.2 1.0L3.6 1.0L3.6 2.0L3.2 2.0L0.1 2.0Z");
+        assert_eq!(drawn(&[(0.1, None)]), "");
     }
 
     #[test]

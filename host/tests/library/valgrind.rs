@@ -1,5 +1,5 @@
-//! The tests on stored answers, refusals, maps, pairs and extremes once more under valgrind, where it is on the PATH, and the collector on its
-//! examples.
+//! The tests on stored answers, refusals, maps, pairs and extremes once more under valgrind, where it is on the PATH, and the collector
+//! on its examples.
 use std::path::Path;
 use std::process::Command;
 
@@ -37,6 +37,8 @@ fn no_error_in_the_collector() {
     let collector = Path::new(env!("CARGO_BIN_EXE_collector"));
     let said = run(collector, &["examples/year.csv", "--plan", "examples/weeks.csv", "--figure", "skewness", "--csv"]);
     assert_eq!(said.lines().count(), 54);
+    let said = run(collector, &["examples/year.csv", "--plan", "examples/weeks.csv", "--csv"]);
+    assert!(said.starts_with("row,label,start,end,from,to,valid,figure,mark,lowest,highest\n") && said.lines().count() == 54);
     let two = ["examples/floor.csv", "examples/top_shelf.csv", "--figure", "correlation", "--window", "24", "--csv"];
     assert_eq!(run(collector, &two).lines().count(), 3361);
 }

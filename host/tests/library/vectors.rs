@@ -287,7 +287,7 @@ fn plans() {
             }
         }
     }
-    assert!(seen.iter().all(|rows| *rows > 20), "{seen:?} rows have neither, variance alone, extremes alone, all");
+    assert!([0, 2, 3].iter().all(|kind| seen[*kind] > 100), "{seen:?} rows have nothing, the variance, the extremes, all");
 }
 fn decoded(bytes: &[u8]) -> Vec<f64> {
     bytes.chunks_exact(8).map(|b| f64::from_le_bytes(std::array::from_fn(|i| b[i]))).collect()
@@ -336,7 +336,7 @@ fn fixed_windows() {
             }
         }
     }
-    assert!(seen.iter().all(|rows| *rows > 20), "{seen:?} rows have neither, variance alone, extremes alone, all");
+    assert!([0, 2, 3].iter().all(|kind| seen[*kind] > 100), "{seen:?} rows have nothing, the variance, the extremes, all");
 }
 
 #[test]
