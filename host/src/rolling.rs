@@ -282,7 +282,8 @@ impl<'a> Column<'a> {
     }
 }
 
-/// What a caller lends to a call that answers variance, lowest and highest of each row. Each list keeps what it holds where [`Lists`] do.
+/// What a caller lends to a call that answers variance, lowest and highest of each row. Each list keeps what it holds where those of
+/// [`Lists`] do.
 #[derive(Debug)]
 pub struct VarLists<'a> {
     /// [`Setting::work`] doubles, for the call's own use.
@@ -303,8 +304,8 @@ impl VarLists<'_> {
     }
 }
 
-/// What [`plan_var`] and [`rolling_var`] give for a row. Lowest and highest are over the valid places of the window whose reading is finite,
-/// and a zero of either sign is +0.0; both are missing where there is no such place.
+/// What [`plan_var`] and [`rolling_var`] give for a row. Lowest and highest are over the valid places of the window whose reading is
+/// finite, and a zero of either sign is +0.0; both are missing where there is no such place.
 ///
 /// They are given also where the variance is missing: where the count is at most ddof, and with a map where it is below the minimum. But
 /// without a map a row that is shorter than the minimum has none of the three. A reading that is not finite makes the variance NaN and
@@ -624,7 +625,8 @@ pub fn plan_pair_into(
     given.result_of_work(number, || setting.work(plan.widest()))
 }
 
-/// A figure of each of a trace's windows of one size: none where it is missing. Of the variance it is that alone; [`rolling_var`] gives all.
+/// A figure of each of a trace's windows of one size: none where it is missing. Of the variance it is that alone; [`rolling_var`] gives
+/// all.
 ///
 /// ```
 /// use moments::{rolling, Setting, Window};
