@@ -62,7 +62,7 @@ fn random_calls_answer_as_every_place_looked_at() {
     let mut rng = Rng(4);
     // rows by what they have: neither, variance alone, extremes alone, all
     let mut seen = [[0; 4]; 2];
-    for call in 0..6000 {
+    for call in 0..3000 {
         let n = (rng.word() % if call % 10 == 0 { 150 } else { 20 }) as usize;
         let kinds = [1, 2, 3, 9][rng.word() as usize % 4];
         let trace: Vec<f64> = (0..n).map(|_| any_reading(&mut rng, kinds)).collect();
@@ -102,7 +102,7 @@ fn random_calls_answer_as_every_place_looked_at() {
                 .expect("accepted")
         });
     }
-    assert!(seen.iter().flatten().all(|rows| *rows > 500), "{seen:?}");
+    assert!(seen.iter().flatten().all(|rows| *rows > 400), "{seen:?}");
 }
 /// The six lists, one behind another, hold the answers: +0.0 and 0 where one is missing.
 fn held_as_answered(answers: &[Answer], held: &[u64]) {
