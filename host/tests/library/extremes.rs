@@ -47,14 +47,16 @@ fn any_map(rng: &mut Rng, n: usize) -> Option<Vec<u8>> {
         _ => Some((0..bytes).map(|_| if rng.word() % 2 == 0 { 0 } else { rng.word() as u8 }).collect()),
     }
 }
-/// Rows whose starts and ends do not fall; some are empty, some as wide as all.
+/// Rows whose starts and ends do not fall, some of them empty.
 fn any_rows(rng: &mut Rng, n: usize) -> (Vec<u32>, Vec<u32>) {
-    let mut places = || -> Vec<u32> { (0..12).map(|_| (rng.word() % (n as u64 + 1)) as u32).collect() };
-    let (mut starts, mut ends) = (places(), places());
+    let mut starts: Vec<usize> = (0..12).map(|_| rng.word() as usize % (n + 1)).collect();
     starts.sort_unstable();
-    ends.sort_unstable();
-    starts.iter_mut().zip(&ends).for_each(|(start, end)| *start = (*start).min(*end));
-    (starts, ends)
+    let mut last = 0;
+    let rows = starts.into_iter().map(|start| {
+        last = (start + rng.word() as usize % 9).max(last).min(n);
+        (start as u32, last as u32)
+    });
+    rows.unzip()
 }
 
 #[test]
