@@ -483,9 +483,9 @@ struct Slice {
     bottom: f64,
 }
 
-/// The area between two lines as one path: along the upper one and back along the lower, anew behind a gap. Points come in order of x, each
-/// with the y of both. A place without them breaks the area, if its pixel has no other.
-fn area(points: impl Iterator<Item = (f64, Option<(f64, f64)>)>) -> String {
+/// The area between two lines as one path: along the upper one and back along the lower, anew behind a gap. Points come in order of x,
+/// each with the y of both. A place without them breaks the area, if its pixel has no other.
+fn area(points: impl Iterator<Item = (f64, Option<Span>)>) -> String {
     let (mut runs, mut gap) = (Vec::<Vec<Slice>>::new(), None);
     for (x, down) in points {
         let pixel = x.floor();
