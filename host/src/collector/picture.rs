@@ -35,6 +35,9 @@ const OF_BAND: &str = "#1f5f99";
 /// Between a bar and 0.
 pub const BELOW: &str = "#f8e6d8";
 
+/// From where to where.
+type Span = (f64, f64);
+
 /// A part of the picture with its own vertical axis.
 struct Panel {
     top: f64,
@@ -284,13 +287,13 @@ impl<'a> Picture<'a> {
         self.in_key(true, Swatch::Band, BAND, text);
     }
     /// Where a row's band starts and ends from top to bottom. Of one reading alone it is a line.
-    fn swing_of(&self, row: &Row<'_>) -> Option<(f64, f64)> {
+    fn swing_of(&self, row: &Row<'_>) -> Option<Span> {
         let (lowest, highest) = row.lowest.zip(row.highest)?;
         Some(widened((self.swing.y(highest), self.swing.y(lowest)), 1.5))
     }
     /// The bands across and down, and whether all windows lie apart. Neighbours that overlap have half of that each, so that every one
     /// shows: as starts and ends do not fall, no band then lies on another.
-    fn bands(&self) -> (Vec<((f64, f64), (f64, f64))>, bool) {
+    fn bands(&self) -> (Vec<(Span, Span)>, bool) {
         let (mut bands, mut apart, mut from) = (Vec::new(), true, 0.0);
         let mut rows = self.report.rows().peekable();
         while let Some(row) = rows.next() {
@@ -480,9 +483,9 @@ struct Slice {
     bottom: f64,
 }
 
-/// The area between two lines as one path: along the upper one and back along the lower, anew behind a gap. Points come in order of x, each
-/// with the y of both. A place without them breaks the area, if its pixel has no other.
-fn area(points: impl Iterator<Item = (f64, Option<(f64, f64)>)>) -> String {
+/// The area between two lines as one path: along the upper one and back along the lower, anew behind a gap. Points come in order of x,
+/// each with the y of both. A place without them breaks the area, if its pixel has no other.
+fn area(points: impl Iterator<Item = (f64, Option<Span>)>) -> String {
     let (mut runs, mut gap) = (Vec::<Vec<Slice>>::new(), None);
     for (x, down) in points {
         let pixel = x.floor();

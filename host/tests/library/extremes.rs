@@ -47,14 +47,16 @@ fn any_map(rng: &mut Rng, n: usize) -> Option<Vec<u8>> {
         _ => Some((0..bytes).map(|_| if rng.word() % 2 == 0 { 0 } else { rng.word() as u8 }).collect()),
     }
 }
-/// Rows whose starts and ends do not fall; some are empty, some as wide as all.
+/// Rows whose starts and ends do not fall, some of them empty.
 fn any_rows(rng: &mut Rng, n: usize) -> (Vec<u32>, Vec<u32>) {
-    let mut places = || -> Vec<u32> { (0..12).map(|_| (rng.word() % (n as u64 + 1)) as u32).collect() };
-    let (mut starts, mut ends) = (places(), places());
+    let mut starts: Vec<usize> = (0..12).map(|_| rng.word() as usize % (n + 1)).collect();
     starts.sort_unstable();
-    ends.sort_unstable();
-    starts.iter_mut().zip(&ends).for_each(|(start, end)| *start = (*start).min(*end));
-    (starts, ends)
+    let mut last = 0;
+    let rows = starts.into_iter().map(|start| {
+        last = (start + rng.word() as usize % 9).max(last).min(n);
+        (start as u32, last as u32)
+    });
+    rows.unzip()
 }
 
 #[test]
@@ -62,7 +64,7 @@ fn random_calls_answer_as_every_place_looked_at() {
     let mut rng = Rng(4);
     // rows by what they have: neither, variance alone, extremes alone, all
     let mut seen = [[0; 4]; 2];
-    for call in 0..6000 {
+    for call in 0..3000 {
         let n = (rng.word() % if call % 10 == 0 { 150 } else { 20 }) as usize;
         let kinds = [1, 2, 3, 9][rng.word() as usize % 4];
         let trace: Vec<f64> = (0..n).map(|_| any_reading(&mut rng, kinds)).collect();
@@ -102,7 +104,7 @@ fn random_calls_answer_as_every_place_looked_at() {
                 .expect("accepted")
         });
     }
-    assert!(seen.iter().flatten().all(|rows| *rows > 500), "{seen:?}");
+    assert!(seen.iter().flatten().all(|rows| *rows > 400), "{seen:?}");
 }
 /// The six lists, one behind another, hold the answers: +0.0 and 0 where one is missing.
 fn held_as_answered(answers: &[Answer], held: &[u64]) {
