@@ -3,7 +3,7 @@
 use crate::input::Input;
 use crate::measure::{Aim, Bench, Case};
 use crate::windows::{name, windows as fixed_windows, Lent, SIZES};
-use moments::{plan_pair_into, rolling_pair_into, Encoded, Lists, Plan, Window};
+use moments::{plan_pair_into, rolling_pair_into, Encoded, Plan, Window};
 use oracle::model::pairs_into;
 use oracle::second::pair_setting;
 use oracle::PairFigure;
@@ -24,12 +24,11 @@ impl Both {
         Both { rust: lent(), ours: lent() }
     }
     fn compare(self) -> impl Iterator<Item = bool> {
-        let Lent { figures, present, .. } = self.rust.0;
-        self.ours.0.compare(figures.into_iter().zip(present).map(|(figure, present)| (present == 1).then_some(figure)).collect())
+        self.ours.0.figures.compare(self.rust.0.figures.answers())
     }
 }
 /// What a host in Rust does with the bytes of a trace.
-fn decode(bytes: &[u8], readings: &mut [f64]) {
+pub fn decode(bytes: &[u8], readings: &mut [f64]) {
     let words = bytes.chunks_exact(8).map(|word| f64::from_le_bytes(word.try_into().expect("eight bytes")));
     readings.iter_mut().zip(words).for_each(|(reading, x)| *reading = x);
 }
@@ -41,8 +40,8 @@ fn rust(
     figure: PairFigure,
     lent: &mut Lent,
 ) {
-    let Lent { work, figures, present, .. } = lent;
-    let put = |i: usize, row: Option<f64>| (figures[i], present[i]) = (row.unwrap_or(0.0), row.is_some() as u8);
+    let Lent { work, figures, .. } = lent;
+    let put = |i: usize, row: Option<f64>| figures.put(i, row);
     pairs_into(traces, maps, rows, figure, 1, work, put, &mut ());
 }
 impl Input {
@@ -90,10 +89,11 @@ fn of_plan(bench: &mut Bench, input: &Input, [x, y]: &[Vec<u8>; 2], asked: Asked
                 rust([&first, second], maps, rows, figure, lent);
                 lent.readings = first;
             },
-            |Both { ours: (Lent { readings, work, figures, present }, second), .. }| {
+            |Both { ours: (lent, second), .. }| {
+                let (readings, lists) = lent.lists();
                 let x = Encoded { bytes: x, readings, map: maps[0] };
                 let y = Encoded { bytes: y, readings: second, map: maps[1] };
-                black_box(plan_pair_into(x, y, plan, setting, Lists { work, figures, present })).expect("accepted");
+                black_box(plan_pair_into(x, y, plan, setting, lists)).expect("accepted");
             },
             Both::compare,
         );
@@ -110,8 +110,8 @@ fn of_fixed(bench: &mut Bench, input: &Input, asked: Asked, window_name: &str, w
                 let rows = (0..n).map(|i| oracle::offsets(i, size, n, center));
                 rust([&input.x, &input.y], maps, rows, figure, &mut both.rust.0);
             },
-            |Both { ours: (Lent { work, figures, present, .. }, _), .. }| {
-                let lists = Lists { work, figures, present };
+            |Both { ours: (lent, _), .. }| {
+                let lists = lent.lists().1;
                 black_box(rolling_pair_into(&input.x, maps[0], &input.y, maps[1], window, setting, lists)).expect("accepted");
             },
             Both::compare,

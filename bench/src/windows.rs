@@ -1,7 +1,8 @@
 //! Plans, fixed windows and weights.
 use crate::input::Input;
 use crate::measure::{Aim, Bench, Case};
-use moments::{plan, plan_into, rolling, rolling_into, rolling_var_weights_into, Lists, Plan, Setting, Window};
+use moments::{plan, plan_into, plan_var_into, rolling, rolling_into, rolling_var_into, rolling_var_weights_into};
+use moments::{Figure as Asked, Lists, Plan, Refusal, Setting, VarLists, Window};
 use oracle::rolling::no_nulls;
 use oracle::second::setting;
 use oracle::Figure;
@@ -28,29 +29,108 @@ pub fn name(size: usize) -> String {
     }
 }
 
+/// Two lists that take an answer a row.
+#[derive(Default)]
+pub struct Column {
+    pub values: Vec<f64>,
+    pub present: Vec<u8>,
+}
+impl Column {
+    fn new(rows: usize) -> Self {
+        Column { values: vec![0.0; rows], present: vec![0; rows] }
+    }
+    /// What a host in Rust does with an answer.
+    #[inline(always)]
+    pub fn put(&mut self, row: usize, answer: Option<f64>) {
+        (self.values[row], self.present[row]) = (answer.unwrap_or(0.0), answer.is_some() as u8);
+    }
+    pub fn answers(self) -> Vec<Option<f64>> {
+        self.values.into_iter().zip(self.present).map(|(value, present)| (present == 1).then_some(value)).collect()
+    }
+    /// Whether each row's answer is the Rust's.
+    pub fn compare(self, rust: Vec<Option<f64>>) -> impl Iterator<Item = bool> {
+        assert_eq!(rust.len(), self.values.len());
+        rust.into_iter().zip(self.values).zip(self.present).map(|((rust, value), present)| match rust {
+            None => present == 0 && value.to_bits() == 0,
+            Some(rust) => present == 1 && oracle::same(rust, value),
+        })
+    }
+    fn lend(&mut self) -> moments::Column<'_> {
+        moments::Column::new(&mut self.values, &mut self.present)
+    }
+}
 /// What our entries are lent.
 pub struct Lent {
     pub readings: Vec<f64>,
     pub work: Vec<f64>,
-    pub figures: Vec<f64>,
-    pub present: Vec<u8>,
+    pub figures: Column,
+    /// Lent to variance alone, as the next.
+    pub lowest: Column,
+    pub highest: Column,
 }
 impl Lent {
-    pub fn new(n: usize, readings: usize, work: usize) -> Self {
-        Lent { readings: vec![0.0; readings], work: vec![0.0; work], figures: vec![0.0; n], present: vec![0; n] }
+    pub fn new(rows: usize, readings: usize, work: usize) -> Self {
+        let (readings, work, figures) = (vec![0.0; readings], vec![0.0; work], Column::new(rows));
+        Lent { readings, work, figures, lowest: Column::default(), highest: Column::default() }
     }
-    /// Whether each row's answer is the Rust's.
-    pub fn compare(self, rust: Vec<Option<f64>>) -> impl Iterator<Item = bool> {
-        assert_eq!(rust.len(), self.figures.len());
-        rust.into_iter().zip(self.figures).zip(self.present).map(|((rust, figure), present)| match rust {
-            None => present == 0 && figure.to_bits() == 0,
-            Some(rust) => present == 1 && oracle::same(rust, figure),
-        })
+    pub fn with_extremes(rows: usize, readings: usize, work: usize) -> Self {
+        Lent { lowest: Column::new(rows), highest: Column::new(rows), ..Lent::new(rows, readings, work) }
+    }
+    pub fn columns(self) -> [Column; 3] {
+        [self.figures, self.lowest, self.highest]
+    }
+    /// As host's functions take them: the list of readings, and the others.
+    pub fn lists(&mut self) -> (&mut [f64], Lists<'_>) {
+        let Lent { readings, work, figures: Column { values, present }, .. } = self;
+        (readings, Lists { work, figures: values, present })
+    }
+    pub fn var_lists(&mut self) -> (&mut [f64], VarLists<'_>) {
+        let Lent { readings, work, figures, lowest, highest } = self;
+        (readings, VarLists { work, variance: figures.lend(), lowest: lowest.lend(), highest: highest.lend() })
+    }
+    /// The lists that this figure takes.
+    fn of(figure: Figure, rows: usize, readings: usize, work: usize) -> Self {
+        if figure.has_extremes() {
+            Lent::with_extremes(rows, readings, work)
+        } else {
+            Lent::new(rows, readings, work)
+        }
+    }
+}
+/// Of variance ours gives the lowest and the highest too, which the Rust beside it does not; `extremes` has a Rust that does.
+fn title(name: &str, figure: Figure, tag: &str) -> (String, Aim) {
+    if figure.has_extremes() {
+        (format!("{name}, {tag}, ours with lowest and highest (no target)"), Aim::None)
+    } else {
+        (format!("{name}, {tag}"), Aim::AtMost(1.0))
     }
 }
 fn compare(rust: Vec<Option<f64>>, ours: Vec<Option<f64>>) -> impl Iterator<Item = bool> {
     assert_eq!(rust.len(), ours.len());
     rust.into_iter().zip(ours).map(|(rust, ours)| oracle::same_row(rust, ours))
+}
+
+/// The plan call of a figure, or of variance, into what is lent.
+fn into_plan(bytes: &[u8], map: Option<&[u8]>, rows: Plan<'_>, setting: Setting, lent: &mut Lent) -> Result<(), Refusal> {
+    let Setting { figure, min_periods } = setting;
+    match figure {
+        Asked::Var(figure) => {
+            let (readings, lists) = lent.var_lists();
+            plan_var_into(bytes, readings, map, rows, Setting { figure, min_periods }, lists)
+        }
+        Asked::Shape(figure) => {
+            let (readings, lists) = lent.lists();
+            plan_into(bytes, readings, map, rows, Setting { figure, min_periods }, lists)
+        }
+    }
+}
+/// The same over fixed windows.
+fn into_rolling(x: &[f64], map: Option<&[u8]>, window: Window, setting: Setting, lent: &mut Lent) -> Result<(), Refusal> {
+    let Setting { figure, min_periods } = setting;
+    match figure {
+        Asked::Var(figure) => rolling_var_into(x, map, window, Setting { figure, min_periods }, lent.var_lists().1),
+        Asked::Shape(figure) => rolling_into(x, map, window, Setting { figure, min_periods }, lent.lists().1),
+    }
 }
 
 /// Plans of as many rows as readings, so that the Rust's own driver runs them.
@@ -69,15 +149,13 @@ fn of_plan(bench: &mut Bench, input: &Input, bytes: &[u8], plan_name: &str, size
         let case = |name: String, aim: Aim| Case { section: "Plans", name, aim, n };
         for (figure_name, figure) in figures(size) {
             let (setting, rust) = (setting(figure, 1), || oracle::plan_raw(&input.x, bitmap.as_ref(), &starts, &ends, figure, 1));
+            let (name, aim) = title(&format!("{plan_name}, {figure_name}"), figure, tag);
             bench.run(
-                case(format!("{plan_name}, {figure_name}, {tag}"), Aim::AtMost(1.0)),
-                || Lent::new(n, n, setting.work(rows.widest())),
+                case(name, aim),
+                || Lent::of(figure, n, n, setting.work(rows.widest())),
                 |_| drop(black_box(rust())),
-                |Lent { readings, work, figures, present }| {
-                    black_box(plan_into(bytes, readings, map, rows, setting, Lists { work, figures, present }))
-                        .expect("accepted");
-                },
-                |lent| lent.compare(oracle::rows_of(&rust())),
+                |lent| black_box(into_plan(bytes, map, rows, setting, lent)).expect("accepted"),
+                |lent| lent.figures.compare(oracle::rows_of(&rust())),
             );
         }
         for (figure_name, figure) in [VARIANCE, SKEWNESS].into_iter().filter(|_| size == MIDDLE) {
@@ -106,15 +184,14 @@ pub fn fixed(bench: &mut Bench, input: &Input) {
             let case = |name: String, aim: Aim| Case { section: "Fixed windows", name, aim, n };
             let rust = |figure: Figure| oracle::fixed_raw(&array, size, 1, window.center, figure);
             for (figure_name, figure) in figures(size) {
-                let setting: Setting = setting(figure, 1);
+                let setting = setting(figure, 1);
+                let (name, aim) = title(&format!("{window_name}, {figure_name}"), figure, tag);
                 bench.run(
-                    case(format!("{window_name}, {figure_name}, {tag}"), Aim::AtMost(1.0)),
-                    || Lent::new(n, 0, setting.work(size.min(n))),
+                    case(name, aim),
+                    || Lent::of(figure, n, 0, setting.work(size.min(n))),
                     |_| drop(black_box(rust(figure))),
-                    |Lent { work, figures, present, .. }| {
-                        black_box(rolling_into(x, map, window, setting, Lists { work, figures, present })).expect("accepted");
-                    },
-                    |lent| lent.compare(oracle::rows_of(&rust(figure))),
+                    |lent| black_box(into_rolling(x, map, window, setting, lent)).expect("accepted"),
+                    |lent| lent.figures.compare(oracle::rows_of(&rust(figure))),
                 );
             }
             for (figure_name, figure) in [VARIANCE, SKEWNESS].into_iter().filter(|_| size == MIDDLE && !window.center) {
@@ -142,10 +219,10 @@ pub fn weighted(bench: &mut Bench, input: &Input) {
                 Case { section: "Weighted windows", name, aim: Aim::AtMost(1.0), n },
                 || Lent::new(n, 0, 0),
                 |_| drop(black_box(rust())),
-                |Lent { figures, present, .. }| {
-                    black_box(rolling_var_weights_into(x, None, window, 1, &weights, figures, present)).expect("accepted");
+                |Lent { figures: Column { values, present }, .. }| {
+                    black_box(rolling_var_weights_into(x, None, window, 1, &weights, values, present)).expect("accepted");
                 },
-                |lent| lent.compare(oracle::weighted(x, size, 1, window.center, &weights).expect("accepted")),
+                |lent| lent.figures.compare(oracle::weighted(x, size, 1, window.center, &weights).expect("accepted")),
             );
         }
     }

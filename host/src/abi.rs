@@ -32,7 +32,7 @@ pub type OfRange<const N: usize> =
     unsafe extern "C" fn(*const f64, usize, bool, *const u8, usize, usize, usize, &mut [f64; N]) -> u32;
 
 unsafe extern "C" {
-    /// Variance of a plan's windows.
+    /// Variance of a plan's windows, with the lowest and the highest finite reading of each.
     pub fn moments_plan_var(
         trace: *const u8,
         trace_len: usize,
@@ -53,6 +53,14 @@ unsafe extern "C" {
         figures_len: usize,
         present: *mut u8,
         present_len: usize,
+        lowest: *mut f64,
+        lowest_len: usize,
+        lowest_present: *mut u8,
+        lowest_present_len: usize,
+        highest: *mut f64,
+        highest_len: usize,
+        highest_present: *mut u8,
+        highest_present_len: usize,
     ) -> u32;
     /// Skewness of a plan's windows.
     pub fn moments_plan_skew(
@@ -157,7 +165,7 @@ unsafe extern "C" {
         present_len: usize,
     ) -> u32;
 
-    /// Variance of fixed windows.
+    /// Variance of fixed windows, with the lowest and the highest finite reading of each.
     pub fn moments_rolling_var(
         trace: *const f64,
         trace_len: usize,
@@ -174,6 +182,14 @@ unsafe extern "C" {
         figures_len: usize,
         present: *mut u8,
         present_len: usize,
+        lowest: *mut f64,
+        lowest_len: usize,
+        lowest_present: *mut u8,
+        lowest_present_len: usize,
+        highest: *mut f64,
+        highest_len: usize,
+        highest_present: *mut u8,
+        highest_present_len: usize,
     ) -> u32;
     /// Skewness of fixed windows.
     pub fn moments_rolling_skew(

@@ -34,6 +34,14 @@ pub enum List {
     Figures,
     /// A byte a row.
     Present,
+    /// A double a row for the lowest readings.
+    Lowest,
+    /// A byte a row, whether there is a lowest reading.
+    LowestPresent,
+    /// A double a row for the highest readings.
+    Highest,
+    /// A byte a row, whether there is a highest reading.
+    HighestPresent,
     /// A double a reading, into which a plan call decodes this trace.
     Readings(Which),
 }
@@ -256,6 +264,10 @@ impl fmt::Display for Refusal {
                 let (list, what) = match list {
                     List::Figures => ("figures".into(), "row"),
                     List::Present => ("present bytes".into(), "row"),
+                    List::Lowest => ("lowest readings".into(), "row"),
+                    List::LowestPresent => ("the lowest readings' present bytes".into(), "row"),
+                    List::Highest => ("highest readings".into(), "row"),
+                    List::HighestPresent => ("the highest readings' present bytes".into(), "row"),
                     List::Readings(Which::Only) => ("readings".into(), "reading"),
                     List::Readings(trace) => (format!("{trace}'s readings"), "reading"),
                 };
@@ -316,6 +328,8 @@ pub(crate) struct Given<'a> {
     /// Lengths of the lists that are lent.
     pub figures: usize,
     pub present: usize,
+    /// Of the lowest readings and of the highest, doubles and bytes.
+    pub extremes: Option<[[usize; 2]; 2]>,
     pub work: usize,
     pub needed_work: usize,
 }
@@ -374,9 +388,14 @@ impl Given<'_> {
         self.traces().find(|(_, trace)| such(trace))
     }
     fn short_list(&self) -> Option<Refusal> {
-        let answers = [(List::Figures, self.figures, self.rows), (List::Present, self.present, self.rows)];
+        let figures = [(List::Figures, self.figures), (List::Present, self.present)];
+        let extremes = self.extremes.map(|[[lowest, lowest_present], [highest, highest_present]]| {
+            let (lowest, highest) = ((List::Lowest, lowest), (List::Highest, highest));
+            [lowest, (List::LowestPresent, lowest_present), highest, (List::HighestPresent, highest_present)]
+        });
+        let answers = figures.into_iter().chain(extremes.into_iter().flatten()).map(|(list, length)| (list, length, self.rows));
         let decoded = self.traces().filter_map(|(which, trace)| Some((List::Readings(which), trace.decoded?, trace.readings)));
-        let mut lists = answers.into_iter().chain(decoded);
+        let mut lists = answers.chain(decoded);
         let (list, length, needed) = lists.find(|(_, length, needed)| length < needed)?;
         Some(Refusal::ListTooShort { list, length, needed })
     }

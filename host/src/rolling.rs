@@ -73,20 +73,27 @@ impl Window {
     }
 }
 
-/// What a figure is of: [`Figure`] of one trace, [`PairFigure`] of two.
+/// What is asked of a window: of one trace [`Var`], [`Shape`] or either as [`Figure`], of two [`PairFigure`].
 pub trait Kind {
     /// Doubles of work that a call needs for each place of its widest window.
     fn work_per_place(&self) -> usize;
 }
 
-/// A figure of a window and what it is worked out with.
+/// The variance, divided by the count less `ddof`; [`plan_var`] and [`rolling_var`] give the lowest and the highest reading with it.
 #[derive(Clone, Copy, Debug, PartialEq, Eq)]
-pub enum Figure {
-    /// The variance, divided by the count less `ddof`.
-    Var {
-        /// 0 for all readings there are, 1 for a sample of them.
-        ddof: u8,
-    },
+pub struct Var {
+    /// 0 for all readings there are, 1 for a sample of them.
+    pub ddof: u8,
+}
+impl Kind for Var {
+    fn work_per_place(&self) -> usize {
+        6
+    }
+}
+
+/// A figure of how readings lie about their mean.
+#[derive(Clone, Copy, Debug, PartialEq, Eq)]
+pub enum Shape {
     /// The skewness.
     Skew {
         /// Whether it is left biased.
@@ -100,12 +107,37 @@ pub enum Figure {
         bias: bool,
     },
 }
+impl Kind for Shape {
+    fn work_per_place(&self) -> usize {
+        match self {
+            Shape::Skew { .. } => 5,
+            Shape::Kurtosis { .. } => 6,
+        }
+    }
+}
+
+/// A figure of one trace, where it is not known before the program runs which.
+///
+/// ```
+/// use moments::{plan, Plan, Setting};
+/// for (name, wanted) in [("variance", 1.0), ("kurtosis", -2.0)] {
+///     let setting: Setting = if name == "variance" { Setting::var(0).into() } else { Setting::kurtosis(true, true).into() };
+///     assert_eq!(plan(&[2.0, 4.0], None, Plan::new(&[0], &[2]), setting)?, [Some(wanted)]);
+/// }
+/// # Ok::<(), moments::Refusal>(())
+/// ```
+#[derive(Clone, Copy, Debug, PartialEq, Eq)]
+pub enum Figure {
+    /// The variance.
+    Var(Var),
+    /// The skewness or the kurtosis.
+    Shape(Shape),
+}
 impl Kind for Figure {
     fn work_per_place(&self) -> usize {
         match self {
-            Figure::Var { .. } => 4,
-            Figure::Skew { .. } => 5,
-            Figure::Kurtosis { .. } => 6,
+            Figure::Var(figure) => figure.work_per_place(),
+            Figure::Shape(figure) => figure.work_per_place(),
         }
     }
 }
@@ -150,18 +182,30 @@ pub struct Setting<F = Figure> {
     /// enough that one has a map, and the valid places are those of both.
     pub min_periods: usize,
 }
-impl Setting {
+impl Setting<Var> {
     /// Variance with a minimum of 1.
     pub fn var(ddof: u8) -> Self {
-        Setting { figure: Figure::Var { ddof }, min_periods: 1 }
+        Setting { figure: Var { ddof }, min_periods: 1 }
     }
+}
+impl Setting<Shape> {
     /// Skewness with a minimum of 1.
     pub fn skew(bias: bool) -> Self {
-        Setting { figure: Figure::Skew { bias }, min_periods: 1 }
+        Setting { figure: Shape::Skew { bias }, min_periods: 1 }
     }
     /// Kurtosis with a minimum of 1.
     pub fn kurtosis(fisher: bool, bias: bool) -> Self {
-        Setting { figure: Figure::Kurtosis { fisher, bias }, min_periods: 1 }
+        Setting { figure: Shape::Kurtosis { fisher, bias }, min_periods: 1 }
+    }
+}
+impl From<Setting<Var>> for Setting {
+    fn from(Setting { figure, min_periods }: Setting<Var>) -> Self {
+        Setting { figure: Figure::Var(figure), min_periods }
+    }
+}
+impl From<Setting<Shape>> for Setting {
+    fn from(Setting { figure, min_periods }: Setting<Shape>) -> Self {
+        Setting { figure: Figure::Shape(figure), min_periods }
     }
 }
 impl Setting<PairFigure> {
@@ -183,7 +227,8 @@ impl<F: Kind> Setting<F> {
     /// Doubles of work that a call needs whose widest window has so many places.
     ///
     /// ```
-    /// assert_eq!(moments::Setting::kurtosis(true, true).work(96), 576);
+    /// assert_eq!(moments::Setting::var(1).work(96), 576);
+    /// assert_eq!(moments::Setting::skew(true).work(96), 480);
     /// assert_eq!(moments::Setting::pearson_corr().work(96), 768);
     /// ```
     pub fn work(&self, widest: usize) -> usize {
@@ -191,8 +236,8 @@ impl<F: Kind> Setting<F> {
     }
 }
 
-/// What a caller lends to a call that answers rows. Past the rows, past the work that is needed, and everywhere if the call is refused, each list keeps
-/// what it holds.
+/// What a caller lends to a call that answers a figure a row. Past the rows, past the work that is needed, and everywhere if the call is
+/// refused, each list keeps what it holds.
 #[derive(Debug)]
 pub struct Lists<'a> {
     /// [`Setting::work`] doubles, for the call's own use.
@@ -213,6 +258,78 @@ impl Lists<'_> {
         let Lists { work, figures, present } = self;
         Given { rows, work: work.len(), figures: figures.len(), present: present.len(), ..Given::default() }
     }
+}
+
+/// Two lists that take one answer of each row.
+#[derive(Debug)]
+pub struct Column<'a> {
+    /// Takes a double a row, +0.0 where the answer is missing.
+    pub values: &'a mut [f64],
+    /// Takes 1 for an answer that is present, and 0 for one that is missing.
+    pub present: &'a mut [u8],
+}
+impl<'a> Column<'a> {
+    /// The column of these lists.
+    pub fn new(values: &'a mut [f64], present: &'a mut [u8]) -> Self {
+        Column { values, present }
+    }
+    /// As an entry takes it: values and present bytes, each with its length.
+    fn parts(&mut self) -> (*mut f64, usize, *mut u8, usize) {
+        (self.values.as_mut_ptr(), self.values.len(), self.present.as_mut_ptr(), self.present.len())
+    }
+    fn lengths(&self) -> [usize; 2] {
+        [self.values.len(), self.present.len()]
+    }
+}
+
+/// What a caller lends to a call that answers variance, lowest and highest of each row. Each list keeps what it holds where those of
+/// [`Lists`] do.
+#[derive(Debug)]
+pub struct VarLists<'a> {
+    /// [`Setting::work`] doubles, for the call's own use.
+    pub work: &'a mut [f64],
+    /// Takes the variances.
+    pub variance: Column<'a>,
+    /// Takes the lowest readings.
+    pub lowest: Column<'a>,
+    /// Takes the highest readings.
+    pub highest: Column<'a>,
+}
+impl VarLists<'_> {
+    /// What a refusal can say of them where so many rows are asked for.
+    fn given(&self, rows: usize) -> Given<'static> {
+        let ([figures, present], work) = (self.variance.lengths(), self.work.len());
+        let extremes = Some([self.lowest.lengths(), self.highest.lengths()]);
+        Given { rows, work, figures, present, extremes, ..Given::default() }
+    }
+}
+
+/// What [`plan_var`] and [`rolling_var`] give for a row. Lowest and highest are over the valid places of the window whose reading is
+/// finite, and a zero of either sign is +0.0; both are missing where there is no such place.
+///
+/// They are given also where the variance is missing: where the count is at most ddof, and with a map where it is below the minimum. But
+/// without a map a row that is shorter than the minimum has none of the three. A reading that is not finite makes the variance NaN and
+/// leaves lowest and highest to the others.
+///
+/// ```
+/// use moments::{rolling_var, Answer, Setting, Window};
+/// let trace = [-18.0, f64::NAN, -16.0];
+/// let answers = rolling_var(&trace, None, Window::trailing(2), Setting::var(1))?;
+/// assert_eq!(answers[0], Answer { variance: None, lowest: Some(-18.0), highest: Some(-18.0) });
+/// assert!(answers[1].variance.unwrap().is_nan());
+/// assert_eq!((answers[2].lowest, answers[2].highest), (Some(-16.0), Some(-16.0)));
+/// let answers = rolling_var(&trace, None, Window::trailing(2), Setting::var(1).min_periods(2))?;
+/// assert_eq!(answers[0], Answer::default());                      // one place where two are the minimum
+/// # Ok::<(), moments::Refusal>(())
+/// ```
+#[derive(Clone, Copy, Debug, Default, PartialEq)]
+pub struct Answer {
+    /// The variance.
+    pub variance: Option<f64>,
+    /// The lowest finite reading of the window.
+    pub lowest: Option<f64>,
+    /// The highest finite reading of the window.
+    pub highest: Option<f64>,
 }
 
 /// A trace that is given as bytes, eight a reading, little-endian, at any address, and the list into which an accepted call decodes
@@ -238,31 +355,68 @@ impl Encoded<'_> {
     }
 }
 
-/// The lists of a call, as long as it needs them.
-struct Room {
+/// The lists of a column, as long as a call needs them.
+struct Rows {
+    values: Vec<f64>,
+    present: Vec<u8>,
+}
+impl Rows {
+    fn new(rows: usize) -> Self {
+        Rows { values: vec![0.0; rows], present: vec![0; rows] }
+    }
+    fn lend(&mut self) -> Column<'_> {
+        Column::new(&mut self.values, &mut self.present)
+    }
+    fn answers(self) -> impl Iterator<Item = Option<f64>> {
+        self.values.into_iter().zip(self.present).map(|(value, present)| (present == 1).then_some(value))
+    }
+}
+
+/// The lists of a call that answers so many columns, as long as it needs them.
+struct Room<const COLUMNS: usize> {
     /// Of a call that decodes, a list for each trace.
     readings: [Vec<f64>; 2],
     work: Vec<f64>,
-    figures: Vec<f64>,
-    present: Vec<u8>,
+    columns: [Rows; COLUMNS],
 }
-impl Room {
+impl<const COLUMNS: usize> Room<COLUMNS> {
     /// What is too long is refused whatever is lent, so nothing is allocated for it.
     fn new(readings: usize, rows: usize, decoded: [usize; 2], work: usize) -> Self {
         let [first, second] = decoded;
         let [first, second, work, rows] = if readings.max(rows) > MOST { [0; 4] } else { [first, second, work, rows] };
         let readings = [vec![0.0; first], vec![0.0; second]];
-        Room { readings, work: vec![0.0; work], figures: vec![0.0; rows], present: vec![0; rows] }
+        Room { readings, work: vec![0.0; work], columns: std::array::from_fn(|_| Rows::new(rows)) }
     }
+    /// The columns alone: the answers can have the memory of the rest.
+    fn columns(self) -> [Rows; COLUMNS] {
+        self.columns
+    }
+}
+impl Room<1> {
     fn lend(&mut self) -> ([&mut [f64]; 2], Lists<'_>) {
-        let Room { readings: [first, second], work, figures, present } = self;
-        ([first, second], Lists { work, figures, present })
+        let Room { readings: [first, second], work, columns: [Rows { values, present }] } = self;
+        ([first, second], Lists { work, figures: values, present })
     }
     fn answers(self) -> Vec<Option<f64>> {
-        let Room { readings, work, figures, present } = self;
-        // the answers can have their memory
-        drop((readings, work));
-        figures.into_iter().zip(present).map(|(figure, present)| (present == 1).then_some(figure)).collect()
+        let [figures] = self.columns();
+        figures.answers().collect()
+    }
+}
+impl Room<3> {
+    /// The second list of readings is that of a second trace, which the variance has not.
+    fn lend(&mut self) -> (&mut [f64], VarLists<'_>) {
+        let Room { readings: [readings, _], work, columns } = self;
+        let [variance, lowest, highest] = columns.each_mut().map(Rows::lend);
+        (readings, VarLists { work, variance, lowest, highest })
+    }
+    fn variances(self) -> Vec<Option<f64>> {
+        let [variance, ..] = self.columns();
+        variance.answers().collect()
+    }
+    fn answers(self) -> Vec<Answer> {
+        let [variance, lowest, highest] = self.columns().map(Rows::answers);
+        let rows = variance.zip(lowest).zip(highest);
+        rows.map(|((variance, lowest), highest)| Answer { variance, lowest, highest }).collect()
     }
 }
 
@@ -272,7 +426,7 @@ fn bytes_of(trace: &[f64]) -> &[u8] {
     unsafe { std::slice::from_raw_parts(trace.as_ptr().cast(), size_of_val(trace)) }
 }
 
-/// A figure of each of a plan's windows: none where it is missing.
+/// A figure of each of a plan's windows: none where it is missing. Of the variance it is that alone; [`plan_var`] gives all.
 ///
 /// ```
 /// use moments::{plan, Plan, Setting};
@@ -280,25 +434,53 @@ fn bytes_of(trace: &[f64]) -> &[u8] {
 /// assert_eq!(plan(&[2.0, 4.0, 6.0, 8.0], None, rows, Setting::var(1))?, [Some(2.0), Some(2.0), None]);
 /// # Ok::<(), moments::Refusal>(())
 /// ```
-pub fn plan(trace: &[f64], map: Option<&[u8]>, plan: Plan<'_>, setting: Setting) -> Result<Vec<Option<f64>>, Refusal> {
-    let n = trace.len();
-    let mut room = Room::new(n, plan.starts.len(), [n, 0], setting.work(plan.widest().min(n)));
-    let ([readings, _], lists) = room.lend();
-    plan_into(bytes_of(trace), readings, map, plan, setting, lists)?;
-    Ok(room.answers())
+pub fn plan(trace: &[f64], map: Option<&[u8]>, plan: Plan<'_>, setting: impl Into<Setting>) -> Result<Vec<Option<f64>>, Refusal> {
+    let Setting { figure, min_periods } = setting.into();
+    match figure {
+        Figure::Var(figure) => Ok(planned(trace, map, plan, Setting { figure, min_periods })?.variances()),
+        Figure::Shape(figure) => {
+            let (n, setting) = (trace.len(), Setting { figure, min_periods });
+            let mut room = Room::<1>::new(n, plan.starts.len(), [n, 0], setting.work(plan.widest().min(n)));
+            let ([readings, _], lists) = room.lend();
+            plan_into(bytes_of(trace), readings, map, plan, setting, lists)?;
+            Ok(room.answers())
+        }
+    }
 }
 
-/// [`plan`] into lists that the caller lends, of a trace that is given as bytes and decoded into `readings`: see [`Encoded`].
+/// The variance of each of a plan's windows, and their lowest and highest finite readings.
+///
+/// ```
+/// use moments::{plan_var, Answer, Plan, Setting};
+/// let rows = Plan::new(&[0, 1, 3], &[2, 3, 4]);
+/// let answers = plan_var(&[2.0, 4.0, 6.0, 8.0], None, rows, Setting::var(1))?;
+/// assert_eq!(answers[1], Answer { variance: Some(2.0), lowest: Some(4.0), highest: Some(6.0) });
+/// assert_eq!(answers[2], Answer { variance: None, lowest: Some(8.0), highest: Some(8.0) });
+/// # Ok::<(), moments::Refusal>(())
+/// ```
+pub fn plan_var(trace: &[f64], map: Option<&[u8]>, plan: Plan<'_>, setting: Setting<Var>) -> Result<Vec<Answer>, Refusal> {
+    Ok(planned(trace, map, plan, setting)?.answers())
+}
+fn planned(trace: &[f64], map: Option<&[u8]>, plan: Plan<'_>, setting: Setting<Var>) -> Result<Room<3>, Refusal> {
+    let n = trace.len();
+    let mut room = Room::<3>::new(n, plan.starts.len(), [n, 0], setting.work(plan.widest().min(n)));
+    let (readings, lists) = room.lend();
+    plan_var_into(bytes_of(trace), readings, map, plan, setting, lists)?;
+    Ok(room)
+}
+
+/// [`plan`] of skewness or kurtosis into lists that the caller lends, of a trace that is given as bytes and decoded into `readings`: see
+/// [`Encoded`]. The variance has [`plan_var_into`].
 ///
 /// ```
 /// use moments::{plan_into, Lists, Plan, Setting};
 /// let trace: Vec<u8> = [2.0f64, 4.0, 6.0].iter().flat_map(|x| x.to_le_bytes()).collect();
-/// let (rows, setting) = (Plan::new(&[0, 1], &[2, 3]), Setting::var(0));
+/// let (rows, setting) = (Plan::new(&[0, 1], &[2, 3]), Setting::skew(true));
 /// let (mut readings, mut work) = ([0.0; 3], vec![0.0; setting.work(rows.widest())]);
-/// let (mut figures, mut present) = ([0.0; 2], [0; 2]);
+/// let (mut figures, mut present) = ([9.0; 2], [9; 2]);
 /// let lists = Lists { work: &mut work, figures: &mut figures, present: &mut present };
 /// plan_into(&trace, &mut readings, None, rows, setting, lists)?;
-/// assert_eq!((readings, figures, present), ([2.0, 4.0, 6.0], [1.0, 1.0], [1, 1]));
+/// assert_eq!((readings, figures, present), ([2.0, 4.0, 6.0], [0.0, 0.0], [1, 1]));
 /// # Ok::<(), moments::Refusal>(())
 /// ```
 pub fn plan_into(
@@ -306,7 +488,7 @@ pub fn plan_into(
     readings: &mut [f64],
     map: Option<&[u8]>,
     plan: Plan<'_>,
-    setting: Setting,
+    setting: Setting<Shape>,
     lists: Lists<'_>,
 ) -> Result<(), Refusal> {
     let (mut trace, mut lists) = (Encoded { bytes: trace, readings, map }, lists);
@@ -316,16 +498,57 @@ pub fn plan_into(
     // SAFETY: each pointer and length is a slice's, and the lists that are written to are lent to this call alone.
     let number = unsafe {
         match setting.figure {
-            Figure::Var { ddof } => {
-                abi::moments_plan_var(t, tn, r, rn, has_map, m, mn, s, sn, e, en, min, ddof, w, wn, f, fl, p, pn)
-            }
-            Figure::Skew { bias } => {
+            Shape::Skew { bias } => {
                 abi::moments_plan_skew(t, tn, r, rn, has_map, m, mn, s, sn, e, en, min, bias, w, wn, f, fl, p, pn)
             }
-            Figure::Kurtosis { fisher, bias } => {
+            Shape::Kurtosis { fisher, bias } => {
                 abi::moments_plan_kurtosis(t, tn, r, rn, has_map, m, mn, s, sn, e, en, min, fisher, bias, w, wn, f, fl, p, pn)
             }
         }
+    };
+    given.result_of_work(number, || setting.work(plan.widest()))
+}
+
+/// [`plan_var`] into lists that the caller lends, of a trace that is given as bytes and decoded into `readings`: see [`Encoded`].
+///
+/// ```
+/// use moments::{plan_var_into, Column, Plan, Setting, VarLists};
+/// let trace: Vec<u8> = [2.0f64, 4.0, -0.0].iter().flat_map(|x| x.to_le_bytes()).collect();
+/// let (rows, setting) = (Plan::new(&[0, 1], &[2, 3]), Setting::var(0));
+/// let (mut readings, mut work) = ([9.0; 3], vec![0.0; setting.work(rows.widest())]);
+/// let ([mut variances, mut lowest, mut highest], mut present) = ([[9.0; 2]; 3], [[9; 2]; 3]);
+/// let [in_variances, in_lowest, in_highest] = &mut present;
+/// let lists = VarLists {
+///     work: &mut work,
+///     variance: Column::new(&mut variances, in_variances),
+///     lowest: Column::new(&mut lowest, in_lowest),
+///     highest: Column::new(&mut highest, in_highest),
+/// };
+/// plan_var_into(&trace, &mut readings, None, rows, setting, lists)?;
+/// assert_eq!((readings, variances, present), ([2.0, 4.0, -0.0], [1.0, 4.0], [[1; 2]; 3]));
+/// assert_eq!((lowest, highest), ([2.0, 0.0], [4.0, 4.0]));
+/// # Ok::<(), moments::Refusal>(())
+/// ```
+pub fn plan_var_into(
+    trace: &[u8],
+    readings: &mut [f64],
+    map: Option<&[u8]>,
+    plan: Plan<'_>,
+    setting: Setting<Var>,
+    mut lists: VarLists<'_>,
+) -> Result<(), Refusal> {
+    let mut trace = Encoded { bytes: trace, readings, map };
+    let given = Given { trace: trace.given(), plan, ..lists.given(plan.starts.len()) };
+    let (t, tn, r, rn, has_map, m, mn) = trace.parts();
+    let (Setting { figure: Var { ddof }, min_periods: min }, (s, sn, e, en)) = (setting, plan.parts());
+    let (w, wn, (f, fl, p, pn)) = (lists.work.as_mut_ptr(), lists.work.len(), lists.variance.parts());
+    let ((l, ln, lp, lpn), (h, hn, hp, hpn)) = (lists.lowest.parts(), lists.highest.parts());
+    // SAFETY: each pointer and length is a slice's, and the lists that are written to are lent to this call alone.
+    #[rustfmt::skip]
+    let number = unsafe {
+        abi::moments_plan_var(
+            t, tn, r, rn, has_map, m, mn, s, sn, e, en, min, ddof, w, wn, f, fl, p, pn, l, ln, lp, lpn, h, hn, hp, hpn,
+        )
     };
     given.result_of_work(number, || setting.work(plan.widest()))
 }
@@ -352,7 +575,7 @@ pub fn plan_pair(
     setting: Setting<PairFigure>,
 ) -> Result<Vec<Option<f64>>, Refusal> {
     let [n, m] = [x.len(), y.len()];
-    let mut room = Room::new(n.max(m), plan.starts.len(), [n, m], setting.work(plan.widest().min(n)));
+    let mut room = Room::<1>::new(n.max(m), plan.starts.len(), [n, m], setting.work(plan.widest().min(n)));
     let ([x_readings, y_readings], lists) = room.lend();
     let x = Encoded { bytes: bytes_of(x), readings: x_readings, map: x_map };
     let y = Encoded { bytes: bytes_of(y), readings: y_readings, map: y_map };
@@ -402,7 +625,8 @@ pub fn plan_pair_into(
     given.result_of_work(number, || setting.work(plan.widest()))
 }
 
-/// A figure of each of a trace's windows of one size: none where it is missing.
+/// A figure of each of a trace's windows of one size: none where it is missing. Of the variance it is that alone; [`rolling_var`] gives
+/// all.
 ///
 /// ```
 /// use moments::{rolling, Setting, Window};
@@ -412,29 +636,60 @@ pub fn plan_pair_into(
 /// assert!(answers[2] > answers[1]);
 /// # Ok::<(), moments::Refusal>(())
 /// ```
-pub fn rolling(trace: &[f64], map: Option<&[u8]>, window: Window, setting: Setting) -> Result<Vec<Option<f64>>, Refusal> {
-    let n = trace.len();
-    let mut room = Room::new(n, n, [0; 2], setting.work(window.size.min(n)));
-    rolling_into(trace, map, window, setting, room.lend().1)?;
-    Ok(room.answers())
+pub fn rolling(
+    trace: &[f64],
+    map: Option<&[u8]>,
+    window: Window,
+    setting: impl Into<Setting>,
+) -> Result<Vec<Option<f64>>, Refusal> {
+    let Setting { figure, min_periods } = setting.into();
+    match figure {
+        Figure::Var(figure) => Ok(rolled(trace, map, window, Setting { figure, min_periods })?.variances()),
+        Figure::Shape(figure) => {
+            let (n, setting) = (trace.len(), Setting { figure, min_periods });
+            let mut room = Room::<1>::new(n, n, [0; 2], setting.work(window.size.min(n)));
+            rolling_into(trace, map, window, setting, room.lend().1)?;
+            Ok(room.answers())
+        }
+    }
 }
 
-/// [`rolling`] into lists that the caller lends.
+/// The variance of each of a trace's windows of one size, and their lowest and highest finite readings.
+///
+/// ```
+/// use moments::{rolling_var, Answer, Setting, Window};
+/// let answers = rolling_var(&[1.0, 3.0, 2.0], Some(&[0b101]), Window::centered(3), Setting::var(0).min_periods(2))?;
+/// // with a map, lowest and highest are given below the minimum too
+/// assert_eq!(answers[0], Answer { variance: None, lowest: Some(1.0), highest: Some(1.0) });
+/// assert_eq!(answers[1], Answer { variance: Some(0.25), lowest: Some(1.0), highest: Some(2.0) });
+/// # Ok::<(), moments::Refusal>(())
+/// ```
+pub fn rolling_var(trace: &[f64], map: Option<&[u8]>, window: Window, setting: Setting<Var>) -> Result<Vec<Answer>, Refusal> {
+    Ok(rolled(trace, map, window, setting)?.answers())
+}
+fn rolled(trace: &[f64], map: Option<&[u8]>, window: Window, setting: Setting<Var>) -> Result<Room<3>, Refusal> {
+    let n = trace.len();
+    let mut room = Room::<3>::new(n, n, [0; 2], setting.work(window.size.min(n)));
+    rolling_var_into(trace, map, window, setting, room.lend().1)?;
+    Ok(room)
+}
+
+/// [`rolling`] of skewness or kurtosis into lists that the caller lends. The variance has [`rolling_var_into`].
 ///
 /// ```
 /// use moments::{rolling_into, Lists, Setting, Window};
-/// let (setting, mut figures, mut present) = (Setting::var(0), [9.0; 4], [9; 4]);
+/// let (setting, mut figures, mut present) = (Setting::kurtosis(true, true), [9.0; 4], [9; 4]);
 /// let mut work = vec![0.0; setting.work(2)];
 /// let lists = Lists { work: &mut work, figures: &mut figures, present: &mut present };
-/// rolling_into(&[2.0, 4.0, 8.0], None, Window::trailing(2), setting, lists)?;
-/// assert_eq!((figures, present), ([0.0, 1.0, 4.0, 9.0], [1, 1, 1, 9]));
+/// rolling_into(&[2.0, 4.0, 8.0], None, Window::trailing(2), setting.min_periods(2), lists)?;
+/// assert_eq!((figures, present), ([0.0, -2.0, -2.0, 9.0], [0, 1, 1, 9]));
 /// # Ok::<(), moments::Refusal>(())
 /// ```
 pub fn rolling_into(
     trace: &[f64],
     map: Option<&[u8]>,
     window: Window,
-    setting: Setting,
+    setting: Setting<Shape>,
     lists: Lists<'_>,
 ) -> Result<(), Refusal> {
     let (t, n, (has_map, m, mn), mut lists) = (trace.as_ptr(), trace.len(), map_parts(map), lists);
@@ -443,14 +698,51 @@ pub fn rolling_into(
     // SAFETY: each pointer and length is a slice's, and the lists that are written to are lent to this call alone.
     let number = unsafe {
         match setting.figure {
-            Figure::Var { ddof } => abi::moments_rolling_var(t, n, has_map, m, mn, size, min, center, ddof, w, wn, f, fl, p, pn),
-            Figure::Skew { bias } => {
-                abi::moments_rolling_skew(t, n, has_map, m, mn, size, min, center, bias, w, wn, f, fl, p, pn)
-            }
-            Figure::Kurtosis { fisher, bias } => {
+            Shape::Skew { bias } => abi::moments_rolling_skew(t, n, has_map, m, mn, size, min, center, bias, w, wn, f, fl, p, pn),
+            Shape::Kurtosis { fisher, bias } => {
                 abi::moments_rolling_kurtosis(t, n, has_map, m, mn, size, min, center, fisher, bias, w, wn, f, fl, p, pn)
             }
         }
+    };
+    given.result_of_work(number, || setting.work(size.min(n)))
+}
+
+/// [`rolling_var`] into lists that the caller lends.
+///
+/// ```
+/// use moments::{rolling_var_into, Column, Setting, VarLists, Window};
+/// let (setting, mut work) = (Setting::var(1), [0.0; 12]);
+/// let ([mut variances, mut lowest, mut highest], mut present) = ([[9.0; 4]; 3], [[9; 4]; 3]);
+/// let [in_variances, in_lowest, in_highest] = &mut present;
+/// let lists = VarLists {
+///     work: &mut work,
+///     variance: Column::new(&mut variances, in_variances),
+///     lowest: Column::new(&mut lowest, in_lowest),
+///     highest: Column::new(&mut highest, in_highest),
+/// };
+/// rolling_var_into(&[2.0, 4.0, 8.0], None, Window::trailing(2), setting, lists)?;
+/// assert_eq!((variances, lowest, highest), ([0.0, 2.0, 8.0, 9.0], [2.0, 2.0, 4.0, 9.0], [2.0, 4.0, 8.0, 9.0]));
+/// assert_eq!(present, [[0, 1, 1, 9], [1, 1, 1, 9], [1, 1, 1, 9]]);
+/// # Ok::<(), moments::Refusal>(())
+/// ```
+pub fn rolling_var_into(
+    trace: &[f64],
+    map: Option<&[u8]>,
+    window: Window,
+    setting: Setting<Var>,
+    mut lists: VarLists<'_>,
+) -> Result<(), Refusal> {
+    let (t, n, (has_map, m, mn)) = (trace.as_ptr(), trace.len(), map_parts(map));
+    let given = Given { trace: GivenTrace::new(trace, map), ..lists.given(n) };
+    let (Setting { figure: Var { ddof }, min_periods: min }, Window { size, center }) = (setting, window);
+    let (w, wn, (f, fl, p, pn)) = (lists.work.as_mut_ptr(), lists.work.len(), lists.variance.parts());
+    let ((l, ln, lp, lpn), (h, hn, hp, hpn)) = (lists.lowest.parts(), lists.highest.parts());
+    // SAFETY: each pointer and length is a slice's, and the lists that are written to are lent to this call alone.
+    #[rustfmt::skip]
+    let number = unsafe {
+        abi::moments_rolling_var(
+            t, n, has_map, m, mn, size, min, center, ddof, w, wn, f, fl, p, pn, l, ln, lp, lpn, h, hn, hp, hpn,
+        )
     };
     given.result_of_work(number, || setting.work(size.min(n)))
 }
@@ -475,7 +767,7 @@ pub fn rolling_pair(
     setting: Setting<PairFigure>,
 ) -> Result<Vec<Option<f64>>, Refusal> {
     let n = x.len();
-    let mut room = Room::new(n.max(y.len()), n, [0; 2], setting.work(window.size.min(n)));
+    let mut room = Room::<1>::new(n.max(y.len()), n, [0; 2], setting.work(window.size.min(n)));
     rolling_pair_into(x, x_map, y, y_map, window, setting, room.lend().1)?;
     Ok(room.answers())
 }
@@ -535,8 +827,9 @@ pub fn rolling_var_weights(
     min_periods: usize,
     weights: &[f64],
 ) -> Result<Vec<Option<f64>>, Refusal> {
-    let mut room = Room::new(trace.len(), trace.len(), [0; 2], 0);
-    rolling_var_weights_into(trace, map, window, min_periods, weights, &mut room.figures, &mut room.present)?;
+    let mut room = Room::<1>::new(trace.len(), trace.len(), [0; 2], 0);
+    let (_, Lists { figures, present, .. }) = room.lend();
+    rolling_var_weights_into(trace, map, window, min_periods, weights, figures, present)?;
     Ok(room.answers())
 }
 
@@ -576,14 +869,19 @@ pub fn rolling_var_weights_into(
 mod tests {
     use super::*;
 
+    fn lengths<const COLUMNS: usize>(room: Room<COLUMNS>) -> Vec<usize> {
+        let [first, second] = room.readings.map(|list| list.len());
+        let rows = room.columns.iter().flat_map(|column| [column.values.len(), column.present.len()]);
+        [first, second, room.work.len()].into_iter().chain(rows).collect()
+    }
+
     #[test]
     fn nothing_is_allocated_for_what_is_too_long() {
-        let lengths = |room: Room| {
-            let [first, second] = room.readings.map(|list| list.len());
-            [first, second, room.work.len(), room.figures.len(), room.present.len()]
-        };
-        assert_eq!(lengths(Room::new(9, 3, [9, 8], 24)), [9, 8, 24, 3, 3]);
-        assert_eq!(lengths(Room::new(MOST + 1, 3, [9, 8], 24)), [0; 5]);
-        assert_eq!(lengths(Room::new(9, MOST + 1, [9, 8], 24)), [0; 5]);
+        assert_eq!(lengths(Room::<1>::new(9, 3, [9, 8], 24)), [9, 8, 24, 3, 3]);
+        assert_eq!(lengths(Room::<3>::new(9, 3, [9, 0], 24)), [9, 0, 24, 3, 3, 3, 3, 3, 3]);
+        for (readings, rows) in [(MOST + 1, 3), (9, MOST + 1)] {
+            assert_eq!(lengths(Room::<1>::new(readings, rows, [9, 8], 24)), [0; 5]);
+            assert_eq!(lengths(Room::<3>::new(readings, rows, [9, 0], 24)), [0; 9]);
+        }
     }
 }

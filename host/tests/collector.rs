@@ -91,6 +91,9 @@ fn column(csv: &str, number: usize) -> Vec<String> {
 const VALID: usize = 6;
 const FIGURE: usize = 7;
 const MARK: usize = 8;
+const LOWEST: usize = 9;
+const HIGHEST: usize = 10;
+const HEADING: &str = "row,label,start,end,from,to,valid,figure,mark";
 
 /// The two traces of the other example.
 const FAN: [&str; 2] = ["examples/floor.csv", "examples/top_shelf.csv"];
@@ -118,7 +121,7 @@ fn the_example_s_tables() {
 fn the_readme_s_tables() {
     let readme = fs::read_to_string(host().join("../README.md")).expect("the README").replace("host/examples/", "examples/");
     let printed = ["weeks.txt", "fan_weeks.txt"].map(expected);
-    for (heading, table) in ["  valid   variance\n", "  valid  correlation\n"].iter().zip(printed) {
+    for (heading, table) in ["  valid   variance    lowest  highest\n", "  valid  correlation\n"].iter().zip(printed) {
         let block = readme.split("```").find(|block| block.starts_with("text\n") && block.contains(heading)).expect("a table");
         let lines =
             block.lines().skip(1).filter(|line| !line.starts_with("..") && !line.starts_with("$ ") && !line.starts_with("    "));
@@ -133,8 +136,14 @@ fn the_example_s_pictures() {
     let folder = Folder::new();
     let svg = folder.0.join("out.svg");
     let windows: [(&[&str], &[&str]); 3] = [
-        (&["--plan", "examples/weeks.csv"], &["logarithmic axis", "figure, over its window", "figure missing"]),
-        (&["--window", "168"], &["trailing, of 168 places", "figure, at its window's last place", "figure not finite"]),
+        (
+            &["--plan", "examples/weeks.csv"],
+            &["logarithmic axis", "figure, over its window", "figure missing", "(right axis)", ">lowest to highest<"],
+        ),
+        (
+            &["--window", "168"],
+            &["trailing, of 168 places", "figure, at its window's last place", "figure not finite", ">lowest to highest<"],
+        ),
         (&["--window", "24", "--centered", "--figure", "kurtosis"], &["Kurtosis less three, biased", "centred, of 24 places"]),
     ];
     for (windows, texts) in windows {
@@ -146,6 +155,7 @@ fn the_example_s_pictures() {
         let texts =
             texts.iter().chain(&["reading missing", "reading not finite", "2025-01-01", ">8000<", "year.csv: 8760 readings"]);
         texts.for_each(|text| assert!(picture.contains(text), "{windows:?} lacks {text}"));
+        assert_eq!(picture.contains("lowest"), !windows.contains(&"kurtosis"), "{windows:?}");
         assert!(picture.len() < 200_000, "{} bytes", picture.len());
     }
 }
@@ -239,6 +249,27 @@ fn fixed_windows_agree_with_the_library() {
     }
 }
 
+/// Variances, lowest and highest readings are those of the library.
+#[test]
+fn variances_agree_with_the_library() {
+    let (_, trace, map) = example("examples/year.csv");
+    for (window, args) in [
+        (moments::Window::trailing(30), &["--window", "30"][..]),
+        (moments::Window::centered(31), &["--window", "31", "--centered"]),
+    ] {
+        let args = [&["examples/year.csv", "--csv", "--ddof", "2", "--minimum", "5"], args].concat();
+        let csv = String::from_utf8(run_in(host(), &args, b"").stdout).expect("UTF-8");
+        let setting = moments::Setting::var(2).min_periods(5);
+        let answers = moments::rolling_var(&trace, map.as_deref(), window, setting).expect("figures");
+        let shown = |number: Option<f64>| number.map_or("-".to_string(), |number| format!("{number:?}"));
+        for (row, answer) in rows(&csv).iter().zip(&answers) {
+            let wanted = [answer.variance, answer.lowest, answer.highest].map(shown);
+            assert_eq!([FIGURE, LOWEST, HIGHEST].map(|at| row[at].clone()), wanted, "{row:?}");
+        }
+        assert_eq!(rows(&csv).len(), answers.len());
+    }
+}
+
 /// The figures of two traces and their counts of pairs are those of the library.
 #[test]
 fn figures_of_two_traces_agree_with_the_library() {
@@ -281,7 +312,7 @@ fn two_traces_and_what_is_wrong_with_them() {
         ("old.svg", b"old picture"),
     ]);
     let csv = folder.table("t.csv u.csv --figure covariance --plan p.csv --csv");
-    assert_eq!(csv, "row,label,start,end,from,to,valid,figure,mark\n0,x,0,2,a,b,2,1.0,\n1,y,1,3,b,c,2,-1.0,\n");
+    assert_eq!(csv, format!("{HEADING}\n0,x,0,2,a,b,2,1.0,\n1,y,1,3,b,c,2,-1.0,\n"));
     assert_eq!(column(&folder.table("t.csv u.csv --figure covariance --plan p.csv --csv --ddof 0"), FIGURE), ["0.5", "-0.5"]);
     assert_eq!(column(&folder.table("u.csv t.csv --figure correlation --window 2 --csv"), FIGURE), ["NaN", "1.0", "-1.0"]);
     assert_eq!(
@@ -414,7 +445,10 @@ fn missing_readings_and_readings_that_are_not_finite() {
     assert_eq!(column(&csv, MARK), ["", "", "", "not finite", ""]);
     let text = folder.table("t.csv --plan p.csv");
     assert!(text.contains("8 readings, 2 missing, 2 not finite"), "{text}");
-    assert!(text.contains("\n  3      4 to   6  e     f       2       NaN !\n"), "{text}");
+    assert!(text.contains("\n  3      4 to   6  e     f       2       NaN !       -        -\n"), "{text}");
+    // lowest and highest are of the readings that are finite
+    assert_eq!(column(&csv, LOWEST), ["2.0", "-", "-", "-", "1.0"]);
+    assert_eq!(column(&csv, HIGHEST), ["4.0", "-", "-", "-", "3.0"]);
     // With a missing reading anywhere the minimum counts valid readings, and else places.
     assert_eq!(column(&folder.table("t.csv --plan p.csv --csv --minimum 2 --ddof 0"), FIGURE), ["1.0", "-", "-", "NaN", "1.0"]);
     folder.write("whole.csv", b"a,2\nb,4\nc,6\n");
@@ -446,7 +480,51 @@ fn weighted_variance() {
     assert_eq!(column(&folder.table("t.csv --window 2 --weights 1,1 --csv"), FIGURE), ["0.0", "1.0"]);
     assert_eq!(column(&folder.table("t.csv --window 2 --weights 1,0 --csv"), FIGURE), ["0.0", "0.0"]);
     assert_eq!(column(&folder.table("t.csv --window 2 --weights 1,1 --csv --minimum 2"), FIGURE), ["-", "1.0"]);
-    assert!(folder.table("t.csv --window 2 --weights 1,1").starts_with("weighted variance, minimum 1\n"));
+    let text = folder.table("t.csv --window 2 --weights 1,1 --svg out.svg");
+    assert!(text.starts_with("weighted variance, minimum 1\n"));
+    // it has no lowest and no highest, nowhere
+    assert!(folder.table("t.csv --window 2 --weights 1,1 --csv").starts_with(&format!("{HEADING}\n")));
+    let svg = fs::read_to_string(folder.0.join("out.svg")).expect("a picture");
+    assert!([&text, &svg].iter().all(|text| !text.contains("lowest")), "{text}");
+}
+
+/// The lowest and the highest reading stand behind the variance, and with no other figure.
+#[test]
+fn lowest_and_highest() {
+    let trace = b"a,-18.5\nb,-0\nc,nan\nd,-17.25\ne,3\nf,inf\n";
+    let folder =
+        Folder::with(&[("t.csv", trace), ("p.csv", b"0,2\n1,4\n3,4\n4,4\n4,5\n4,6\n5,6\n"), ("m.csv", b"a,1\nb,\nc,5\n")]);
+    let csv = folder.table("t.csv --plan p.csv --csv");
+    assert_eq!(csv.lines().next(), Some(&format!("{HEADING},lowest,highest")[..]));
+    assert_eq!(column(&csv, LOWEST), ["-18.5", "-17.25", "-17.25", "-", "3.0", "3.0", "-"]);
+    assert_eq!(column(&csv, HIGHEST), ["0.0", "0.0", "-17.25", "-", "3.0", "3.0", "-"]);
+    assert_eq!(column(&csv, FIGURE), ["171.125", "NaN", "-", "-", "-", "NaN", "-"]);
+    let text = folder.table("t.csv --plan p.csv");
+    for line in [
+        "row  start    end  from  to  valid  variance    lowest  highest",
+        "  0      0 to   2  a     b       2   171.125    -18.50     0.00",
+        "  1      1 to   4  b     d       3       NaN !  -17.25     0.00",
+        "  2      3 to   4  d     d       1         -    -17.25   -17.25",
+        "  3      4 to   4                0         -         -        -",
+        "  4      4 to   5  e     e       1         -      3.00     3.00",
+        "-  missing, in 4 rows: too few readings for the figure or for the minimum",
+        "-  lowest and highest missing, in 2 rows: no finite reading, or too few places for the minimum",
+    ] {
+        assert!(text.lines().any(|printed| printed == line), "{line}\n{text}");
+    }
+    // where no reading is missing, a window shorter than the minimum has none; else it has
+    let short = folder.table("t.csv --window 2 --minimum 2 --csv");
+    assert_eq!((column(&short, LOWEST)[0].as_str(), column(&short, LOWEST)[1].as_str()), ("-", "-18.5"));
+    let with_map = folder.table("m.csv --window 2 --minimum 2 --csv");
+    assert_eq!(
+        (column(&with_map, FIGURE), column(&with_map, LOWEST)),
+        (vec!["-".into(); 3], ["1.0", "1.0", "5.0"].map(String::from).to_vec())
+    );
+    for figure in ["skewness", "kurtosis"] {
+        let other = folder.table(&format!("t.csv --plan p.csv --csv --figure {figure}"));
+        assert!(other.starts_with(&format!("{HEADING}\n")), "{other}");
+        assert!(!folder.table(&format!("t.csv --plan p.csv --figure {figure}")).contains("lowest"));
+    }
 }
 
 #[test]
@@ -481,7 +559,7 @@ fn nothing_to_read() {
         ("t.csv", b"a,1\n"),
         ("r.csv", b"0,0\n"),
     ]);
-    let heading = "row,label,start,end,from,to,valid,figure,mark\n";
+    let heading = format!("{HEADING},lowest,highest\n");
     for line in [
         "none.csv --plan p.csv",
         "heading.csv --plan p.csv",
@@ -493,7 +571,7 @@ fn nothing_to_read() {
         assert_eq!(xml::wrong_with(&fs::read_to_string(folder.0.join("out.svg")).expect("a picture")), None);
         assert!(folder.table(line).contains(" 0 rows;"), "{line}");
     }
-    assert_eq!(folder.table("none.csv --plan r.csv --csv"), format!("{heading}0,,0,0,,,0,-,\n"));
+    assert_eq!(folder.table("none.csv --plan r.csv --csv"), format!("{heading}0,,0,0,,,0,-,,-,-\n"));
 }
 
 #[test]
@@ -502,8 +580,8 @@ fn labels_in_quotes_and_long_ones() {
     let folder = Folder::with(&[("t.csv", b"\"a, b\",1\nc,2\nd,4\n")]);
     folder.write("p.csv", format!("\"top, \"\"shelf\"\"\",0,1\n{long},0,2\nx\ty,1,3\n").as_bytes());
     let csv = folder.table("t.csv --plan p.csv --csv --ddof 0");
-    assert!(csv.contains("\n0,\"top, \"\"shelf\"\"\",0,1,\"a, b\",\"a, b\",1,0.0,\n"), "{csv}");
-    assert!(csv.contains(&format!("\n1,{long},0,2,\"a, b\",c,2,0.25,\n")), "{csv}");
+    assert!(csv.contains("\n0,\"top, \"\"shelf\"\"\",0,1,\"a, b\",\"a, b\",1,0.0,,1.0,1.0\n"), "{csv}");
+    assert!(csv.contains(&format!("\n1,{long},0,2,\"a, b\",c,2,0.25,,1.0,2.0\n")), "{csv}");
     let text = folder.table("t.csv --plan p.csv --ddof 0");
     assert!(
         text.contains("top, \"shelf\"") && text.contains(&format!("\n  1  {}…      0 to   2  a, b  c ", "ß".repeat(39))),

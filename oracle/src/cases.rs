@@ -1,5 +1,7 @@
-//! The calls on windows that `words` stores: those by hand, then random ones of every number and figure, then maps of other lengths.
+//! The calls on windows that `words` stores: those by hand, then random ones of every number and figure, then maps of other lengths, then
+//! what tells readings of document 02's request 4 apart, lowest and highest.
 use crate::account::{afresh, Readings};
+use crate::extremes::roughen;
 use crate::host::{Case, Room, EASY};
 use crate::rng::Rng;
 use crate::{fixed, maps, offsets, plan, same_row, windows, Figure};
@@ -70,7 +72,7 @@ fn by_hand(r: &mut Rng) -> Vec<Case> {
 fn in_order(r: &mut Rng) -> Vec<(u32, Case)> {
     let x: Vec<f64> = (0..9).map(|_| r.reading(1)).collect();
     let good = Case::new(VAR, 1, &x, Some(&[0xFF, 1]), &[(0, 3), (1, 4)]);
-    let none = Room { readings: 0, work: 0, figures: 0, present: 0 };
+    let none = Room::default();
     let (starts, ends) = (vec![5, 5, 0], vec![4, 99]);
     let all = Case { trace: good.trace[..71].to_vec(), map: vec![1], starts, ends, room: none, ..good.clone() };
     let rows = |starts: &[u32], ends: &[u32]| Case { starts: starts.to_vec(), ends: ends.to_vec(), room: none, ..good.clone() };
@@ -98,13 +100,13 @@ fn in_order(r: &mut Rng) -> Vec<(u32, Case)> {
         (12, Room { readings: 8, work: 0, ..edge.room }),
         (12, Room { figures: 1, work: 0, ..edge.room }),
         (12, Room { present: 1, work: 0, ..edge.room }),
-        (13, Room { work: 35, ..edge.room }),
+        (13, Room { work: 53, ..edge.room }),
     ] {
         edge.room = room;
         v.push((number, edge.clone()));
     }
     // without a map nothing is asked of what stands there
-    edge.room = Room { readings: 9, work: 36, figures: 2, present: 2 };
+    edge.room = Room { readings: 9, work: 54, figures: 2, present: 2, extremes: [2; 4] };
     edge.map = vec![1, 2, 3];
     v.push((0, edge));
     v
@@ -205,7 +207,7 @@ fn fixed_in_order(r: &mut Rng) -> Vec<(u32, windows::Case)> {
     let mut v = Vec::new();
     for (k, f) in EASY.into_iter().enumerate() {
         let good = Case::new(f, &x, Some(&[0xFF, 1]), 3, 1, k == 1);
-        let none = Room { readings: 0, work: 0, figures: 0, present: 0 };
+        let none = Room::default();
         let need = good.room.work;
         // n = 9 needs a map of 2 bytes or more
         for (number, map) in [(3, vec![]), (3, vec![0xFF]), (12, vec![0xFF; 3])] {
@@ -289,7 +291,7 @@ fn weighted_in_order(r: &mut Rng) -> Vec<(u32, windows::Case)> {
     use windows::Case;
     let x: Vec<f64> = (0..9).map(|_| r.reading(1)).collect();
     let good = Case::weighted(&[1.0, 2.0, 1.0], &x, 1, false);
-    let none = Room { readings: 0, work: 0, figures: 0, present: 0 };
+    let none = Room::default();
     let zero = Some(vec![1.0, -1.0]);
     let with = |map: &[u8]| Case { has_map: true, map: map.to_vec(), ..good.clone() };
     let weights = |w: &[f64]| Case { weights: Some(w.to_vec()), ..good.clone() };
@@ -407,6 +409,137 @@ pub fn other_weighted_maps(r: &mut Rng) -> Vec<windows::Case> {
         let (x, map) = maps::example(r, n, behind, k);
         windows::Case { has_map: true, map, ..windows::Case::weighted(&[1.0, 2.0, 0.5], &x, 1, k % 2 == 0) }
     }).collect()
+}
+
+// ---- lowest and highest ----
+/// Traces with what must not show in a lowest or a highest, each with the rows that would show it.
+type Shown = (Vec<f64>, Vec<(usize, usize)>);
+fn showing() -> Vec<Shown> {
+    let h = 1.7e308;
+    let least = f64::from_bits(1);
+    let slide = |n: usize, wide: usize| (0..n).map(|i| ((i + 1).saturating_sub(wide), i + 1)).collect::<Vec<_>>();
+    vec![
+        // zeros of both signs, alone, in either order, beside numbers that are above or below
+        (vec![-0.0, 0.0, -0.0, 3.0, -0.0, -3.0, -0.0], vec![(0, 1), (0, 2), (1, 3), (2, 3), (2, 4), (3, 5), (4, 6), (5, 7), (6, 7)]),
+        // the 0.0 that enters for a bad reading is below all others, or above; windows of bad readings alone
+        (vec![5.0, NAN, 7.0, INF, -INF, 9.0, 6.0], vec![(0, 1), (0, 2), (1, 2), (1, 3), (1, 4), (3, 5), (3, 6), (5, 7)]),
+        (vec![-5.0, INF, -7.0, NAN, NAN, -9.0, -6.0], vec![(0, 1), (0, 2), (1, 2), (1, 3), (1, 4), (3, 5), (3, 6), (5, 7)]),
+        // the lowest and the highest leave from the front part, and by a gap
+        (vec![90.0, -80.0, 1.0, 2.0, 70.0, 3.0, -60.0, 4.0, 5.0], slide(9, 3)),
+        (vec![-9.0, 9.0, 1.0, 2.0, 3.0, 2.5, 1.5, 2.0], vec![(0, 4), (1, 5), (2, 5), (2, 8), (5, 8), (8, 8)]),
+        (vec![1.0, 2.0, 50.0, -50.0, 3.0, 4.0, 5.0, 6.0], vec![(0, 4), (4, 6), (5, 6), (5, 8), (7, 8)]),
+        // rising and falling throughout: each row's lowest, or highest, is the one that leaves next
+        (vec![1.0, 2.0, 3.0, 4.0, 5.0, 6.0], slide(6, 4)),
+        (vec![6.0, 5.0, 4.0, 3.0, 2.0, 1.0], slide(6, 4)),
+        // subnormals, and numbers whose differences overflow, as they are
+        (vec![least, -least, 1e-310, -0.0, 2.0, -1e-310, least], slide(7, 2)),
+        (vec![h, -h, 1.0, f64::MAX, f64::MIN, -1.0, h], slide(7, 3)),
+        // equal readings, of which one leaves
+        (vec![4.0, 4.0, 2.0, 4.0, 2.0, 2.0, 4.0], slide(7, 3)),
+        // empty rows between others
+        (vec![3.0, -1.0, 8.0, 2.0], vec![(0, 0), (0, 2), (2, 2), (2, 4), (4, 4)]),
+    ]
+}
+/// Of these traces, and of random ones, plans without a map and with one that hides every third place; rows below the minimum; lists that
+/// are too short by one, each of the four; and work at and about 4, 5 and 6 doubles a place.
+pub fn extreme_cases(r: &mut Rng) -> Vec<Case> {
+    let mut v = Vec::new();
+    let holes = [0xDB, 0xB6];
+    for (k, (x, rows)) in showing().into_iter().enumerate() {
+        let ddof = [1, 0, 2][k % 3];
+        v.push(Case::new(Figure::Var { ddof }, 1, &x, None, &rows));
+        v.push(Case::new(Figure::Var { ddof }, 0, &x, Some(&holes[..x.len().div_ceil(8)]), &rows));
+    }
+    // rows shorter than the minimum, row 0 among them and not: without a map both are missing there and the window stays, with one they
+    // are given; so too where the count is at most ddof
+    let x = [2.0, -7.0, 4.0, 9.0, -3.0, 8.0, 1.0, 6.0];
+    for rows in [&[(0, 2), (0, 3), (1, 5), (3, 5), (3, 8), (7, 8)][..], &[(0, 4), (3, 5), (4, 5), (4, 8)]] {
+        for map in [None, Some(&[0xFF][..]), Some(&[0xB5])] {
+            for (min, ddof) in [(3, 1), (3, 255), (0, 255), (usize::MAX, 0)] {
+                v.push(Case::new(Figure::Var { ddof }, min, &x, map, rows));
+            }
+        }
+    }
+    // no place valid, or all valid ones bad
+    v.push(Case::new(VAR, 0, &x, Some(&[0]), &[(0, 4), (2, 8)]));
+    v.push(Case::new(VAR, 0, &[NAN, 1.0, INF, 2.0, -INF, 3.0], Some(&[0x15]), &[(0, 2), (0, 4), (2, 6)]));
+    for (number, room) in short_rooms(Case::new(VAR, 1, &x, None, &[(0, 3), (2, 6)]).room, 2, 4) {
+        let case = Case { room, ..Case::new(VAR, 1, &x, None, &[(0, 3), (2, 6)]) };
+        assert_eq!(case.call().refusal(case.room), number, "{case:?}");
+        v.push(case);
+    }
+    for i in 0..24 {
+        v.push(loop {
+            let mut case = Case::any(r, 10, 6);
+            let mut x = case.call().readings();
+            roughen(r, &mut x);
+            case.trace = x.iter().flat_map(|x| x.to_le_bytes()).collect();
+            let call = case.call();
+            let accepted = call.has_map == (i % 2 == 1) && call.refusal(case.room) == 0;
+            if accepted && call.extremes().is_some_and(|rows| rows.iter().flatten().flatten().count() > 3) {
+                break case;
+            }
+        });
+    }
+    v
+}
+/// Lists of a call of so many rows whose widest window has so many places, each with the number that they make: one list after the other
+/// too short by one, and several; work at and about 4, 5 and 6 doubles a place; and all longer than is needed.
+fn short_rooms(good: Room, rows: usize, widest: usize) -> Vec<(u32, Room)> {
+    let mut v = Vec::new();
+    for k in 0..4 {
+        let mut room = good;
+        room.extremes[k] = rows - 1;
+        v.push((12, room));
+        // 12 before 13
+        v.push((12, Room { work: 0, ..room }));
+        room.extremes = [rows + 3; 4];
+        room.extremes[k] = 0;
+        v.push((12, room));
+    }
+    v.push((12, Room { extremes: [0; 4], ..good }));
+    for (number, work) in [(13, 4 * widest), (13, 5 * widest), (13, 6 * widest - 1), (0, 6 * widest), (0, 6 * widest + 2)] {
+        v.push((number, Room { work, ..good }));
+    }
+    v.push((0, Room { figures: rows + 1, present: rows + 2, extremes: [rows + 4, rows + 1, rows + 3, rows + 2], ..good }));
+    v
+}
+/// The same over fixed windows, trailing and centred.
+pub fn extreme_fixed_cases(r: &mut Rng) -> Vec<windows::Case> {
+    use windows::Case;
+    let mut v = Vec::new();
+    for (k, (x, _)) in showing().into_iter().enumerate() {
+        let (ddof, holes) = ([1, 0, 2][k % 3], [0x6D, 0xDB]);
+        v.push(Case::new(Figure::Var { ddof }, &x, None, 3, 1, k % 2 == 0));
+        v.push(Case::new(Figure::Var { ddof }, &x, Some(&holes[..x.len().div_ceil(8)]), 3, 0, k % 2 == 1));
+    }
+    // sizes and minimums: the first rows are short, centred the last ones too
+    let x = [2.0, -7.0, 4.0, 9.0, -3.0, 8.0, 1.0, 6.0];
+    for centre in [false, true] {
+        for map in [None, Some(&[0xFF][..]), Some(&[0xB5])] {
+            let sizes = [(3, 3, 1), (4, 2, 255), (0, 0, 0), (1, 1, 1), (8, 5, 0), (9, 9, 0), (usize::MAX, 4, 1), (5, usize::MAX, 1)];
+            for (size, min, ddof) in sizes {
+                v.push(Case::new(Figure::Var { ddof }, &x, map, size, min, centre));
+            }
+        }
+    }
+    for (number, room) in short_rooms(Case::new(VAR, &x, None, 3, 1, false).room, 8, 3) {
+        let case = Case { room, ..Case::new(VAR, &x, None, 3, 1, false) };
+        assert_eq!(case.call().refusal(case.room), number, "{case:?}");
+        v.push(case);
+    }
+    for i in 0..16 {
+        v.push(loop {
+            let mut case = Case::any(r, 9);
+            roughen(r, &mut case.x);
+            let call = case.call();
+            let accepted = call.has_map == (i % 2 == 1) && call.refusal(case.room) == 0;
+            if accepted && call.extremes().is_some_and(|rows| rows.iter().flatten().flatten().count() > 3) {
+                break case;
+            }
+        });
+    }
+    v
 }
 
 // ---- bounds ----

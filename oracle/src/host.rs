@@ -1,5 +1,6 @@
 //! Document 01's host call of a plan: what it is given, what the Rust answers to it, and random calls.
 use crate::account::valid;
+use crate::extremes::{self, Extremes};
 use crate::rng::Rng;
 use crate::{plan, refusal, Figure};
 
@@ -18,12 +19,36 @@ pub struct Call<'a> {
     pub min: usize,
 }
 /// Lengths of the lists that a call is lent.
-#[derive(Clone, Copy, Debug, PartialEq)]
+#[derive(Clone, Copy, Debug, Default, PartialEq)]
 pub struct Room {
     pub readings: usize,
     pub work: usize,
     pub figures: usize,
     pub present: usize,
+    /// Of the lists of the lowest, of its bytes, of the highest and of its bytes, which only variance without weights is lent.
+    pub extremes: [usize; 4],
+}
+impl Room {
+    /// Of all lists that take answers.
+    pub fn outs(&self) -> [usize; 6] {
+        let [a, b, c, d] = self.extremes;
+        [self.figures, self.present, a, b, c, d]
+    }
+    /// Some of the lists of lowest and highest longer than they were, drawn by a generator of its own: what is drawn by the other one goes
+    /// on as it would without it.
+    pub(crate) fn lengthen_extremes(&mut self, r: &Rng) {
+        let mut r = Rng(r.0 ^ 0x4C4F_5745_5354);
+        for list in &mut self.extremes {
+            if r.chance(1, 3) {
+                *list += r.below(5);
+            }
+        }
+    }
+    /// One of these lists shorter than so many rows, where there are any: 12 if nothing comes before it.
+    pub fn shorten_extremes(&mut self, r: &mut Rng, rows: usize) {
+        let k = r.below(4);
+        self.extremes[k] = if r.chance(2, 3) { rows.saturating_sub(1) } else { r.below(rows + 1) };
+    }
 }
 impl<'a> Call<'a> {
     pub fn map(&self) -> Option<&'a [u8]> {
@@ -35,10 +60,18 @@ impl<'a> Call<'a> {
     pub fn rows(&self) -> Vec<(usize, usize)> {
         self.starts.iter().zip(self.ends).map(|(s, e)| (*s as usize, *e as usize)).collect()
     }
+    /// Places of the widest window.
+    pub fn widest(&self) -> usize {
+        let widths = self.starts.iter().zip(self.ends).map(|(s, e)| e.saturating_sub(*s) as usize);
+        widths.max().unwrap_or(0)
+    }
     /// Doubles of the work slice that the plan needs.
     pub fn need(&self) -> usize {
-        let widths = self.starts.iter().zip(self.ends).map(|(s, e)| e.saturating_sub(*s) as usize);
-        self.figure.entry() * widths.max().unwrap_or(0)
+        self.figure.entry() * self.widest()
+    }
+    /// The output lists that the call is lent, of those of a room.
+    pub fn outs<'r>(&self, outs: &'r [usize; 6]) -> &'r [usize] {
+        if self.figure.has_extremes() { outs } else { &outs[..2] }
     }
     pub fn refusal(&self, room: Room) -> u32 {
         let wide = |v: &[u32]| v.iter().map(|x| *x as usize).collect::<Vec<_>>();
@@ -48,7 +81,7 @@ impl<'a> Call<'a> {
             &wide(self.starts),
             &wide(self.ends),
             room.readings,
-            (room.figures, room.present),
+            self.outs(&room.outs()),
             self.figure.entry(),
             room.work,
         )
@@ -56,6 +89,11 @@ impl<'a> Call<'a> {
     /// The Rust's answers; the call must be accepted.
     pub fn answers(&self) -> Vec<Option<f64>> {
         plan(&self.readings(), self.map(), &self.rows(), self.figure, self.min)
+    }
+    /// Of each row the lowest and the highest, where the figure has them; the call must be accepted.
+    pub fn extremes(&self) -> Option<Vec<Extremes>> {
+        let of = || extremes::of_rows(&self.readings(), self.map(), self.rows().into_iter(), self.min);
+        self.figure.has_extremes().then(of)
     }
 }
 
@@ -82,9 +120,12 @@ impl Case {
             starts: rows.iter().map(|v| v.0 as u32).collect(),
             ends: rows.iter().map(|v| v.1 as u32).collect(),
             min,
-            room: Room { readings: x.len(), work: 0, figures: rows.len(), present: rows.len() },
+            room: Room { readings: x.len(), work: 0, figures: rows.len(), present: rows.len(), extremes: [0; 4] },
         };
         case.room.work = case.call().need();
+        if figure.has_extremes() {
+            case.room.extremes = [rows.len(); 4];
+        }
         case
     }
     pub fn call(&self) -> Call<'_> {
@@ -98,9 +139,30 @@ impl Case {
             min: self.min,
         }
     }
+    /// Doubles of work that variance needs more than it did before request 4. A plan that is refused may ask for more than there can be:
+    /// its work, which is not looked at, stays as it is drawn.
+    fn more_work(&self) -> usize {
+        let widest = self.call().widest();
+        if widest <= self.trace.len() / 8 { (self.figure.entry() - self.figure.drawn_entry()) * widest } else { 0 }
+    }
+    /// Doubles of work that the call was lent before request 4, for whatever is drawn by it.
+    pub fn drawn_work(&self) -> usize {
+        self.room.work.saturating_sub(self.more_work())
+    }
     /// A random call over at most `most` readings in at most `count` rows, mostly one that is accepted. Half of them are
-    /// keen: windows of some places, and a setting and a minimum under which most figures are present.
+    /// keen: windows of some places, and a setting and a minimum under which most figures are present. The lists of lowest and highest
+    /// are as long as the rows or longer.
     pub fn any(r: &mut Rng, most: usize, count: usize) -> Case {
+        let mut case = Case::drawn(r, most, count).0;
+        case.room.work += case.more_work();
+        if case.figure.has_extremes() {
+            case.room.extremes = [case.starts.len(); 4];
+            case.room.lengthen_extremes(r);
+        }
+        case
+    }
+    /// The same with the lists of a call before request 4, and how much its work is longer than was needed then, or shorter.
+    pub(crate) fn drawn(r: &mut Rng, most: usize, count: usize) -> (Case, isize) {
         let keen = r.chance(1, 2);
         let n = if r.chance(1, 12) { r.below(3) } else { r.below(most + 1) };
         let count = if r.chance(1, 12) { 0 } else { r.below(count + 1) };
@@ -132,15 +194,17 @@ impl Case {
         };
         let kinds: Vec<usize> = (0..faults).map(|_| r.below(16)).collect();
         kinds.iter().for_each(|k| case.spoil(r, *k));
-        case.room.work = case.call().need().min(6 * n);
+        let need = figure.drawn_entry() * case.call().widest();
+        case.room.work = need.min(6 * n);
         let room = &mut case.room;
         for list in [&mut room.readings, &mut room.work, &mut room.figures, &mut room.present] {
             if r.chance(1, 3) {
                 *list += r.below(5);
             }
         }
-        kinds.iter().for_each(|k| case.shorten(r, *k));
-        case
+        kinds.iter().for_each(|k| case.shorten(r, *k, need));
+        let spare = case.room.work as isize - need as isize;
+        (case, spare)
     }
     /// A fault of what is given: 14, 3, 4, 5, 6 or 7, where it comes to one; a map that gets longer is none.
     fn spoil(&mut self, r: &mut Rng, kind: usize) {
@@ -151,8 +215,8 @@ impl Case {
             0 => {
                 if r.chance(1, 2) || self.trace.is_empty() {
                     (0..1 + r.below(7)).for_each(|i| self.trace.push(i as u8))
-                } else {
-                    self.trace.truncate(self.trace.len() - 1 - r.below(7))
+                } else if let Some(left) = self.trace.len().checked_sub(1 + r.below(7)) {
+                    self.trace.truncate(left)
                 }
             }
             1 if !self.has_map => (self.has_map, self.map) = (true, vec![0xFF; n.div_ceil(8) + 1]),
@@ -181,8 +245,7 @@ impl Case {
         }
     }
     /// A list that is too short: 12 or 13, where it was not empty.
-    fn shorten(&mut self, r: &mut Rng, kind: usize) {
-        let need = self.call().need();
+    fn shorten(&mut self, r: &mut Rng, kind: usize, need: usize) {
         let (rows, n) = (self.starts.len(), self.trace.len() / 8);
         let short = |r: &mut Rng, need: usize| if r.chance(2, 3) { need.saturating_sub(1) } else { r.below(need + 1) };
         match kind {

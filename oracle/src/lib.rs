@@ -8,6 +8,7 @@ pub mod rolling;
 
 pub mod account;
 pub mod cases;
+pub mod extremes;
 pub mod host;
 pub mod maps;
 pub mod model;
@@ -46,12 +47,24 @@ impl Figure {
             Figure::Kurt { fisher, bias } => RollingFnParams::Kurtosis { fisher, bias },
         })
     }
-    /// Doubles of work a window place (document 01).
+    /// Doubles of work a window place (document 01; of variance document 02, request 4).
     pub fn entry(self) -> usize {
         match self {
-            Figure::Var { .. } => 4,
+            Figure::Var { .. } => 6,
             Figure::Skew { .. } => 5,
             Figure::Kurt { .. } => 6,
+        }
+    }
+    /// Whether the call also gives the lowest and the highest reading.
+    pub fn has_extremes(self) -> bool {
+        matches!(self, Figure::Var { .. })
+    }
+    /// Doubles of work a place by which random calls are drawn: as it was before request 4, so that the calls that are stored stay the
+    /// same.
+    pub(crate) fn drawn_entry(self) -> usize {
+        match self {
+            Figure::Var { .. } => 4,
+            _ => self.entry(),
         }
     }
 }

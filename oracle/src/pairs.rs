@@ -161,10 +161,10 @@ impl Case {
                 let wide = |v: &[u32]| v.iter().map(|x| *x as usize).collect::<Vec<_>>();
                 let pair = [(x.bytes().len(), map(x)), (y.bytes().len(), map(y))];
                 let decoded = [x.decoded, y.decoded];
-                refusal::host_pair(pair, &wide(starts), &wide(ends), decoded, (*figures, *present), figure.entry(), *work)
+                refusal::host_pair(pair, &wide(starts), &wide(ends), decoded, &[*figures, *present], figure.entry(), *work)
             }
             Windows::Fixed { size, .. } => {
-                refusal::fixed_pair([(x.len(), map(x)), (y.len(), map(y))], *size, (*figures, *present), figure.entry(), *work)
+                refusal::fixed_pair([(x.len(), map(x)), (y.len(), map(y))], *size, &[*figures, *present], figure.entry(), *work)
             }
         }
     }
@@ -177,16 +177,14 @@ impl Case {
 
     /// A random call over a plan: the first trace, the rows, the minimum and what is wrong with them as in a call on one trace.
     pub fn any_plan(r: &mut Rng, most: usize, count: usize) -> Case {
-        let one = host::Case::any(r, most, count);
-        let spare = one.room.work as isize - one.call().need() as isize;
+        let (one, spare) = host::Case::drawn(r, most, count);
         let x = Trace { decoded: one.room.readings, has_map: one.has_map, map: one.map, bytes: one.trace, shift: 0 };
         let windows = Windows::Plan { starts: one.starts, ends: one.ends };
         Case::beside(r, x, windows, one.min).faulty(r, spare, (one.room.figures, one.room.present))
     }
     /// The same over fixed windows.
     pub fn any_fixed(r: &mut Rng, most: usize) -> Case {
-        let one = windows::Case::any(r, most);
-        let spare = one.room.work as isize - one.call().need() as isize;
+        let (one, spare) = windows::Case::drawn(r, most);
         let x = Trace { has_map: one.has_map, map: one.map, ..Trace::new(&one.x, None) };
         let windows = Windows::Fixed { size: one.size, centre: one.centre };
         Case::beside(r, x, windows, one.min).faulty(r, spare, (one.room.figures, one.room.present))

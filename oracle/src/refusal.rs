@@ -38,14 +38,14 @@ pub fn trace(n: usize, map: Option<usize>) -> u32 {
         _ => 0,
     }
 }
-/// `outs`: lengths of the figure list and of the present list.
+/// `outs`: lengths of the output lists, as many as the call is lent.
 #[allow(clippy::too_many_arguments)]
 pub fn plan(
     n: usize,
     map: Option<usize>,
     starts: &[usize],
     ends: &[usize],
-    outs: (usize, usize),
+    outs: &[usize],
     entry: usize,
     work: usize,
 ) -> u32 {
@@ -61,7 +61,7 @@ pub fn plan(
     if r != 0 {
         return r;
     }
-    if outs.0 < starts.len() || outs.1 < starts.len() {
+    if outs.iter().any(|list| *list < starts.len()) {
         return 12;
     }
     let widest = it().map(|(s, e)| e - s).max().unwrap_or(0);
@@ -78,7 +78,7 @@ pub fn host(
     starts: &[usize],
     ends: &[usize],
     readings: usize,
-    outs: (usize, usize),
+    outs: &[usize],
     entry: usize,
     work: usize,
 ) -> u32 {
@@ -90,12 +90,12 @@ pub fn host(
         r => r,
     }
 }
-pub fn fixed(n: usize, map: Option<usize>, size: usize, outs: (usize, usize), entry: usize, work: usize) -> u32 {
+pub fn fixed(n: usize, map: Option<usize>, size: usize, outs: &[usize], entry: usize, work: usize) -> u32 {
     let r = trace(n, map);
     if r != 0 {
         return r;
     }
-    if outs.0 < n || outs.1 < n {
+    if outs.iter().any(|list| *list < n) {
         return 12;
     }
     if work < entry * size.min(n) {
@@ -103,7 +103,7 @@ pub fn fixed(n: usize, map: Option<usize>, size: usize, outs: (usize, usize), en
     }
     0
 }
-pub fn weighted(n: usize, map: Option<usize>, size: usize, w: &[f64], outs: (usize, usize)) -> u32 {
+pub fn weighted(n: usize, map: Option<usize>, size: usize, w: &[f64], outs: &[usize]) -> u32 {
     let r = trace(n, map);
     if r != 0 {
         return r;
@@ -121,7 +121,7 @@ pub fn weighted(n: usize, map: Option<usize>, size: usize, w: &[f64], outs: (usi
     if w.len() != size {
         return 10;
     }
-    if outs.0 < n || outs.1 < n {
+    if outs.iter().any(|list| *list < n) {
         return 12;
     }
     0
@@ -152,7 +152,7 @@ pub fn pair(n: usize, nm: Option<usize>, m: usize, mm: Option<usize>) -> u32 {
 /// Of each trace how many readings, or bytes, it has, and how many bytes its map, if there is one.
 pub type Pair = [(usize, Option<usize>); 2];
 /// Fixed windows of two traces, by their readings: 1, 2 and 3 as above, then as of one.
-pub fn fixed_pair([(n, nm), (m, mm)]: Pair, size: usize, outs: (usize, usize), entry: usize, work: usize) -> u32 {
+pub fn fixed_pair([(n, nm), (m, mm)]: Pair, size: usize, outs: &[usize], entry: usize, work: usize) -> u32 {
     match pair(n, nm, m, mm) {
         0 => fixed(n, None, size, outs, entry, work),
         r => r,
@@ -165,7 +165,7 @@ pub fn host_pair(
     starts: &[usize],
     ends: &[usize],
     readings: [usize; 2],
-    outs: (usize, usize),
+    outs: &[usize],
     entry: usize,
     work: usize,
 ) -> u32 {

@@ -1,6 +1,6 @@
 //! A second implementation beside the Rust, reached by function pointers: `fuzz` asks both. With the feature `host` it is our
 //! libmoments.a, by the crate `moments` of ../host.
-use crate::host::Call;
+use crate::host::{Call, Room};
 use crate::{pairs, windows};
 #[cfg(feature = "host")]
 use crate::{Figure, PairFigure};
@@ -20,10 +20,24 @@ impl Answer {
         }
     }
 }
-/// call, readings out, work, figures out, present out
-pub type PlanFn = fn(&Call, &mut [f64], &mut [f64], &mut [f64], &mut [u8]) -> Answer;
-/// call (of a figure, or with weights), work, figures out, present out
-pub type WindowsFn = fn(&windows::Call, &mut [f64], &mut [f64], &mut [u8]) -> Answer;
+/// The lists that take the answers of a call on one trace. Those of the lowest and of the highest are lent to variance without weights
+/// alone.
+pub struct Outputs<'a> {
+    pub figures: &'a mut [f64],
+    pub present: &'a mut [u8],
+    pub lowest: (&'a mut [f64], &'a mut [u8]),
+    pub highest: (&'a mut [f64], &'a mut [u8]),
+}
+impl Outputs<'_> {
+    fn room(&self, readings: usize, work: usize) -> Room {
+        let extremes = [self.lowest.0.len(), self.lowest.1.len(), self.highest.0.len(), self.highest.1.len()];
+        Room { readings, work, figures: self.figures.len(), present: self.present.len(), extremes }
+    }
+}
+/// call, readings out, work, answers
+pub type PlanFn = fn(&Call, &mut [f64], &mut [f64], Outputs) -> Answer;
+/// call (of a figure, or with weights), work, answers
+pub type WindowsFn = fn(&windows::Call, &mut [f64], Outputs) -> Answer;
 /// call (over a plan or fixed windows), readings of both out (none for fixed windows), work, figures out, present out
 pub type PairsFn = fn(&pairs::Case, [&mut [f64]; 2], &mut [f64], &mut [f64], &mut [u8]) -> Answer;
 
@@ -37,7 +51,7 @@ pub struct Impl {
 
 /// A demonstration: the work-slice model of src/model.rs, which has no weights.
 pub fn demo() -> Impl {
-    use crate::host::Room;
+    use crate::extremes::Extremes;
     fn put(outv: &mut [f64], outp: &mut [u8], i: usize, r: Option<f64>) {
         // a NaN that arithmetic made has the bits FFF8... on x86: document 01 wants 7FF8...
         outv[i] = match r {
@@ -47,23 +61,31 @@ pub fn demo() -> Impl {
         };
         outp[i] = r.is_some() as u8;
     }
-    fn plan(c: &Call, readings: &mut [f64], work: &mut [f64], figures: &mut [f64], present: &mut [u8]) -> Answer {
-        let room = Room { readings: readings.len(), work: work.len(), figures: figures.len(), present: present.len() };
-        let number = c.refusal(room);
+    fn put_all(outs: &mut Outputs, extremes: bool, i: usize, figure: Option<f64>, [lowest, highest]: Extremes) {
+        put(outs.figures, outs.present, i, figure);
+        if extremes {
+            put(outs.lowest.0, outs.lowest.1, i, lowest);
+            put(outs.highest.0, outs.highest.1, i, highest);
+        }
+    }
+    fn plan(c: &Call, readings: &mut [f64], work: &mut [f64], mut outs: Outputs) -> Answer {
+        let number = c.refusal(outs.room(readings.len(), work.len()));
         if number == 0 {
-            let x = c.readings();
+            let (x, given) = (c.readings(), c.figure.has_extremes());
             readings[..x.len()].copy_from_slice(&x);
             let rows = c.starts.iter().zip(c.ends).map(|(a, b)| (*a as usize, *b as usize));
-            crate::model::plan_into(&x, c.map(), rows, c.figure, c.min, work, |i, r| put(figures, present, i, r), &mut ());
+            let put = |i: usize, figure: Option<f64>, extremes: Extremes| put_all(&mut outs, given, i, figure, extremes);
+            crate::model::plan_into(&x, c.map(), rows, c.figure, c.min, work, put, &mut ());
         }
         Answer::Number(number)
     }
-    fn fixed(c: &windows::Call, work: &mut [f64], figures: &mut [f64], present: &mut [u8]) -> Answer {
-        let number = c.refusal(Room { readings: 0, work: work.len(), figures: figures.len(), present: present.len() });
+    fn fixed(c: &windows::Call, work: &mut [f64], mut outs: Outputs) -> Answer {
+        let number = c.refusal(outs.room(0, work.len()));
         if number == 0 {
-            let n = c.x.len();
+            let (n, given) = (c.x.len(), c.has_extremes());
             let rows = (0..n).map(|i| crate::offsets(i, c.size, n, c.centre));
-            crate::model::plan_into(c.x, c.map(), rows, c.figure, c.min, work, |i, r| put(figures, present, i, r), &mut ());
+            let put = |i: usize, figure: Option<f64>, extremes: Extremes| put_all(&mut outs, given, i, figure, extremes);
+            crate::model::plan_into(c.x, c.map(), rows, c.figure, c.min, work, put, &mut ());
         }
         Answer::Number(number)
     }
@@ -95,12 +117,11 @@ pub fn second() -> Option<Impl> {
 #[cfg(feature = "host")]
 pub fn setting(figure: Figure, min: usize) -> moments::Setting {
     use moments::Setting;
-    let setting = match figure {
-        Figure::Var { ddof } => Setting::var(ddof),
-        Figure::Skew { bias } => Setting::skew(bias),
-        Figure::Kurt { fisher, bias } => Setting::kurtosis(fisher, bias),
-    };
-    setting.min_periods(min)
+    match figure {
+        Figure::Var { ddof } => Setting::var(ddof).min_periods(min).into(),
+        Figure::Skew { bias } => Setting::skew(bias).min_periods(min).into(),
+        Figure::Kurt { fisher, bias } => Setting::kurtosis(fisher, bias).min_periods(min).into(),
+    }
 }
 #[cfg(feature = "host")]
 pub fn pair_setting(figure: PairFigure, min: usize) -> moments::Setting<moments::PairFigure> {
@@ -113,12 +134,12 @@ pub fn pair_setting(figure: PairFigure, min: usize) -> moments::Setting<moments:
 
 #[cfg(feature = "host")]
 mod ours {
-    use super::{pair_setting, setting, Answer};
+    use super::{pair_setting, setting, Answer, Outputs};
     use crate::host::Call;
     use crate::pairs::{self, Windows};
     use crate::{windows, Figure, PairFigure};
-    use moments::{abi, plan_into, plan_pair_into, rolling_into, rolling_pair_into, rolling_var_weights_into};
-    use moments::{Encoded, Lists, Plan, Refusal, Window};
+    use moments::{abi, plan_into, plan_pair_into, plan_var_into, rolling_into, rolling_pair_into, rolling_var_into};
+    use moments::{rolling_var_weights_into, Column, Encoded, Lists, Plan, Refusal, Setting, VarLists, Window};
 
     fn answer(result: Result<(), Refusal>) -> Answer {
         let Err(refusal) = result else { return Answer::Words { number: 0, row: None } };
@@ -132,45 +153,89 @@ mod ours {
         Answer::Words { number: refusal.number(), row: refusal.row().map(|row| (row, said)) }
     }
 
+    /// The lists of variance as ../host has them.
+    fn lists<'a>(work: &'a mut [f64], outs: Outputs<'a>) -> VarLists<'a> {
+        let Outputs { figures, present, lowest, highest } = outs;
+        let [variance, lowest, highest] = [(figures, present), lowest, highest].map(|(values, present)| Column::new(values, present));
+        VarLists { work, variance, lowest, highest }
+    }
+
     #[rustfmt::skip]
-    pub fn plan(c: &Call, readings: &mut [f64], work: &mut [f64], figures: &mut [f64], present: &mut [u8]) -> Answer {
+    pub fn plan(c: &Call, readings: &mut [f64], work: &mut [f64], outs: Outputs) -> Answer {
         if c.has_map || c.map.is_empty() {
-            let lists = Lists { work, figures, present };
-            return answer(plan_into(c.trace, readings, c.map(), Plan::new(c.starts, c.ends), setting(c.figure, c.min), lists));
+            let (plan, Setting { figure, min_periods }) = (Plan::new(c.starts, c.ends), setting(c.figure, c.min));
+            return answer(match figure {
+                moments::Figure::Var(figure) => {
+                    plan_var_into(c.trace, readings, c.map(), plan, Setting { figure, min_periods }, lists(work, outs))
+                }
+                moments::Figure::Shape(figure) => {
+                    let lists = Lists { work, figures: outs.figures, present: outs.present };
+                    plan_into(c.trace, readings, c.map(), plan, Setting { figure, min_periods }, lists)
+                }
+            });
         }
         // bytes where no map is lent: the safe function has none there
         let (t, tn, rd, rn) = (c.trace.as_ptr(), c.trace.len(), readings.as_mut_ptr(), readings.len());
         let (mp, mn) = (c.map.as_ptr(), c.map.len());
         let (sp, sn, ep, en, min) = (c.starts.as_ptr(), c.starts.len(), c.ends.as_ptr(), c.ends.len(), c.min);
-        let (wp, wn, vp, vn, pp, pn) = (work.as_mut_ptr(), work.len(), figures.as_mut_ptr(), figures.len(), present.as_mut_ptr(), present.len());
+        let (wp, wn) = (work.as_mut_ptr(), work.len());
+        let (vp, vn, pp, pn) = parts((outs.figures, outs.present));
+        let ((lv, lvn, lp, lpn), (hv, hvn, hp, hpn)) = (parts(outs.lowest), parts(outs.highest));
         // SAFETY: each pointer and length is a slice's, and the lists that are written to are lent to this call alone.
         Answer::Number(unsafe {
             match c.figure {
-                Figure::Var { ddof } => abi::moments_plan_var(t, tn, rd, rn, false, mp, mn, sp, sn, ep, en, min, ddof, wp, wn, vp, vn, pp, pn),
-                Figure::Skew { bias } => abi::moments_plan_skew(t, tn, rd, rn, false, mp, mn, sp, sn, ep, en, min, bias, wp, wn, vp, vn, pp, pn),
-                Figure::Kurt { fisher, bias } => abi::moments_plan_kurtosis(t, tn, rd, rn, false, mp, mn, sp, sn, ep, en, min, fisher, bias, wp, wn, vp, vn, pp, pn),
+                Figure::Var { ddof } => abi::moments_plan_var(
+                    t, tn, rd, rn, false, mp, mn, sp, sn, ep, en, min, ddof, wp, wn, vp, vn, pp, pn,
+                    lv, lvn, lp, lpn, hv, hvn, hp, hpn,
+                ),
+                Figure::Skew { bias } => abi::moments_plan_skew(
+                    t, tn, rd, rn, false, mp, mn, sp, sn, ep, en, min, bias, wp, wn, vp, vn, pp, pn,
+                ),
+                Figure::Kurt { fisher, bias } => abi::moments_plan_kurtosis(
+                    t, tn, rd, rn, false, mp, mn, sp, sn, ep, en, min, fisher, bias, wp, wn, vp, vn, pp, pn,
+                ),
             }
         })
     }
+    /// As an entry takes them.
+    fn parts((values, present): (&mut [f64], &mut [u8])) -> (*mut f64, usize, *mut u8, usize) {
+        (values.as_mut_ptr(), values.len(), present.as_mut_ptr(), present.len())
+    }
 
     #[rustfmt::skip]
-    pub fn windows(c: &windows::Call, work: &mut [f64], figures: &mut [f64], present: &mut [u8]) -> Answer {
+    pub fn windows(c: &windows::Call, work: &mut [f64], outs: Outputs) -> Answer {
         if c.has_map || c.map.is_empty() {
-            let window = Window { size: c.size, center: c.centre };
-            return answer(match c.weights {
-                Some(weights) => rolling_var_weights_into(c.x, c.map(), window, c.min, weights, figures, present),
-                None => rolling_into(c.x, c.map(), window, setting(c.figure, c.min), Lists { work, figures, present }),
+            let (window, Setting { figure, min_periods }) = (Window { size: c.size, center: c.centre }, setting(c.figure, c.min));
+            return answer(match (c.weights, figure) {
+                (Some(weights), _) => rolling_var_weights_into(c.x, c.map(), window, c.min, weights, outs.figures, outs.present),
+                (_, moments::Figure::Var(figure)) => {
+                    rolling_var_into(c.x, c.map(), window, Setting { figure, min_periods }, lists(work, outs))
+                }
+                (_, moments::Figure::Shape(figure)) => {
+                    let lists = Lists { work, figures: outs.figures, present: outs.present };
+                    rolling_into(c.x, c.map(), window, Setting { figure, min_periods }, lists)
+                }
             });
         }
         let (t, n, mp, mn, size, min, centre) = (c.x.as_ptr(), c.x.len(), c.map.as_ptr(), c.map.len(), c.size, c.min, c.centre);
-        let (wp, wn, vp, vn, pp, pn) = (work.as_mut_ptr(), work.len(), figures.as_mut_ptr(), figures.len(), present.as_mut_ptr(), present.len());
+        let (wp, wn) = (work.as_mut_ptr(), work.len());
+        let (vp, vn, pp, pn) = parts((outs.figures, outs.present));
+        let ((lv, lvn, lp, lpn), (hv, hvn, hp, hpn)) = (parts(outs.lowest), parts(outs.highest));
         // SAFETY: as above.
         Answer::Number(unsafe {
             match (c.weights, c.figure) {
-                (Some(w), _) => abi::moments_rolling_var_weights(t, n, false, mp, mn, size, min, centre, w.as_ptr(), w.len(), vp, vn, pp, pn),
-                (_, Figure::Var { ddof }) => abi::moments_rolling_var(t, n, false, mp, mn, size, min, centre, ddof, wp, wn, vp, vn, pp, pn),
-                (_, Figure::Skew { bias }) => abi::moments_rolling_skew(t, n, false, mp, mn, size, min, centre, bias, wp, wn, vp, vn, pp, pn),
-                (_, Figure::Kurt { fisher, bias }) => abi::moments_rolling_kurtosis(t, n, false, mp, mn, size, min, centre, fisher, bias, wp, wn, vp, vn, pp, pn),
+                (Some(w), _) => abi::moments_rolling_var_weights(
+                    t, n, false, mp, mn, size, min, centre, w.as_ptr(), w.len(), vp, vn, pp, pn,
+                ),
+                (_, Figure::Var { ddof }) => abi::moments_rolling_var(
+                    t, n, false, mp, mn, size, min, centre, ddof, wp, wn, vp, vn, pp, pn, lv, lvn, lp, lpn, hv, hvn, hp, hpn,
+                ),
+                (_, Figure::Skew { bias }) => abi::moments_rolling_skew(
+                    t, n, false, mp, mn, size, min, centre, bias, wp, wn, vp, vn, pp, pn,
+                ),
+                (_, Figure::Kurt { fisher, bias }) => abi::moments_rolling_kurtosis(
+                    t, n, false, mp, mn, size, min, centre, fisher, bias, wp, wn, vp, vn, pp, pn,
+                ),
             }
         })
     }

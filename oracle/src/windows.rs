@@ -1,7 +1,8 @@
 //! A call with fixed windows, of a figure or with weights: what it is given, what the Rust answers to it, and random calls.
+use crate::extremes::{self, Extremes};
 use crate::host::{readings, Room, EASY};
 use crate::rng::Rng;
-use crate::{fixed, refusal, weighted, Figure};
+use crate::{fixed, offsets, refusal, weighted, Figure};
 
 /// What a call is given; `map` may hold anything where `has_map` is false. With weights it is the weighted variance that is
 /// asked, and `figure` is not looked at.
@@ -27,12 +28,26 @@ impl<'a> Call<'a> {
             Some(_) => 0,
         }
     }
+    /// Whether the call also gives the lowest and the highest reading.
+    pub fn has_extremes(&self) -> bool {
+        self.weights.is_none() && self.figure.has_extremes()
+    }
+    /// The output lists that the call is lent, of those of a room.
+    pub fn outs<'r>(&self, outs: &'r [usize; 6]) -> &'r [usize] {
+        if self.has_extremes() { outs } else { &outs[..2] }
+    }
     pub fn refusal(&self, room: Room) -> u32 {
-        let (n, map, outs) = (self.x.len(), self.map().map(<[u8]>::len), (room.figures, room.present));
+        let (n, map, outs) = (self.x.len(), self.map().map(<[u8]>::len), room.outs());
         match self.weights {
-            None => refusal::fixed(n, map, self.size, outs, self.figure.entry(), room.work),
-            Some(w) => refusal::weighted(n, map, self.size, w, outs),
+            None => refusal::fixed(n, map, self.size, self.outs(&outs), self.figure.entry(), room.work),
+            Some(w) => refusal::weighted(n, map, self.size, w, self.outs(&outs)),
         }
+    }
+    /// Of each row the lowest and the highest, where the call gives them; it must be accepted.
+    pub fn extremes(&self) -> Option<Vec<Extremes>> {
+        let n = self.x.len();
+        let rows = (0..n).map(|i| offsets(i, self.size, n, self.centre));
+        self.has_extremes().then(|| extremes::of_rows(self.x, self.map(), rows, self.min))
     }
     /// The Rust's answers; the call must be accepted.
     pub fn answers(&self) -> Vec<Option<f64>> {
@@ -70,14 +85,17 @@ impl Case {
             size,
             min,
             centre,
-            room: Room { readings: 0, work: 0, figures: x.len(), present: x.len() },
+            room: Room { figures: x.len(), present: x.len(), ..Room::default() },
         };
         case.room.work = case.call().need();
+        if figure.has_extremes() {
+            case.room.extremes = [x.len(); 4];
+        }
         case
     }
     /// A call with weights, one for each place of the window.
     pub fn weighted(weights: &[f64], x: &[f64], min: usize, centre: bool) -> Case {
-        let room = Room { readings: 0, work: 0, figures: x.len(), present: x.len() };
+        let room = Room { figures: x.len(), present: x.len(), ..Room::default() };
         Case { weights: Some(weights.to_vec()), room, ..Case::new(EASY[0], x, None, weights.len(), min, centre) }
     }
     pub fn call(&self) -> Call<'_> {
@@ -92,9 +110,29 @@ impl Case {
             centre: self.centre,
         }
     }
+    /// Doubles of work that variance needs more than it did before request 4.
+    fn more_work(&self) -> usize {
+        let places = self.size.min(self.x.len());
+        if self.weights.is_none() { (self.figure.entry() - self.figure.drawn_entry()) * places } else { 0 }
+    }
+    /// Doubles of work that the call was lent before request 4, for whatever is drawn by it.
+    pub fn drawn_work(&self) -> usize {
+        self.room.work.saturating_sub(self.more_work())
+    }
     /// A random call of a figure over at most `most` readings, mostly one that is accepted. Half of them are keen: readings
-    /// that are mostly finite, and a setting and a minimum under which most figures are present.
+    /// that are mostly finite, and a setting and a minimum under which most figures are present. The lists of lowest and highest are as
+    /// long as the rows or longer.
     pub fn any(r: &mut Rng, most: usize) -> Case {
+        let mut case = Case::drawn(r, most).0;
+        case.room.work += case.more_work();
+        if case.figure.has_extremes() {
+            case.room.extremes = [case.x.len(); 4];
+            case.room.lengthen_extremes(r);
+        }
+        case
+    }
+    /// The same with the lists of a call before request 4, and how much its work is longer than was needed then, or shorter.
+    pub(crate) fn drawn(r: &mut Rng, most: usize) -> (Case, isize) {
         let (keen, n) = (r.chance(1, 2), any_length(r, most));
         let (x, map) = readings(r, n, keen);
         let size = match r.below(24) {
@@ -117,7 +155,12 @@ impl Case {
             _ => r.figure(),
         };
         let centre = r.chance(1, 2);
-        Case::new(figure, &x, map.as_deref(), size, min, centre).faulty(r, &[0, 4, 5, 6])
+        let mut case = Case::new(figure, &x, map.as_deref(), size, min, centre);
+        let need = figure.drawn_entry() * size.min(n);
+        case.room = Room { work: need, extremes: [0; 4], ..case.room };
+        let case = case.faulty(r, &[0, 4, 5, 6]);
+        let spare = case.room.work as isize - need as isize;
+        (case, spare)
     }
     /// The same with weights.
     pub fn any_weighted(r: &mut Rng, most: usize) -> Case {
@@ -159,7 +202,7 @@ impl Case {
     /// A fault: 3, 8, 9, 10, 12, 12 or 13, where it comes to one; a map that gets longer is none but with weights.
     fn spoil(&mut self, r: &mut Rng, kind: usize) {
         let n = self.x.len();
-        let need = self.call().need();
+        let need = self.figure.drawn_entry() * self.size.min(n);
         let short = |r: &mut Rng, need: usize| if r.chance(2, 3) { need.saturating_sub(1) } else { r.below(need + 1) };
         match (kind, &mut self.weights) {
             (0, _) if !self.has_map => (self.has_map, self.map) = (true, vec![0xFF; n.div_ceil(8) + 1]),

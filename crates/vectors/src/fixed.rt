@@ -3,7 +3,7 @@
 // is the window size, 2 whether windows are centred, 3 how many readings there are, 4 the row, 5 and 6 where its window
 // starts and ends.
 use crate::lent::answered;
-use crate::words::byte;
+use crate::variance::agrees_fixed;
 use crate::words::bytes;
 use crate::words::count;
 use crate::words::doubles;
@@ -25,18 +25,6 @@ fn call(
     let size = word(rec, 15) as usize;
     let center = flag(rec, 16);
     match word(rec, 1) {
-        0 => moments::moments_rolling_var(
-            trace,
-            has_map,
-            map,
-            size,
-            min,
-            center,
-            byte(rec, 2),
-            work,
-            figures,
-            present,
-        ),
         1 => moments::moments_rolling_skew(
             trace,
             has_map,
@@ -95,6 +83,9 @@ fn outputs(rec: &[u8], trace: &[f64], map: &[u8], weights: &[f64], work: &mut [f
     let mut figures = doubles(rec, held, f);
     let p = count(rec, 24);
     let mut present = bytes(rec, held, false, p);
+    if word(rec, 1) == 0 {
+        return agrees_fixed(rec, trace, map, work, &mut figures[..f], &mut present[..p]);
+    }
     replay(
         rec,
         trace,

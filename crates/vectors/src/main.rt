@@ -1,5 +1,5 @@
-// Replays the answers of the Rust, and of pairs those of the account over its states, stored in data/, and says for each kind how many
-// agree.
+// Replays the answers of the Rust, of pairs those of the account over its states and of variance also the lowest and the highest reading,
+// stored in data/, and says for each kind how many agree.
 //
 // The lists were made by `words 1 crates/vectors/data` of oracle/ (seed 1), whose FORMAT.md, 'Word
 // lists', has the form; that command makes them again. What a call of C's reads is not known to a
@@ -14,6 +14,7 @@ mod lent;
 mod pairs;
 mod plans;
 mod states;
+mod variance;
 mod words;
 
 fn root(rec: &[u8]) -> bool {
@@ -67,10 +68,10 @@ fn report(kind: u8, name: &[u8], list: &[u8]) {
 }
 
 // Room for the longest list. The `ensures` gives only the length, which lending it as a slice needs.
-fn room() -> [u8; 524288]
-    ensures { λ r. ⌜ 524288 ≡ length r ⌝ }
+fn room() -> [u8; 1048576]
+    ensures { λ r. ⌜ 1048576 ≡ length r ⌝ }
 {
-    [0; 524288]
+    [0; 1048576]
 }
 
 fn replay(kind: u8, name: &[u8]) {

@@ -1,12 +1,12 @@
-// Records of plan. Word 1 is the figure (0 var, 1 skew, 2 kurtosis), 2 ddof, 3 bias, 4 fisher, 5 the
+// Records of plan. Word 1 is the figure (0 var, whose records have more: variance.rt; 1 skew, 2 kurtosis), 2 ddof, 3 bias, 4 fisher, 5 the
 // minimum, 6 whether a map is lent, 7 the number answered, 8 how many doubles of the work slice may
 // then hold anything. From 9 on each list has the word at which it stands and its length: 9 trace
 // (eight bytes a word), 11 map, 13 starts, 15 ends, 17 work, 19 readings, 21 figures, 23 present. What
 // stands at 19 to 23 is what these lists hold after the call. What stands at 17 is what all four that
 // are lent hold before it, each from its first word on, and the work slice past its free part after it.
 use crate::lent::answered;
+use crate::variance::agrees_plan;
 use crate::words::are;
-use crate::words::byte;
 use crate::words::bytes;
 use crate::words::count;
 use crate::words::doubles;
@@ -29,19 +29,6 @@ fn call(
     let min = word(rec, 5) as usize;
     let has_map = flag(rec, 6);
     match word(rec, 1) {
-        0 => moments::moments_plan_var(
-            trace,
-            readings,
-            has_map,
-            map,
-            starts,
-            ends,
-            min,
-            byte(rec, 2),
-            work,
-            figures,
-            present,
-        ),
         1 => moments::moments_plan_skew(
             trace,
             readings,
@@ -114,6 +101,19 @@ fn outputs(
     let mut figures = doubles(rec, held, f);
     let p = count(rec, 24);
     let mut present = bytes(rec, held, false, p);
+    if word(rec, 1) == 0 {
+        return agrees_plan(
+            rec,
+            trace,
+            readings,
+            map,
+            starts,
+            ends,
+            work,
+            &mut figures[..f],
+            &mut present[..p],
+        );
+    }
     replay(
         rec,
         trace,

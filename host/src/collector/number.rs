@@ -33,6 +33,32 @@ pub fn six_digits(number: f64) -> String {
     }
 }
 
+/// How many decimals show all of some readings in full, so that they read as in their file and their points stand below each other.
+#[derive(Clone, Copy, Debug, PartialEq)]
+pub enum Decimals {
+    These(usize),
+    /// Five are not enough, or a reading would be long.
+    Many,
+}
+impl Decimals {
+    const MOST: usize = 5;
+    /// As many as this reading needs too.
+    pub fn with(self, reading: f64) -> Decimals {
+        let Decimals::These(least) = self else { return self };
+        let in_full = |decimals: &usize| format!("{reading:.*}", *decimals).parse() == Ok(reading);
+        match (least..=Decimals::MOST).find(in_full) {
+            Some(decimals) if reading.abs() < 1e6 => Decimals::These(decimals),
+            _ => Decimals::Many,
+        }
+    }
+    pub fn text(self, reading: f64) -> String {
+        match self {
+            Decimals::These(decimals) => format!("{reading:.decimals$}"),
+            Decimals::Many => six_digits(reading),
+        }
+    }
+}
+
 #[cfg(test)]
 mod tests {
     use super::*;
@@ -75,5 +101,19 @@ mod tests {
         for (number, text) in cases {
             assert_eq!(six_digits(number), text);
         }
+    }
+
+    #[test]
+    fn readings_with_one_number_of_decimals() {
+        let shown = |readings: &[f64]| {
+            let decimals = readings.iter().fold(Decimals::These(0), |decimals, reading| decimals.with(*reading));
+            readings.iter().map(|reading| decimals.text(*reading)).collect::<Vec<_>>()
+        };
+        assert_eq!(shown(&[-18.5, -4.68, 0.0, 7.0]), ["-18.50", "-4.68", "0.00", "7.00"]);
+        assert_eq!(shown(&[-18.0, 999999.0]), ["-18", "999999"]);
+        assert_eq!(shown(&[0.12345, 1.0]), ["0.12345", "1.00000"]);
+        assert_eq!(shown(&[0.123456, 1.5]), ["0.123456", "1.50000"]);
+        assert_eq!(shown(&[1e6, 1.5]), ["1.00000e6", "1.50000"]);
+        assert_eq!(shown(&[5e-324, -f64::MAX]), ["4.94066e-324", "-1.79769e308"]);
     }
 }

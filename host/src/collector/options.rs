@@ -1,7 +1,7 @@
 //! The command line.
 use crate::number::double;
 use crate::text::{name, quoted};
-use moments::{Figure, PairFigure, Setting, Window};
+use moments::{PairFigure, Setting, Shape, Var, Window};
 use std::ffi::OsString;
 use std::fmt::Display;
 use std::path::PathBuf;
@@ -28,7 +28,8 @@ windows
   --weights W,W,..   weighted variance, a weight for each place of a window; no reading may be missing
 
 figure
-  --figure NAME      of one trace: variance (the default), skewness or kurtosis; of two: covariance or correlation
+  --figure NAME      of one trace: variance (the default), skewness or kurtosis; of two: covariance or correlation.
+                     With the variance, unless it is weighted, come the lowest and the highest finite reading
   --ddof N           variance and covariance: divided by the count less N, from 0 to 255 (default 1)
   --unbiased         skewness and kurtosis: corrected for bias
   --pearson          kurtosis: not less three, so that a normal distribution has 3 and not 0
@@ -36,12 +37,14 @@ figure
                      the library is lent a map and counts a window's valid readings or pairs, and else its places
 
 output
-  --csv              the table as CSV: row,label,start,end,from,to,valid,figure,mark
+  --csv              the table as CSV: row,label,start,end,from,to,valid,figure,mark and, with the variance unless it is
+                     weighted, lowest,highest
   --output FILE      the table to FILE instead of standard output
-  --svg FILE         a picture of the figure and the trace or traces
+  --svg FILE         a picture of the figure and the trace or traces; behind the variance the band from the lowest
+                     to the highest reading of each window
   --help             this text
 
-In the table `-` is a missing figure, and `!` (in CSV the mark `not finite`) one that is NaN or infinite.
+In the table `-` is a missing number, and `!` (in CSV the mark `not finite`) a figure that is NaN or infinite.
 A wrong command line, a bad file or a refused plan gets a message and exit status 2, and nothing is written.
 ";
 
@@ -86,14 +89,15 @@ impl Source {
 /// What is asked of each window, and of which traces.
 #[derive(Debug, PartialEq)]
 pub enum Asked {
-    /// With weights the figure is the weighted variance, which has no ddof.
-    Trace(Source, Setting),
+    /// With the lowest and the highest reading of each window; with weights it is the weighted variance alone, which has no ddof.
+    Variance(Source, Setting<Var>),
+    Shape(Source, Setting<Shape>),
     Pair([Source; 2], Setting<PairFigure>),
 }
 impl Asked {
     pub fn sources(&self) -> &[Source] {
         match self {
-            Asked::Trace(source, _) => std::slice::from_ref(source),
+            Asked::Variance(source, _) | Asked::Shape(source, _) => std::slice::from_ref(source),
             Asked::Pair(sources, _) => sources,
         }
     }
@@ -116,10 +120,10 @@ impl Options {
     /// The figure in a word.
     pub fn figure(&self) -> &'static str {
         match &self.asked {
-            Asked::Trace(_, setting) => match setting.figure {
-                Figure::Var { .. } => "variance",
-                Figure::Skew { .. } => "skewness",
-                Figure::Kurtosis { .. } => "kurtosis",
+            Asked::Variance(..) => "variance",
+            Asked::Shape(_, setting) => match setting.figure {
+                Shape::Skew { .. } => "skewness",
+                Shape::Kurtosis { .. } => "kurtosis",
             },
             Asked::Pair(_, setting) => match setting.figure {
                 PairFigure::Cov { .. } => "covariance",
@@ -130,14 +134,14 @@ impl Options {
     /// What a window's places hold, in a word.
     pub fn unit(&self) -> &'static str {
         match self.asked {
-            Asked::Trace(..) => "reading",
+            Asked::Variance(..) | Asked::Shape(..) => "reading",
             Asked::Pair(..) => "pair",
         }
     }
     /// Where finite readings have no figure, in words.
     pub fn has_no_figure(&self) -> &'static str {
         match self.asked {
-            Asked::Trace(..) => "where all readings are alike",
+            Asked::Variance(..) | Asked::Shape(..) => "where all readings are alike",
             Asked::Pair(..) => "of one pair or where all readings of a trace are alike",
         }
     }
@@ -145,20 +149,19 @@ impl Options {
     pub fn in_words(&self) -> String {
         let (name, biased) = (self.figure(), |bias: bool| if bias { "biased" } else { "unbiased" });
         let (figure, minimum) = match &self.asked {
-            Asked::Trace(_, Setting { figure, min_periods }) => {
+            Asked::Variance(_, setting) if self.weights().is_some() => (format!("weighted {name}"), setting.min_periods),
+            Asked::Variance(_, Setting { figure: Var { ddof }, min_periods }) => (format!("{name}, ddof {ddof}"), *min_periods),
+            Asked::Shape(_, Setting { figure, min_periods }) => {
                 let figure = match *figure {
-                    Figure::Var { .. } if self.weights().is_some() => format!("weighted {name}"),
-                    Figure::Var { ddof } => format!("{name}, ddof {ddof}"),
-                    Figure::Skew { bias } => format!("{name}, {}", biased(bias)),
-                    Figure::Kurtosis { fisher: true, bias } => format!("{name} less three, {}", biased(bias)),
-                    Figure::Kurtosis { fisher: false, bias } => format!("{name}, {}", biased(bias)),
+                    Shape::Skew { bias } | Shape::Kurtosis { fisher: false, bias } => format!("{name}, {}", biased(bias)),
+                    Shape::Kurtosis { fisher: true, bias } => format!("{name} less three, {}", biased(bias)),
                 };
-                (figure, min_periods)
+                (figure, *min_periods)
             }
             Asked::Pair(_, Setting { figure: PairFigure::Cov { ddof }, min_periods }) => {
-                (format!("{name}, ddof {ddof}"), min_periods)
+                (format!("{name}, ddof {ddof}"), *min_periods)
             }
-            Asked::Pair(_, Setting { figure: PairFigure::PearsonCorr, min_periods }) => (name.to_string(), min_periods),
+            Asked::Pair(_, Setting { figure: PairFigure::PearsonCorr, min_periods }) => (name.to_string(), *min_periods),
         };
         format!("{figure}, minimum {minimum}")
     }
@@ -269,42 +272,39 @@ impl Given {
         let named = self.text("--figure");
         let figure = named.as_deref().unwrap_or("variance");
         let without = |options: &[&str]| self.without(options, &format!("has no meaning for the {figure}"));
-        let setting = match figure {
+        match figure {
             "variance" => {
                 without(&["--unbiased", "--pearson"])?;
                 if self.has("--weights") {
                     self.without(&["--ddof"], "has no meaning for the weighted variance")?;
                 }
-                Setting::var(self.ddof()?)
+                let setting = Setting::var(self.ddof()?);
+                Ok(Asked::Variance(only(figure, sources)?, setting.min_periods(self.minimum()?)))
             }
             "skewness" => {
                 without(&["--ddof", "--weights", "--pearson"])?;
-                Setting::skew(!self.has("--unbiased"))
+                self.of_shape(figure, sources, Setting::skew(!self.has("--unbiased")))
             }
             "kurtosis" => {
                 without(&["--ddof", "--weights"])?;
-                Setting::kurtosis(!self.has("--pearson"), !self.has("--unbiased"))
+                self.of_shape(figure, sources, Setting::kurtosis(!self.has("--pearson"), !self.has("--unbiased")))
             }
             "covariance" => {
                 without(&["--weights", "--unbiased", "--pearson"])?;
-                return self.of_two(figure, sources, Setting::cov(self.ddof()?));
+                self.of_two(figure, sources, Setting::cov(self.ddof()?))
             }
             "correlation" => {
                 without(&["--ddof", "--weights", "--unbiased", "--pearson"])?;
-                return self.of_two(figure, sources, Setting::pearson_corr());
+                self.of_two(figure, sources, Setting::pearson_corr())
             }
             other => {
                 let figures = "variance, skewness, kurtosis, covariance or correlation";
-                return Err(format!("--figure is {figures}, not {}", quoted(other)));
-            }
-        };
-        match <[Source; 1]>::try_from(sources) {
-            Ok([source]) => Ok(Asked::Trace(source, setting.min_periods(self.minimum()?))),
-            Err(sources) => {
-                let too_many = named_too(&sources, 1);
-                Err(format!("the {figure} is of one trace, but {too_many}; --figure covariance and correlation are of two"))
+                Err(format!("--figure is {figures}, not {}", quoted(other)))
             }
         }
+    }
+    fn of_shape(&self, figure: &str, sources: Vec<Source>, setting: Setting<Shape>) -> Result<Asked, String> {
+        Ok(Asked::Shape(only(figure, sources)?, setting.min_periods(self.minimum()?)))
     }
     fn of_two(&self, figure: &str, sources: Vec<Source>, setting: Setting<PairFigure>) -> Result<Asked, String> {
         match <[Source; 2]>::try_from(sources) {
@@ -315,6 +315,14 @@ impl Given {
     fn minimum(&self) -> Result<usize, String> {
         Ok(self.whole("--minimum", usize::MAX)?.unwrap_or(1))
     }
+}
+
+/// The one trace that a figure is of.
+fn only(figure: &str, sources: Vec<Source>) -> Result<Source, String> {
+    <[Source; 1]>::try_from(sources).map(|[source]| source).map_err(|sources| {
+        let too_many = named_too(&sources, 1);
+        format!("the {figure} is of one trace, but {too_many}; --figure covariance and correlation are of two")
+    })
 }
 
 /// What is wrong with the number of traces where it should be another.

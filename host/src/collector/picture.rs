@@ -4,10 +4,12 @@ use crate::report::{Report, Row, Rows};
 use crate::scale::Scale;
 use crate::text::{capped, count};
 use crate::trace::Trace;
-use moments::{Figure, PairFigure, Setting};
+use moments::{PairFigure, Setting};
 use std::fmt::Write;
 
 const WIDTH: f64 = 1200.0;
+/// More of it where the figure's panel has a second axis at its right.
+const SECOND_AXIS: f64 = 56.0;
 const HEIGHT: f64 = 660.0;
 const LEFT: f64 = 84.0;
 const RIGHT: f64 = 1180.0;
@@ -27,8 +29,14 @@ const TRACES: [&str; 2] = ["#1f5f99", "#2f9e6e"];
 const THIN: f64 = 1.3;
 const WIDE: f64 = 2.6;
 const FIGURE: &str = "#b4500f";
+/// From the lowest to the highest reading of a window, and what is written of it.
+const BAND: &str = "#d3e3f1";
+const OF_BAND: &str = "#1f5f99";
 /// Between a bar and 0.
 pub const BELOW: &str = "#f8e6d8";
+
+/// From where to where.
+type Span = (f64, f64);
 
 /// A part of the picture with its own vertical axis.
 struct Panel {
@@ -58,6 +66,8 @@ struct Picture<'a> {
     report: &'a Report<'a>,
     out: String,
     figure: Panel,
+    /// The figure's panel by its axis of readings, at the right.
+    swing: Panel,
     trace: Panel,
     /// What occurs, for the key.
     key: Vec<(Swatch, &'static str, String)>,
@@ -74,16 +84,19 @@ impl<'a> Picture<'a> {
         let readings = report.traces.all().flat_map(|trace| (0..trace.len()).filter_map(|place| trace.reading(place)));
         let (above, below) = if report.traces.second.is_some() { (LOWER, UPPER) } else { (UPPER, LOWER) };
         let figure = Panel::new(above, figure_scale(report));
+        let swing = Panel::new(above, Scale::around(report.extremes(), false));
         let trace = Panel::new(below, Scale::around(readings, false));
-        Picture { report, out: String::new(), figure, trace, key: Vec::new() }
+        Picture { report, out: String::new(), figure, swing, trace, key: Vec::new() }
     }
     fn draw(mut self) -> String {
+        let width = if self.swing.scale.is_some() { WIDTH + SECOND_AXIS } else { WIDTH };
         self.push(format_args!(
-            "<svg xmlns=\"http://www.w3.org/2000/svg\" width=\"{WIDTH}\" height=\"{HEIGHT}\" viewBox=\"0 0 {WIDTH} {HEIGHT}\" \
+            "<svg xmlns=\"http://www.w3.org/2000/svg\" width=\"{width}\" height=\"{HEIGHT}\" viewBox=\"0 0 {width} {HEIGHT}\" \
              font-family=\"sans-serif\" font-size=\"13\" fill=\"#222222\">"
         ));
-        self.rect((0.0, WIDTH), (0.0, HEIGHT), "#ffffff");
+        self.rect((0.0, width), (0.0, HEIGHT), "#ffffff");
         self.titles();
+        self.swings();
         self.places();
         self.values(|picture| &picture.figure, "no figure");
         self.values(|picture| &picture.trace, "no reading");
@@ -194,6 +207,17 @@ impl<'a> Picture<'a> {
             self.text((LEFT - 8.0, y + 4.5), "text-anchor=\"end\"", &text);
         }
     }
+    /// The axis of readings at the right of the figure's panel. It has no lines of its own across the panel.
+    fn second_values(&mut self) {
+        let Some(scale) = self.swing.scale else { return };
+        for (tick, text) in scale.ticks(6) {
+            let y = self.swing.y(tick);
+            self.line((RIGHT, y), (RIGHT + 5.0, y), OF_BAND);
+            self.text((RIGHT + 8.0, y + 4.5), &format!("fill=\"{OF_BAND}\""), &text);
+        }
+        let title = "shaded: lowest to highest reading of each window (right axis)";
+        self.text((RIGHT, self.swing.top - 8.0), &format!("text-anchor=\"end\" fill=\"{OF_BAND}\""), title);
+    }
     fn frames(&mut self) {
         for (top, bottom) in [UPPER, LOWER] {
             let (width, height) = (RIGHT - LEFT, bottom - top);
@@ -241,12 +265,55 @@ impl<'a> Picture<'a> {
         Drawn::new(points, trace.len() <= MOST_DOTS)
     }
 
+    /// Whether each row is drawn over its window, and not as a point of a line.
+    fn has_bars(&self) -> bool {
+        matches!(self.report.rows, Rows::Plan(_)) && self.report.len() <= MOST_BARS
+    }
+    /// The band from the lowest to the highest reading of each window, with its axis.
+    fn swings(&mut self) {
+        if self.swing.scale.is_none() {
+            return;
+        }
+        let mut text = "lowest to highest";
+        if self.has_bars() {
+            let (bands, apart) = self.bands();
+            bands.into_iter().for_each(|(across, down)| self.rect(across, down, BAND));
+            text = if apart { text } else { "lowest to highest, overlaps halved" };
+        } else {
+            let band = area(self.points().map(|(x, row)| (x, self.swing_of(&row))));
+            self.push(format_args!("<path d=\"{band}\" fill=\"{BAND}\"/>"));
+        }
+        self.second_values();
+        self.in_key(true, Swatch::Band, BAND, text);
+    }
+    /// Where a row's band starts and ends from top to bottom. Of one reading alone it is a line.
+    fn swing_of(&self, row: &Row<'_>) -> Option<Span> {
+        let (lowest, highest) = row.lowest.zip(row.highest)?;
+        Some(widened((self.swing.y(highest), self.swing.y(lowest)), 1.5))
+    }
+    /// The bands across and down, and whether all windows lie apart. Neighbours that overlap have half of that each, so that every one
+    /// shows: as starts and ends do not fall, no band then lies on another.
+    fn bands(&self) -> (Vec<(Span, Span)>, bool) {
+        let (mut bands, mut apart, mut from) = (Vec::new(), true, 0.0);
+        let mut rows = self.report.rows().peekable();
+        while let Some(row) = rows.next() {
+            let next = rows.peek().map_or(row.end, |next| next.start);
+            let to = (row.end as f64).min((row.end + next) as f64 / 2.0);
+            let (left, right) = widened((self.x(f64::max(from, row.start as f64)), self.x(to)), 2.0);
+            // Where there is room, a line between neighbours tells them apart.
+            let right = if right - left > 5.0 { right - 1.0 } else { right };
+            bands.extend(self.swing_of(&row).map(|down| ((left, right), down)));
+            (from, apart) = (to, apart && next >= row.end);
+        }
+        (bands, apart)
+    }
+
     fn figures(&mut self) {
-        let bars = matches!(self.report.rows, Rows::Plan(_)) && self.report.len() <= MOST_BARS;
+        let bars = self.has_bars();
         if bars {
             self.bars();
         } else {
-            let points = self.points().map(|(x, figure)| (x, figure.filter(|x| x.is_finite()).map(|x| self.figure.y(x))));
+            let points = self.points().map(|(x, row)| (x, row.figure.filter(|x| x.is_finite()).map(|x| self.figure.y(x))));
             let drawn = Drawn::new(points, self.report.len() <= MOST_DOTS);
             self.drawn(&drawn, FIGURE, THIN);
             let at = match self.report.rows {
@@ -256,8 +323,8 @@ impl<'a> Picture<'a> {
             self.in_key(drawn.is_any(), Swatch::Line, FIGURE, at);
         }
         let spans = |such: fn(&Row<'_>) -> bool| {
-            let rows = self.report.rows().zip(self.points()).filter(move |(row, _)| such(row));
-            stretches(rows.map(|(row, (x, _))| if bars { self.across(row.start, row.end) } else { (x, x) }), 2.0)
+            let rows = self.points().filter(move |(_, row)| such(row));
+            stretches(rows.map(|(x, row)| if bars { self.across(row.start, row.end) } else { (x, x) }), 2.0)
         };
         let missing = spans(|row| row.figure.is_none());
         let not_finite = spans(|row| row.is_marked());
@@ -271,12 +338,12 @@ impl<'a> Picture<'a> {
         self.in_key(!missing.is_empty(), Swatch::Mark, MISSING_FIGURE, "figure missing");
         self.in_key(!not_finite.is_empty(), Swatch::Mark, NOT_FINITE, "figure not finite");
     }
-    /// Each row's figure, from left to right: a plan's at the window's middle, another at the row's own place.
-    fn points(&self) -> impl Iterator<Item = (f64, Option<f64>)> + '_ {
+    /// The rows from left to right: a plan's stands at its window's middle, another at its own place.
+    fn points(&self) -> impl Iterator<Item = (f64, Row<'_>)> + '_ {
         let fixed = matches!(self.report.rows, Rows::Fixed(_));
         self.report.rows().enumerate().map(move |(number, row)| {
             let place = if fixed { number as f64 + 0.5 } else { (row.start + row.end) as f64 / 2.0 };
-            (self.x(place), row.figure)
+            (self.x(place), row)
         })
     }
     fn bars(&mut self) {
@@ -284,13 +351,15 @@ impl<'a> Picture<'a> {
         let mut drawn = false;
         let mut end = 0;
         let apart = report.rows().all(|row| row.start >= std::mem::replace(&mut end, row.end));
+        // Bars down to the axis would hide the band.
+        let filled = self.swing.scale.is_none();
         for row in report.rows() {
             let Some(figure) = row.figure.filter(|figure| figure.is_finite()) else { continue };
             let (from, to) = widened(self.across(row.start, row.end), 2.0);
             let (y, zero) = (self.figure.y(figure), self.figure.y(0.0));
-            if apart {
+            if apart && filled {
                 self.rect((from, to), (y.min(zero), y.max(zero)), BELOW);
-            } else {
+            } else if !apart {
                 // Bars that lie over one another are told apart by their ends.
                 [from, to - 1.5].iter().for_each(|end| self.rect((*end, end + 1.5), (y - 4.5, y + 4.5), FIGURE));
             }
@@ -330,7 +399,7 @@ impl<'a> Picture<'a> {
 fn figure_scale(report: &Report<'_>) -> Option<Scale> {
     let from_zero = Scale::around(report.figures(), true)?;
     Some(match &report.options.asked {
-        Asked::Trace(_, Setting { figure: Figure::Var { .. }, .. }) => Scale::logarithmic(report.figures()).unwrap_or(from_zero),
+        Asked::Variance(..) => Scale::logarithmic(report.figures()).unwrap_or(from_zero),
         Asked::Pair(_, Setting { figure: PairFigure::PearsonCorr, .. }) => {
             Scale::around(report.figures().chain([-1.0, 1.0]), false).unwrap_or(from_zero)
         }
@@ -403,6 +472,59 @@ fn stretches(spans: impl Iterator<Item = (f64, f64)>, least: f64) -> Vec<(f64, f
         }
     }
     all
+}
+
+/// What a band has in one pixel's width.
+#[derive(Clone, Copy)]
+struct Slice {
+    from: f64,
+    to: f64,
+    top: f64,
+    bottom: f64,
+}
+
+/// The area between two lines as one path: along the upper one and back along the lower, anew behind a gap. Points come in order of x,
+/// each with the y of both. A place without them breaks the area, if its pixel has no other.
+fn area(points: impl Iterator<Item = (f64, Option<Span>)>) -> String {
+    let (mut runs, mut gap) = (Vec::<Vec<Slice>>::new(), None);
+    for (x, down) in points {
+        let pixel = x.floor();
+        let slice = runs.last_mut().and_then(|run| run.last_mut()).filter(|slice| slice.from.floor() == pixel);
+        match (down, slice) {
+            (None, Some(_)) => {}
+            (None, None) => gap = gap.or(Some(pixel)),
+            (Some((top, bottom)), Some(slice)) => {
+                *slice = Slice { from: slice.from, to: x, top: top.min(slice.top), bottom: bottom.max(slice.bottom) };
+            }
+            (Some((top, bottom)), None) => {
+                let breaks = gap.take().is_some_and(|gap| gap != pixel);
+                let slice = Slice { from: x, to: x, top, bottom };
+                match runs.last_mut().filter(|_| !breaks) {
+                    Some(run) => run.push(slice),
+                    None => runs.push(vec![slice]),
+                }
+            }
+        }
+    }
+    runs.iter().map(|run| outline(run)).collect()
+}
+fn outline(run: &[Slice]) -> String {
+    let (Some(first), Some(last)) = (run.first(), run.last()) else { return String::new() };
+    // A run of one place would else have nothing to see.
+    let (from, to) = widened((first.from, last.to), 2.0);
+    let between = run.iter().skip(1).map(|slice| (slice.from, slice));
+    let mut slices: Vec<(f64, f64, f64)> = std::iter::once((from, first))
+        .chain(between)
+        .chain([(to, last)])
+        .map(|(x, slice)| (x, slice.top, slice.bottom))
+        .collect();
+    slices.dedup();
+    let (top, bottom) = (slices.iter().map(|(x, top, _)| (x, top)), slices.iter().rev().map(|(x, _, bottom)| (x, bottom)));
+    let mut path = String::new();
+    for (number, (x, y)) in top.chain(bottom).enumerate() {
+        let _ = write!(path, "{}{x:.1} {y:.1}", if number == 0 { "M" } else { "L" });
+    }
+    path + "Z"
 }
 
 /// The points of one pixel's width that a line cannot do without.
@@ -503,6 +625,19 @@ mod tests {
         let inside = [(0.1, Some(5.0)), (1.1, None), (1.2, Some(5.0)), (2.1, Some(5.0))];
         assert_eq!(drawn(&inside).0, "M0.1 5.0L1.2 5.0L2.1 5.0");
         assert_eq!(drawn(&[(0.1, None)]), (String::new(), String::new()));
+    }
+
+    #[test]
+    fn areas_break_at_gaps_and_keep_extremes() {
+        let drawn = |points: &[(f64, Option<(f64, f64)>)]| area(points.iter().copied());
+        let few = [(0.5, Some((1.0, 3.0))), (4.5, Some((2.0, 5.0))), (6.5, None), (8.5, Some((3.0, 4.0))), (9.5, None)];
+        assert_eq!(drawn(&few), "M0.5 1.0L4.5 2.0L4.5 5.0L0.5 3.0ZM7.5 3.0L9.5 3.0L9.5 4.0L7.5 4.0Z");
+        let many =
+            [(0.1, Some((5.0, 6.0))), (0.2, Some((4.0, 5.0))), (0.3, None), (0.4, Some((5.0, 9.0))), (7.2, Some((1.0, 2.0)))];
+        assert_eq!(drawn(&many), "M0.1 4.0L7.2 1.0L7.2 2.0L0.1 9.0Z");
+        let inside = [(0.1, Some((1.0, 2.0))), (3.1, None), (3.2, Some((1.0, 2.0))), (3.6, Some((1.0, 2.0)))];
+        assert_eq!(drawn(&inside), "M0.1 1.0L3.2 1.0L3.6 1.0L3.6 2.0L3.2 2.0L0.1 2.0Z");
+        assert_eq!(drawn(&[(0.1, None)]), "");
     }
 
     #[test]

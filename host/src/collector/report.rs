@@ -4,7 +4,8 @@ use crate::options::{Asked, Options, Windows};
 use crate::plan::PlanFile;
 use crate::text::{count, name, quoted};
 use crate::trace::{Trace, Traces};
-use moments::{plan, plan_pair, rolling, rolling_pair, rolling_var_weights, PairFigure, Plan, Refusal, Setting, Which, Window};
+use moments::{plan, plan_pair, plan_var, rolling, rolling_pair, rolling_var, rolling_var_weights};
+use moments::{Answer, PairFigure, Plan, Refusal, Setting, Shape, Var, Which, Window};
 use std::io::BufRead;
 
 /// Where the rows come from.
@@ -13,12 +14,19 @@ pub enum Rows {
     Fixed(Window),
 }
 
+/// What the library answered of the rows.
+enum Answers {
+    /// Variances with the lowest and the highest reading of each window.
+    Variances(Vec<Answer>),
+    Figures(Vec<Option<f64>>),
+}
+
 /// A trace or two, the rows and their figures.
 pub struct Report<'a> {
     pub options: &'a Options,
     pub traces: Traces,
     pub rows: Rows,
-    answers: Vec<Option<f64>>,
+    answers: Answers,
 }
 
 /// One row of the table.
@@ -33,6 +41,9 @@ pub struct Row<'a> {
     /// Readings, or pairs of them, that are not finite.
     pub not_finite: usize,
     pub figure: Option<f64>,
+    /// The lowest and the highest finite reading; none where it is missing or the report has none.
+    pub lowest: Option<f64>,
+    pub highest: Option<f64>,
 }
 impl Row<'_> {
     /// Whether there is a figure that is not finite.
@@ -54,14 +65,19 @@ impl<'a> Report<'a> {
             (Windows::Plan(path), None) => return Err(format!("{}: was not opened", name(path))),
         };
         let (traces, answers) = match (&options.asked, inputs) {
-            (Asked::Trace(source, setting), [input, ..]) => {
+            (Asked::Variance(source, setting), [input, ..]) => {
                 let trace = Trace::read(input, &source.name())?;
-                let answers = of_trace(&trace, &rows, *setting, options.weights());
+                let answers = variances(&trace, &rows, *setting, options.weights());
+                (Traces::new(trace, None), answers)
+            }
+            (Asked::Shape(source, setting), [input, ..]) => {
+                let trace = Trace::read(input, &source.name())?;
+                let answers = of_trace(&trace, &rows, *setting).map(Answers::Figures);
                 (Traces::new(trace, None), answers)
             }
             (Asked::Pair([first, second], setting), [x, y, ..]) => {
                 let (x, y) = (Trace::read(x, &first.name())?, Trace::read(y, &second.name())?);
-                let answers = of_pair(&x, &y, &rows, *setting);
+                let answers = of_pair(&x, &y, &rows, *setting).map(Answers::Figures);
                 (Traces::new(x, Some(y)), answers)
             }
             _ => return Err("a trace was not opened".to_string()),
@@ -70,16 +86,40 @@ impl<'a> Report<'a> {
         Ok(Report { options, traces, rows, answers })
     }
     pub fn len(&self) -> usize {
-        self.answers.len()
+        match &self.answers {
+            Answers::Variances(answers) => answers.len(),
+            Answers::Figures(figures) => figures.len(),
+        }
+    }
+    /// Whether rows have a lowest and a highest reading.
+    pub fn has_extremes(&self) -> bool {
+        matches!(self.answers, Answers::Variances(_))
+    }
+    /// A row's figure, and its lowest and highest reading.
+    fn answer(&self, row: usize) -> [Option<f64>; 3] {
+        match &self.answers {
+            Answers::Variances(answers) => {
+                let Answer { variance, lowest, highest } = answers.get(row).copied().unwrap_or_default();
+                [variance, lowest, highest]
+            }
+            Answers::Figures(figures) => [figures.get(row).copied().flatten(), None, None],
+        }
     }
     /// The figures alone, without those that are missing.
     pub fn figures(&self) -> impl Iterator<Item = f64> + '_ {
-        self.answers.iter().flatten().copied()
+        (0..self.len()).filter_map(|row| self.answer(row)[0])
+    }
+    /// The lowest and the highest readings alone.
+    pub fn extremes(&self) -> impl Iterator<Item = f64> + '_ {
+        (0..self.len()).flat_map(|row| {
+            let [_, lowest, highest] = self.answer(row);
+            [lowest, highest].into_iter().flatten()
+        })
     }
     pub fn rows(&self) -> impl Iterator<Item = Row<'_>> {
-        self.answers.iter().enumerate().map(|(row, figure)| self.row(row, *figure))
+        (0..self.len()).map(|row| self.row(row))
     }
-    fn row(&self, row: usize, figure: Option<f64>) -> Row<'_> {
+    fn row(&self, row: usize) -> Row<'_> {
         let ((start, end), label) = match &self.rows {
             Rows::Plan(plan) => (plan.bounds(row), plan.label(row).unwrap_or("")),
             Rows::Fixed(window) => (bounds(*window, self.traces.len(), row), ""),
@@ -87,7 +127,8 @@ impl<'a> Report<'a> {
         let time = |place: usize| if start < end { self.traces.first.times.get(place) } else { "" };
         let (from, to) = (time(start), time(end.saturating_sub(1)));
         let (valid, not_finite) = (self.traces.valid(start, end), self.traces.not_finite(start, end));
-        Row { label, start, end, from, to, valid, not_finite, figure }
+        let [figure, lowest, highest] = self.answer(row);
+        Row { label, start, end, from, to, valid, not_finite, figure, lowest, highest }
     }
     pub fn has_labels(&self) -> bool {
         matches!(&self.rows, Rows::Plan(plan) if plan.labels.is_some())
@@ -132,17 +173,26 @@ impl PlanFile {
     }
 }
 
-type Answers = Result<Vec<Option<f64>>, Refusal>;
+type Figures = Result<Vec<Option<f64>>, Refusal>;
 
-fn of_trace(trace: &Trace, rows: &Rows, setting: Setting, weights: Option<&[f64]>) -> Answers {
+fn variances(trace: &Trace, rows: &Rows, setting: Setting<Var>, weights: Option<&[f64]>) -> Result<Answers, Refusal> {
     let (readings, map) = (&trace.readings, trace.map.as_deref());
-    match (rows, weights) {
-        (Rows::Plan(file), _) => plan(readings, map, file.plan(), setting),
-        (Rows::Fixed(window), Some(weights)) => rolling_var_weights(readings, map, *window, setting.min_periods, weights),
-        (Rows::Fixed(window), None) => rolling(readings, map, *window, setting),
+    Ok(match (rows, weights) {
+        (Rows::Plan(file), _) => Answers::Variances(plan_var(readings, map, file.plan(), setting)?),
+        (Rows::Fixed(window), None) => Answers::Variances(rolling_var(readings, map, *window, setting)?),
+        (Rows::Fixed(window), Some(weights)) => {
+            Answers::Figures(rolling_var_weights(readings, map, *window, setting.min_periods, weights)?)
+        }
+    })
+}
+fn of_trace(trace: &Trace, rows: &Rows, setting: Setting<Shape>) -> Figures {
+    let (readings, map) = (&trace.readings, trace.map.as_deref());
+    match rows {
+        Rows::Plan(file) => plan(readings, map, file.plan(), setting),
+        Rows::Fixed(window) => rolling(readings, map, *window, setting),
     }
 }
-fn of_pair(x: &Trace, y: &Trace, rows: &Rows, setting: Setting<PairFigure>) -> Answers {
+fn of_pair(x: &Trace, y: &Trace, rows: &Rows, setting: Setting<PairFigure>) -> Figures {
     let (x, x_map, y, y_map) = (&x.readings, x.map.as_deref(), &y.readings, y.map.as_deref());
     match rows {
         Rows::Plan(file) => plan_pair(x, x_map, y, y_map, file.plan(), setting),

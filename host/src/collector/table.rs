@@ -1,5 +1,5 @@
 //! The table, as text and as CSV.
-use crate::number::six_digits;
+use crate::number::{six_digits, Decimals};
 use crate::options::Options;
 use crate::progress::Progress;
 use crate::report::{Report, Row};
@@ -9,48 +9,67 @@ use std::borrow::Cow;
 use std::fmt::Display;
 use std::io::{self, IsTerminal, Write};
 
-/// Columns of the text table: row, label, start, to, end, from, to, valid, figure.
-const COLUMNS: usize = 9;
+/// Columns of the text table: row, label, start, to, end, from, to, valid, figure, lowest, highest. A row's mark stands behind its figure.
+const COLUMNS: usize = 11;
 const LABEL: usize = 1;
-const TO_THE_LEFT: [bool; COLUMNS] = [false, true, false, true, false, true, true, false, false];
-const GAPS: [&str; COLUMNS] = ["", "  ", "  ", " ", " ", "  ", "  ", "  ", "  "];
+const FIGURE: usize = 8;
+const TO_THE_LEFT: [bool; COLUMNS] = [false, true, false, true, false, true, true, false, false, false, false];
+const GAPS: [&str; COLUMNS] = ["", "  ", "  ", " ", " ", "  ", "  ", "  ", "  ", "  ", "  "];
 type Cells<'a> = [&'a dyn Display; COLUMNS];
+const MARK: &str = " !";
 
 /// What the lines have in common, found before the first is written.
 struct Layout {
     widths: [usize; COLUMNS],
     labels: bool,
+    extremes: bool,
+    /// Of the lowest and the highest readings.
+    decimals: Decimals,
     missing: usize,
+    /// Rows without a lowest and a highest reading.
+    no_extremes: usize,
     /// Rows that are marked, from a reading that is not finite and from finite readings alone.
     from_readings: usize,
     from_finite: usize,
 }
 impl Layout {
     fn of(report: &Report<'_>, heading: &[&str; COLUMNS]) -> Self {
-        let (mut largest, mut texts, mut figures) = ([0; 4], [0; 3], 0);
-        let (mut missing, mut from_readings, mut from_finite) = (0, 0, 0);
+        let (mut largest, mut texts, mut numbers) = ([0; 4], [0; 3], [0; 3]);
+        let (mut missing, mut no_extremes, mut from_readings, mut from_finite) = (0, 0, 0, 0);
+        let decimals = report.extremes().fold(Decimals::These(0), Decimals::with);
         for (number, row) in report.rows().enumerate() {
             raise(&mut largest, [number, row.start, row.end, row.valid]);
             raise(&mut texts, [row.label, row.from, row.to].map(|text| text.chars().take(WIDEST).count()));
-            figures = figures.max(figure(&row).len());
+            raise(&mut numbers, shown(&row, decimals).map(|text| text.len()));
             missing += usize::from(row.figure.is_none());
+            no_extremes += usize::from(row.lowest.or(row.highest).is_none());
             from_readings += usize::from(row.is_marked() && row.not_finite > 0);
             from_finite += usize::from(row.is_marked() && row.not_finite == 0);
         }
         let ([row, start, end, valid], [label, from, to]) = (largest.map(|number| number.to_string().len()), texts);
-        let mut widths = heading.map(str::len);
-        raise(&mut widths, [row, label, start, "to".len(), end, from, to, valid, figures]);
-        Layout { widths, labels: report.has_labels(), missing, from_readings, from_finite }
+        let ([figure, lowest, highest], mut widths) = (numbers, heading.map(str::len));
+        raise(&mut widths, [row, label, start, "to".len(), end, from, to, valid, figure, lowest, highest]);
+        let (labels, extremes) = (report.has_labels(), report.has_extremes());
+        Layout { widths, labels, extremes, decimals, missing, no_extremes, from_readings, from_finite }
+    }
+    fn marked(&self) -> usize {
+        self.from_readings + self.from_finite
     }
     fn line(&self, out: &mut dyn Write, cells: Cells<'_>, mark: &str) -> io::Result<()> {
+        // What stands behind a mark is under its heading whether the row is marked or not.
+        let mark_width = if self.extremes && self.marked() > 0 { MARK.len() } else { 0 };
         for (column, (cell, width)) in cells.into_iter().zip(self.widths).enumerate() {
             match (TO_THE_LEFT.get(column), GAPS.get(column).copied().unwrap_or("")) {
                 _ if column == LABEL && !self.labels => {}
+                _ if column > FIGURE && !self.extremes => {}
                 (Some(true), gap) => write!(out, "{gap}{cell:<width$}")?,
                 (_, gap) => write!(out, "{gap}{cell:>width$}")?,
             }
+            if column == FIGURE {
+                write!(out, "{mark:<mark_width$}")?;
+            }
         }
-        writeln!(out, "{mark}")
+        writeln!(out)
     }
 }
 fn raise<const N: usize>(largest: &mut [usize; N], by: [usize; N]) {
@@ -63,13 +82,16 @@ fn numbered<'a>(report: &'a Report<'a>) -> impl Iterator<Item = (usize, Row<'a>)
     report.rows().enumerate().inspect(move |(number, _)| progress.step(|| format!("writing row {number}")))
 }
 
-fn figure(row: &Row<'_>) -> String {
-    row.figure.map_or("-".to_string(), six_digits)
+/// Figure, lowest and highest reading.
+fn shown(row: &Row<'_>, decimals: Decimals) -> [String; 3] {
+    let or_missing = |text: Option<String>| text.unwrap_or("-".to_string());
+    let reading = |reading: Option<f64>| or_missing(reading.map(|reading| decimals.text(reading)));
+    [or_missing(row.figure.map(six_digits)), reading(row.lowest), reading(row.highest)]
 }
 
 /// The table for reading: what was asked, the rows, and what their signs mean.
 pub fn text(report: &Report<'_>, out: &mut dyn Write) -> io::Result<()> {
-    let heading = ["row", "label", "start", "", "end", "from", "to", "valid", report.options.figure()];
+    let heading = ["row", "label", "start", "", "end", "from", "to", "valid", report.options.figure(), "lowest", "highest"];
     let layout = Layout::of(report, &heading);
     writeln!(out, "{}", report.options.in_words())?;
     sources(report, out)?;
@@ -78,8 +100,9 @@ pub fn text(report: &Report<'_>, out: &mut dyn Write) -> io::Result<()> {
     layout.line(out, heading.each_ref().map(|name| name as &dyn Display), "")?;
     for (number, row) in numbered(report) {
         let [label, from, to] = [row.label, row.from, row.to].map(capped);
-        let cells: Cells = [&number, &label, &row.start, &"to", &row.end, &from, &to, &row.valid, &figure(&row)];
-        layout.line(out, cells, if row.is_marked() { " !" } else { "" })?;
+        let [figure, lowest, highest] = shown(&row, layout.decimals);
+        let cells: Cells = [&number, &label, &row.start, &"to", &row.end, &from, &to, &row.valid, &figure, &lowest, &highest];
+        layout.line(out, cells, if row.is_marked() { MARK } else { "" })?;
     }
     legend(&layout, report.options, out)
 }
@@ -101,12 +124,16 @@ fn sources(report: &Report<'_>, out: &mut dyn Write) -> io::Result<()> {
 
 fn legend(layout: &Layout, options: &Options, out: &mut dyn Write) -> io::Result<()> {
     let unit = options.unit();
-    let marked = layout.from_readings + layout.from_finite;
-    if layout.missing + marked > 0 {
+    let (marked, no_extremes) = (layout.marked(), if layout.extremes { layout.no_extremes } else { 0 });
+    if layout.missing + no_extremes + marked > 0 {
         writeln!(out)?;
     }
     if layout.missing > 0 {
         writeln!(out, "-  missing, in {}: too few {unit}s for the figure or for the minimum", count(layout.missing, "row"))?;
+    }
+    if no_extremes > 0 {
+        let rows = count(no_extremes, "row");
+        writeln!(out, "-  lowest and highest missing, in {rows}: no finite reading, or too few places for the minimum")?;
     }
     if marked > 0 {
         writeln!(out, "!  not finite, in {}:", count(marked, "row"))?;
@@ -117,15 +144,21 @@ fn legend(layout: &Layout, options: &Options, out: &mut dyn Write) -> io::Result
     Ok(())
 }
 
-/// The table for programs: figures in the fewest digits that give them back.
+/// The table for programs: numbers in the fewest digits that give them back.
 pub fn csv(report: &Report<'_>, out: &mut dyn Write) -> io::Result<()> {
-    writeln!(out, "row,label,start,end,from,to,valid,figure,mark")?;
+    let extremes = report.has_extremes();
+    writeln!(out, "row,label,start,end,from,to,valid,figure,mark{}", if extremes { ",lowest,highest" } else { "" })?;
     for (number, row) in numbered(report) {
         let Row { start, end, valid, .. } = row;
         let [label, from, to] = [row.label, row.from, row.to].map(field);
-        let figure = row.figure.map_or("-".to_string(), |figure| format!("{figure:?}"));
+        let [figure, lowest, highest] =
+            [row.figure, row.lowest, row.highest].map(|number| number.map_or("-".to_string(), |number| format!("{number:?}")));
         let mark = if row.is_marked() { "not finite" } else { "" };
-        writeln!(out, "{number},{label},{start},{end},{from},{to},{valid},{figure},{mark}")?;
+        write!(out, "{number},{label},{start},{end},{from},{to},{valid},{figure},{mark}")?;
+        if extremes {
+            write!(out, ",{lowest},{highest}")?;
+        }
+        writeln!(out)?;
     }
     Ok(())
 }

@@ -177,8 +177,8 @@ fn marks_say_where_they_come_from() {
     let [text, csv, svg] = make(&options("t --plan p --ddof 0"), trace, b"0,2\n1,3\n3,4\n4,5\n5,6\n").expect("a report");
     assert!(text.contains("-  missing, in 1 row:") && text.contains("!  not finite, in 2 rows:"), "{text}");
     assert!(text.contains("   1 window with a reading that is not finite\n   1 window of finite readings"), "{text}");
-    assert_eq!(csv.matches(",not finite\n").count(), 2, "{csv}");
-    assert!(csv.contains("\n3,,4,5,e,e,0,-,\n"), "{csv}");
+    assert_eq!(csv.matches(",not finite,").count(), 2, "{csv}");
+    assert!(csv.contains("\n3,,4,5,e,e,0,-,,-,-\n"), "{csv}");
     assert!(svg.contains("figure not finite") && svg.contains("figure missing"), "{svg}");
     let [text, ..] = make(&options("t --plan p --ddof 0"), b"a,1\nb,2\n", b"0,2\n").expect("a report");
     assert!(!text.contains("missing, in") && !text.contains('!'), "{text}");
@@ -186,11 +186,15 @@ fn marks_say_where_they_come_from() {
 
 #[test]
 fn bars_that_lie_apart_stand_on_the_axis() {
-    let bars = |plan: &str| {
-        let [_, _, svg] = make(&options("t --plan p --ddof 0"), b"a,1\nb,2\nc,4\nd,8\n", plan.as_bytes()).expect("a report");
+    let bars = |figure: &str, plan: &str| {
+        let options = options(&format!("t --plan p {figure}"));
+        let [_, _, svg] = make(&options, b"a,1\nb,2\nc,4\nd,9\n", plan.as_bytes()).expect("a report");
         svg.matches(picture::BELOW).count()
     };
-    assert_eq!([bars("0,2\n2,4\n"), bars("0,2\n1,4\n"), bars("0,1\n3,4\n"), bars("")], [2, 0, 2, 0]);
+    let kurtosis = "--figure kurtosis";
+    assert_eq!([bars(kurtosis, "0,2\n2,4\n"), bars(kurtosis, "0,2\n1,4\n"), bars(kurtosis, "")], [2, 0, 0]);
+    // with a band behind them there is nothing to hide it
+    assert_eq!([bars("--ddof 0", "0,2\n2,4\n"), bars("--ddof 0", "0,2\n1,4\n")], [0, 0]);
 }
 
 /// The numbers after these attributes, of each element that is drawn in a colour.
@@ -354,4 +358,78 @@ fn figures_of_fixed_windows_stand_at_their_own_places() {
     // variances 0, 1, 4 and 0
     let [zero, one, four, again] = [0, 1, 2, 3].map(|row| figures[row].1);
     assert!(near(zero, again) && near(zero - four, 4.0 * (zero - one)) && one < zero, "{figures:?}");
+}
+
+/// Where a reading stands on the axis at the right.
+fn right_tick_at(svg: &str, value: &str) -> f64 {
+    let line = svg.lines().find(|line| line.starts_with("<text x=\"1188.0\" ") && line.ends_with(&format!(">{value}</text>")));
+    drawn(line.expect(value), "text", "", ["y"])[0][0] - 4.5
+}
+const BAND: &str = "#d3e3f1";
+
+#[test]
+fn bands_reach_from_the_lowest_to_the_highest_reading_of_their_windows() {
+    let of = |plan: &str| -> String {
+        let [.., svg] = make(&options("t --plan p"), b"a,-10\nb,0\nc,nan\nd,-4\n", plan.as_bytes()).expect("a report");
+        svg
+    };
+    // the last one is the key's
+    let bands = |svg: &str| drawn(svg, "rect", BAND, ["x", "width", "y", "height"]);
+    let svg = of("0,2\n2,3\n3,4\n");
+    let ([all, one, key], ticks) = (&bands(&svg)[..], ["-10", "-4", "0"].map(|value| right_tick_at(&svg, value))) else {
+        panic!("two bands and their key: {svg}")
+    };
+    assert!(near(all[0], at(0.0)) && near(all[0] + all[1], at(2.0) - 1.0), "{all:?}");
+    assert!(near(all[2], ticks[2]) && near(all[2] + all[3], ticks[0]), "{all:?} {ticks:?}");
+    // one reading is a line, its variance is missing, and a window without one has no band
+    assert!(near(one[0], at(3.0)) && near(one[0] + one[1], at(4.0) - 1.0), "{one:?}");
+    assert!(near(one[2] + one[3] / 2.0, ticks[1]) && near(one[3], 1.5), "{one:?} {ticks:?}");
+    assert!(key[2] > READINGS.1, "{key:?}");
+    assert!(svg.contains("shaded: lowest to highest reading of each window (right axis)") && svg.contains(">lowest to highest<"));
+    // the figure stands before its band
+    let place = |color: &str| svg.lines().position(|line| line.starts_with("<rect ") && line.contains(color)).expect(color);
+    assert!(place(BAND) < place("#b4500f"));
+    // of windows that overlap each has a half of that
+    let svg = of("0,2\n1,2\n1,4\n");
+    let across: Vec<(f64, f64)> = bands(&svg).iter().map(|[x, width, ..]| (*x, x + width)).collect();
+    let wanted = [(0.0, 1.5), (1.5, 1.5), (1.5, 4.0)].map(|(from, to)| (at(from), at(to)));
+    assert!(
+        near(across[0].1, wanted[0].1 - 1.0) && near(across[2].0, wanted[2].0) && near(across[2].1, wanted[2].1 - 1.0),
+        "{across:?}"
+    );
+    assert!(near(across[1].0, wanted[1].0 - 1.0) && near(across[1].1, wanted[1].1 + 1.0), "{across:?}");
+    assert!(svg.contains(">lowest to highest, overlaps halved<"));
+}
+
+#[test]
+fn the_band_of_fixed_windows_stands_at_their_own_places() {
+    let [.., svg] = make(&options("t --window 2"), b"a,-10\nb,0\nc,nan\nd,nan\n", b"").expect("a report");
+    let band = path(&svg, BAND);
+    let [low, high] = ["-10", "0"].map(|value| right_tick_at(&svg, value));
+    // a reading, both, the second alone, none
+    let half = 0.75;
+    let wanted = [
+        (at(0.5), low - half),
+        (at(1.5), high),
+        (at(2.5), high - half),
+        (at(2.5), high + half),
+        (at(1.5), low),
+        (at(0.5), low + half),
+    ];
+    assert!(band.len() == 6 && band.iter().zip(wanted).all(|(a, b)| near(a.0, b.0) && near(a.1, b.1)), "{band:?} {wanted:?}");
+}
+
+#[test]
+fn there_is_no_second_axis_without_a_band() {
+    for (line, trace) in [
+        ("t --plan p", &b"a,nan\nb,\n"[..]),
+        ("t --window 2 --minimum 3", b"a,1\nb,2\n"),
+        ("t --window 1 --weights 1", b"a,1\nb,2\n"),
+        ("t --plan p --figure skewness", b"a,1\nb,2\n"),
+    ] {
+        let [.., svg] = make(&options(line), trace, b"0,2\n").expect("a report");
+        assert!(svg.contains(" width=\"1200\" ") && !svg.contains("lowest") && !svg.contains(BAND), "{line}");
+    }
+    let [.., svg] = make(&options("t --plan p --ddof 255"), b"a,1\nb,2\n", b"0,2\n").expect("a report");
+    assert!(svg.contains(" width=\"1256\" ") && svg.contains("no figure") && svg.contains(BAND), "{svg}");
 }

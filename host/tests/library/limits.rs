@@ -1,5 +1,5 @@
 //! 16,777,216 readings, and as many rows, are taken; one more is refused, and nothing is written.
-use crate::lists::Lengths;
+use crate::lists::{Lengths, Needed};
 use moments::*;
 
 fn over(readings: usize) -> Refusal {
@@ -14,19 +14,23 @@ fn one_more() -> Vec<f64> {
 }
 /// Each figure of a window of 0 and 1.
 const FIGURES: [(Setting, f64); 3] = [
-    (Setting { figure: Figure::Var { ddof: 0 }, min_periods: 1 }, 0.25),
-    (Setting { figure: Figure::Skew { bias: true }, min_periods: 1 }, 0.0),
-    (Setting { figure: Figure::Kurtosis { fisher: true, bias: true }, min_periods: 1 }, -2.0),
+    (Setting { figure: Figure::Var(Var { ddof: 0 }), min_periods: 1 }, 0.25),
+    (Setting { figure: Figure::Shape(Shape::Skew { bias: true }), min_periods: 1 }, 0.0),
+    (Setting { figure: Figure::Shape(Shape::Kurtosis { fisher: true, bias: true }), min_periods: 1 }, -2.0),
 ];
 /// Each figure of a window of 0 and 1 in both traces.
 const PAIR_FIGURES: [(Setting<PairFigure>, f64); 2] = [
     (Setting { figure: PairFigure::Cov { ddof: 0 }, min_periods: 2 }, 0.25),
     (Setting { figure: PairFigure::PearsonCorr, min_periods: 2 }, 1.0),
 ];
-/// The call on lists of any bits, none of which may change.
+const LENT: Lengths = Lengths { readings: [3, 4], work: 24, figures: 2, present: 2, extremes: [2; 4] };
+/// Of a call on lists of any bits none may change.
+const NOTHING: Needed = ([0; 2], 0, 0);
+fn refused(result: Result<Vec<u64>, Refusal>) -> Result<(), Refusal> {
+    result.map(|held| panic!("accepted: {held:?}"))
+}
 fn kept(call: impl FnOnce([&mut [f64]; 2], Lists) -> Result<(), Refusal>) -> Result<(), Refusal> {
-    let lent = Lengths { readings: [3, 4], work: 24, figures: 2, present: 2 };
-    lent.run(([0; 2], 0, 0), call).map(|held| panic!("accepted: {held:?}"))
+    refused(LENT.run(NOTHING, call))
 }
 
 #[test]
@@ -60,7 +64,7 @@ fn readings_of_fixed_windows() {
         assert_eq!((answers.len(), answers[1], answers[MOST - 1]), (MOST, Some(wanted), Some(wanted)));
         drop(answers);
         assert_eq!(rolling(&trace, None, Window::trailing(2), setting).map(drop), Err(over(MOST + 1)));
-        assert_eq!(kept(|_, lists| rolling_into(&trace, None, Window::trailing(2), setting, lists)), Err(over(MOST + 1)));
+        assert_eq!(refused(LENT.rolling(NOTHING, (&trace, None), Window::trailing(2), setting)), Err(over(MOST + 1)));
     }
     let answers = rolling_var_weights(&trace[..MOST], None, Window::trailing(2), 2, &[1.0, 1.0]).expect("as many as are taken");
     assert_eq!((answers[0], answers[MOST - 1]), (None, Some(0.25)));
@@ -125,14 +129,31 @@ fn readings_of_plans() {
     let rows = Plan::new(&[0, MOST as u32 - 2], &[2, MOST as u32]);
     let bytes = vec![0; 8 * MOST + 8];
     for (setting, wanted) in FIGURES {
-        let result = kept(|[readings, _], lists| plan_into(&bytes, readings, None, Plan::new(&[3], &[2]), setting, lists));
-        assert_eq!(result, Err(over(MOST + 1)));
+        let result = LENT.plan(NOTHING, (&bytes, None), Plan::new(&[3], &[2]), setting);
+        assert_eq!(refused(result), Err(over(MOST + 1)));
         assert_eq!(plan(&trace[..MOST], None, rows, setting), Ok(vec![Some(wanted); 2]));
         assert_eq!(plan(&trace, None, Plan::new(&[3], &[2]), setting), Err(over(MOST + 1)));
     }
-    // a window of all of them, by the figure that needs most work
+    // a window of all of them, by the figures that need most work
     let rows = Plan::new(&[0], &[MOST as u32]);
     assert_eq!(plan(&trace[..MOST], None, rows, Setting::kurtosis(true, true)), Ok(vec![Some(-2.0)]));
+    let all = Answer { variance: Some(0.25), lowest: Some(0.0), highest: Some(1.0) };
+    assert_eq!(plan_var(&trace[..MOST], None, rows, Setting::var(0)), Ok(vec![all]));
+}
+
+/// A reading that has left the window does not show in any of the rows behind.
+#[test]
+fn extremes_of_fixed_windows() {
+    // falling from the first place on, but for a last one above all
+    let (mut trace, size): (Vec<f64>, usize) = ((0..MOST).map(|i| -(i as f64)).collect(), 96);
+    trace[MOST - 1] = 7.0;
+    let answers = rolling_var(&trace, None, Window::trailing(size), Setting::var(0)).expect("as many as are taken");
+    for (row, Answer { lowest, highest, .. }) in answers[..MOST - 1].iter().enumerate() {
+        let first = row.saturating_sub(size - 1);
+        assert_eq!((*lowest, *highest), (Some(-(row as f64)), Some(-(first as f64))), "row {row}");
+    }
+    let Answer { lowest, highest, .. } = answers[MOST - 1];
+    assert_eq!((lowest, highest), (Some(2.0 - MOST as f64), Some(7.0)));
 }
 
 #[test]
@@ -148,7 +169,7 @@ fn rows_of_plans() {
     for (setting, _) in FIGURES {
         let rows = Plan::new(&starts, &ends);
         assert_eq!(plan(&[0.0, 1.0], None, rows, setting), Err(both));
-        assert_eq!(kept(|[readings, _], lists| plan_into(&[0; 16], readings, None, rows, setting, lists)), Err(both));
+        assert_eq!(refused(LENT.plan(NOTHING, (&[0; 16], None), rows, setting)), Err(both));
     }
     for (setting, wanted) in PAIR_FIGURES {
         let (traces, all, more) = ([[0.0, 1.0]; 2], Plan::new(&starts[..MOST], &ends[..MOST]), Plan::new(&starts, &ends));

@@ -1,5 +1,5 @@
 //! Lists to lend, with places beside them that nobody may touch, and a small generator of their contents.
-use moments::Lists;
+use moments::*;
 
 /// splitmix64.
 pub struct Rng(pub u64);
@@ -75,6 +75,9 @@ impl<T: Bits> Guarded<T> {
     }
 }
 
+/// What an accepted call writes to: readings of each trace that is decoded, doubles of work, rows.
+pub type Needed = ([usize; 2], usize, usize);
+
 /// Lengths of the lists that a call on windows is lent, of readings one for each trace.
 #[derive(Clone, PartialEq)]
 pub struct Lengths {
@@ -82,13 +85,20 @@ pub struct Lengths {
     pub work: usize,
     pub figures: usize,
     pub present: usize,
+    /// Lowest readings, their bytes, highest readings, their bytes: lent to the variance alone.
+    pub extremes: [usize; 4],
 }
 impl Lengths {
+    /// So many more than an accepted call writes to.
+    pub fn longer((readings, work, rows): Needed, more: usize) -> Self {
+        let rows = rows + more;
+        Lengths { readings: readings.map(|n| n + more), work: work + more, figures: rows, present: rows, extremes: [rows; 4] }
+    }
     /// Runs the call on lists of any bits; places past `rows`, `readings` and `work`, and all of them on a refusal, are kept. It gives
     /// what readings, figures and present bytes then hold.
     pub fn run<E>(
         &self,
-        (readings, work, rows): ([usize; 2], usize, usize),
+        (readings, work, rows): Needed,
         call: impl FnOnce([&mut [f64]; 2], Lists) -> Result<(), E>,
     ) -> Result<Vec<u64>, E> {
         let (mut rng, [first, second]) = (Rng(7), self.readings);
@@ -104,6 +114,63 @@ impl Lengths {
         present.check("present", free[3]);
         let [x, y, _, figures] = &lists;
         result.map(|()| [bits(x.held()), bits(y.held()), bits(figures.held()), bits(present.held())].concat())
+    }
+    /// The same of the variance: what readings and then all six lists of answers hold.
+    pub fn run_var<E>(
+        &self,
+        ([readings, _], work, rows): Needed,
+        call: impl FnOnce(&mut [f64], VarLists) -> Result<(), E>,
+    ) -> Result<Vec<u64>, E> {
+        let (mut rng, [lowest, lowest_present, highest, highest_present]) = (Rng(8), self.extremes);
+        let lengths = [self.readings[0], self.work, self.figures, lowest, highest];
+        let mut lists = lengths.map(|length| Guarded::<f64>::any(&mut rng, length));
+        let lengths = [self.present, lowest_present, highest_present];
+        let mut bytes = lengths.map(|length| Guarded::<u8>::any(&mut rng, length));
+        let ([x, scratch, f, l, h], [p, lp, hp]) = (lists.each_mut().map(Guarded::lend), bytes.each_mut().map(Guarded::lend));
+        let (variance, lowest, highest) = (Column::new(f, p), Column::new(l, lp), Column::new(h, hp));
+        let result = call(x, VarLists { work: scratch, variance, lowest, highest });
+        let free = if result.is_ok() { [readings, work, rows] } else { [0; 3] };
+        let names = [("readings", free[0]), ("work", free[1]), ("figures", free[2]), ("lowest", free[2]), ("highest", free[2])];
+        lists.iter().zip(names).for_each(|(list, (name, free))| list.check(name, free));
+        let names = ["present", "lowest present", "highest present"];
+        bytes.iter().zip(names).for_each(|(list, name)| list.check(name, free[2]));
+        let ([x, _, f, l, h], [p, lp, hp]) =
+            (lists.each_ref().map(|list| bits(list.held())), bytes.each_ref().map(|list| bits(list.held())));
+        result.map(|()| [x, f, p, l, lp, h, hp].concat())
+    }
+    /// A plan's call by the function of what is asked.
+    pub fn plan(
+        &self,
+        needed: Needed,
+        (trace, map): (&[u8], Option<&[u8]>),
+        plan: Plan,
+        Setting { figure, min_periods }: Setting,
+    ) -> Result<Vec<u64>, Refusal> {
+        match figure {
+            Figure::Var(figure) => self.run_var(needed, |readings, lists| {
+                plan_var_into(trace, readings, map, plan, Setting { figure, min_periods }, lists)
+            }),
+            Figure::Shape(figure) => self.run(needed, |[readings, _], lists| {
+                plan_into(trace, readings, map, plan, Setting { figure, min_periods }, lists)
+            }),
+        }
+    }
+    /// The same of fixed windows.
+    pub fn rolling(
+        &self,
+        needed: Needed,
+        (trace, map): (&[f64], Option<&[u8]>),
+        window: Window,
+        Setting { figure, min_periods }: Setting,
+    ) -> Result<Vec<u64>, Refusal> {
+        match figure {
+            Figure::Var(figure) => {
+                self.run_var(needed, |_, lists| rolling_var_into(trace, map, window, Setting { figure, min_periods }, lists))
+            }
+            Figure::Shape(figure) => {
+                self.run(needed, |_, lists| rolling_into(trace, map, window, Setting { figure, min_periods }, lists))
+            }
+        }
     }
 }
 

@@ -1,14 +1,13 @@
 //! Maps of every length in every entry that is lent one. A map that is longer than its trace needs is taken, and what stands behind the
 //! last reading's bit does not matter; with weights it is refused as any map is. A shorter one is refused, and nothing is written.
-use crate::lists::{accepted, bits, bytes_of, raw, state_of, Guarded, Lengths, Rng};
+use crate::lists::{accepted, bits, bytes_of, raw, state_of, Guarded, Lengths, Needed, Rng};
 use moments::abi::{self, OfPair, OfRange, OfTrace};
 use moments::*;
 
 /// Bytes behind a map, at most: Arrow pads its buffers to a multiple of 64.
 const MOST_BEHIND: usize = 64;
 const READINGS: [usize; 9] = [0, 1, 7, 8, 9, 63, 64, 65, 130];
-const FIGURES: [Figure; 3] =
-    [Figure::Var { ddof: 0 }, Figure::Skew { bias: true }, Figure::Kurtosis { fisher: true, bias: true }];
+const SHAPES: [Shape; 2] = [Shape::Skew { bias: true }, Shape::Kurtosis { fisher: true, bias: true }];
 const PAIR_FIGURES: [PairFigure; 2] = [PairFigure::Cov { ddof: 0 }, PairFigure::PearsonCorr];
 /// What spare bits and the bytes behind may be: zeros, ones, noise.
 const FILLS: [fn(&mut Rng) -> u8; 3] = [|_| 0, |_| 0xFF, |rng| rng.word() as u8];
@@ -120,23 +119,76 @@ fn of_pair<const N: usize, S: Into<[f64; N]> + 'static>(name: &str, entry: OfPai
 // ---- windows ----
 /// Runs the call on lists that are two places longer than is needed.
 fn with_lists<E>(needed: Needed, call: impl FnOnce([&mut [f64]; 2], Lists) -> Result<(), E>) -> Answer<E> {
-    let (readings, work, rows) = needed;
-    Lengths { readings: readings.map(|n| n + 2), work: work + 2, figures: rows + 2, present: rows + 2 }.run(needed, call)
+    Lengths::longer(needed, 2).run(needed, call)
 }
-/// Readings of each trace that is decoded, doubles of work, rows.
-type Needed = ([usize; 2], usize, usize);
+fn with_var_lists<E>(needed: Needed, call: impl FnOnce(&mut [f64], VarLists) -> Result<(), E>) -> Answer<E> {
+    Lengths::longer(needed, 2).run_var(needed, call)
+}
+/// A column as an entry takes it.
+fn column(Column { values, present }: Column) -> (*mut f64, usize, *mut u8, usize) {
+    (values.as_mut_ptr(), values.len(), present.as_mut_ptr(), present.len())
+}
 /// Four rows, in three of which the last place is.
 fn rows(n: usize) -> [[u32; 4]; 2] {
     [[0, n / 4, n / 2, n], [n / 2, n, n, n]].map(|bounds| bounds.map(|place| place as u32))
 }
-fn of_plan(figure: Figure) -> Entry {
-    let setting = Setting { figure, min_periods: 1 };
-    let given = move |trace: &[f64]| {
-        let rows = rows(trace.len());
-        (bytes_of(trace), rows, ([trace.len(), 0], setting.work(Plan::new(&rows[0], &rows[1]).widest()), rows[0].len()))
+/// A trace's bytes, the rows and what a call of them writes to.
+fn plan_of<F: Kind>(trace: &[f64], setting: Setting<F>) -> (Vec<u8>, [[u32; 4]; 2], Needed) {
+    let rows = rows(trace.len());
+    (bytes_of(trace), rows, ([trace.len(), 0], setting.work(Plan::new(&rows[0], &rows[1]).widest()), rows[0].len()))
+}
+const VAR: Setting<Var> = Setting { figure: Var { ddof: 0 }, min_periods: 1 };
+fn of_var_plan() -> Entry {
+    let declared = |trace: &[f64], map: &[u8]| {
+        let (bytes, [starts, ends], needed) = plan_of(trace, VAR);
+        with_var_lists(needed, |readings, VarLists { work, variance, lowest, highest }| {
+            let (t, tn, r, rn) = (bytes.as_ptr(), bytes.len(), readings.as_mut_ptr(), readings.len());
+            let (m, mn, s, e) = (map.as_ptr(), map.len(), starts.as_ptr(), ends.as_ptr());
+            let (w, wn, (f, fl, p, pn)) = (work.as_mut_ptr(), work.len(), column(variance));
+            let ((l, ln, lp, lpn), (h, hn, hp, hpn)) = (column(lowest), column(highest));
+            // SAFETY: pointers and lengths are the slices' and the arrays'.
+            #[rustfmt::skip]
+            let number = unsafe {
+                abi::moments_plan_var(
+                    t, tn, r, rn, true, m, mn, s, 4, e, 4, 1, 0, w, wn, f, fl, p, pn, l, ln, lp, lpn, h, hn, hp, hpn,
+                )
+            };
+            accepted(number)
+        })
     };
+    let safe = |trace: &[f64], map: &[u8]| {
+        let (bytes, [starts, ends], needed) = plan_of(trace, VAR);
+        let plan = Plan::new(&starts, &ends);
+        with_var_lists(needed, |readings, lists| plan_var_into(&bytes, readings, Some(map), plan, VAR, lists))
+    };
+    Entry { name: "plan var".into(), whose: Which::Only, declared: Box::new(declared), safe: Box::new(safe) }
+}
+fn of_var_fixed(window: Window) -> Entry {
+    let needed = move |n: usize| ([0; 2], VAR.work(window.size.min(n)), n);
     let declared = move |trace: &[f64], map: &[u8]| {
-        let (bytes, [starts, ends], needed) = given(trace);
+        let ((t, n, has_map, m, mn), Window { size, center }) = (raw(trace, true, map), window);
+        with_var_lists(needed(n), |_, VarLists { work, variance, lowest, highest }| {
+            let (w, wn, (f, fl, p, pn)) = (work.as_mut_ptr(), work.len(), column(variance));
+            let ((l, ln, lp, lpn), (h, hn, hp, hpn)) = (column(lowest), column(highest));
+            // SAFETY: pointers and lengths are the slices'.
+            #[rustfmt::skip]
+            let number = unsafe {
+                abi::moments_rolling_var(
+                    t, n, has_map, m, mn, size, 1, center, 0, w, wn, f, fl, p, pn, l, ln, lp, lpn, h, hn, hp, hpn,
+                )
+            };
+            accepted(number)
+        })
+    };
+    let safe = move |trace: &[f64], map: &[u8]| {
+        with_var_lists(needed(trace.len()), |_, lists| rolling_var_into(trace, Some(map), window, VAR, lists))
+    };
+    Entry { name: format!("{window:?} var"), whose: Which::Only, declared: Box::new(declared), safe: Box::new(safe) }
+}
+fn of_plan(figure: Shape) -> Entry {
+    let setting = Setting { figure, min_periods: 1 };
+    let declared = move |trace: &[f64], map: &[u8]| {
+        let (bytes, [starts, ends], needed) = plan_of(trace, setting);
         with_lists(needed, |[readings, _], Lists { work, figures, present }| {
             let (t, tn, r, rn) = (bytes.as_ptr(), bytes.len(), readings.as_mut_ptr(), readings.len());
             let (m, mn, s, e) = (map.as_ptr(), map.len(), starts.as_ptr(), ends.as_ptr());
@@ -145,13 +197,10 @@ fn of_plan(figure: Figure) -> Entry {
             // SAFETY: pointers and lengths are the slices' and the arrays'.
             accepted(unsafe {
                 match figure {
-                    Figure::Var { ddof } => {
-                        abi::moments_plan_var(t, tn, r, rn, true, m, mn, s, 4, e, 4, 1, ddof, w, wn, f, fl, p, pn)
-                    }
-                    Figure::Skew { bias } => {
+                    Shape::Skew { bias } => {
                         abi::moments_plan_skew(t, tn, r, rn, true, m, mn, s, 4, e, 4, 1, bias, w, wn, f, fl, p, pn)
                     }
-                    Figure::Kurtosis { fisher, bias } => {
+                    Shape::Kurtosis { fisher, bias } => {
                         abi::moments_plan_kurtosis(t, tn, r, rn, true, m, mn, s, 4, e, 4, 1, fisher, bias, w, wn, f, fl, p, pn)
                     }
                 }
@@ -159,7 +208,7 @@ fn of_plan(figure: Figure) -> Entry {
         })
     };
     let safe = move |trace: &[f64], map: &[u8]| {
-        let (bytes, [starts, ends], needed) = given(trace);
+        let (bytes, [starts, ends], needed) = plan_of(trace, setting);
         let plan = Plan::new(&starts, &ends);
         with_lists(needed, |[readings, _], lists| plan_into(&bytes, readings, Some(map), plan, setting, lists))
     };
@@ -202,7 +251,7 @@ fn of_pair_plan(figure: PairFigure, tried: Tried) -> Entry {
     };
     of_two(&format!("plan {figure:?}"), tried, Box::new(declared), Box::new(safe))
 }
-fn of_fixed(figure: Figure, window: Window) -> Entry {
+fn of_fixed(figure: Shape, window: Window) -> Entry {
     let setting = Setting { figure, min_periods: 1 };
     let needed = move |n: usize| ([0; 2], setting.work(window.size.min(n)), n);
     let declared = move |trace: &[f64], map: &[u8]| {
@@ -213,13 +262,10 @@ fn of_fixed(figure: Figure, window: Window) -> Entry {
             // SAFETY: pointers and lengths are the slices'.
             accepted(unsafe {
                 match figure {
-                    Figure::Var { ddof } => {
-                        abi::moments_rolling_var(t, n, has_map, m, mn, size, 1, center, ddof, w, wn, f, fl, p, pn)
-                    }
-                    Figure::Skew { bias } => {
+                    Shape::Skew { bias } => {
                         abi::moments_rolling_skew(t, n, has_map, m, mn, size, 1, center, bias, w, wn, f, fl, p, pn)
                     }
-                    Figure::Kurtosis { fisher, bias } => {
+                    Shape::Kurtosis { fisher, bias } => {
                         abi::moments_rolling_kurtosis(t, n, has_map, m, mn, size, 1, center, fisher, bias, w, wn, f, fl, p, pn)
                     }
                 }
@@ -295,9 +341,10 @@ fn entries() -> Vec<Entry> {
             entries.extend([of_pair_plan(figure, tried), of_pair_fixed(figure, window, tried)]);
         }
     }
-    for (figure, window) in FIGURES.into_iter().zip([Window::trailing(5), Window::centered(4), Window::trailing(3)]) {
+    for (figure, window) in SHAPES.into_iter().zip([Window::centered(4), Window::trailing(3)]) {
         entries.extend([of_plan(figure), of_fixed(figure, window)]);
     }
+    entries.extend([of_var_plan(), of_var_fixed(Window::trailing(5))]);
     entries
 }
 /// A trace and its map of just the bytes that it needs, spare bits 0. The last place is valid, and a place that is not holds what would
@@ -429,7 +476,14 @@ fn answers_are_those_of_the_exact_map() {
     for n in READINGS {
         with_every_padding(n, |_, trace, exact, map| {
             let [starts, ends] = rows(n);
-            for setting in FIGURES.map(|figure| Setting { figure, min_periods: 2 }) {
+            let answers = |map: &[u8]| {
+                let answers = plan_var(trace, Some(map), Plan::new(&starts, &ends), VAR.min_periods(2)).expect("accepted");
+                let rows = answers.into_iter().chain(rolling_var(trace, Some(map), Window::trailing(5), VAR).expect("accepted"));
+                rows.map(|row| [row.variance, row.lowest, row.highest].map(|x| x.map(f64::to_bits))).collect::<Vec<_>>()
+            };
+            assert_eq!(answers(map), answers(exact));
+            let figures = SHAPES.map(Figure::Shape).into_iter().chain([Figure::Var(VAR.figure)]);
+            for setting in figures.map(|figure| Setting { figure, min_periods: 2 }) {
                 let ask = |map: &[u8]| -> [Result<Vec<_>, Refusal>; 2] {
                     let by_plan = plan(trace, Some(map), Plan::new(&starts, &ends), setting);
                     [by_plan, rolling(trace, Some(map), Window::trailing(5), setting)].map(words)

@@ -140,7 +140,7 @@ fn lists_hold_readings_figures_and_present_bytes() {
     let [x_bytes, y_bytes] = [bytes_of(&x), bytes_of(&y)];
     let decoded = [bits(&x[..1]), vec![NAN], bits(&x[2..]), bits(&y)].concat();
     for (setting, one_pair) in [(Setting::cov(0).min_periods(0), 0), (Setting::pearson_corr().min_periods(0), NAN)] {
-        let lent = Lengths { readings: [4; 2], work: setting.work(2), figures: 4, present: 4 };
+        let lent = Lengths::longer(([4; 2], setting.work(2), 4), 0);
         let held = lent.run(([4; 2], setting.work(2), 4), |[x_readings, y_readings], lists| {
             let x = Encoded { bytes: &x_bytes, readings: x_readings, map: None };
             let y = Encoded { bytes: &y_bytes, readings: y_readings, map: missing };

@@ -1,13 +1,13 @@
 //! Every refusal of every entry, alone and before those of higher numbers, with lists that hold any bits: the refusal says what is
 //! wrong and nothing is written. Then what is accepted at the edge: empty slices, odd addresses, maps that are not lent, NaNs.
-use crate::lists::{bytes_of, raw, state_of, Lengths, Rng};
+use crate::lists::{bits, bytes_of, raw, state_of, Lengths, Rng};
 use moments::*;
 
 const NAN: u64 = 0x7FF8_0000_0000_0000;
 const SETTINGS: [Setting; 3] = [
-    Setting { figure: Figure::Var { ddof: 1 }, min_periods: 1 },
-    Setting { figure: Figure::Skew { bias: false }, min_periods: 0 },
-    Setting { figure: Figure::Kurtosis { fisher: true, bias: true }, min_periods: 2 },
+    Setting { figure: Figure::Var(Var { ddof: 1 }), min_periods: 1 },
+    Setting { figure: Figure::Shape(Shape::Skew { bias: false }), min_periods: 0 },
+    Setting { figure: Figure::Shape(Shape::Kurtosis { fisher: true, bias: true }), min_periods: 2 },
 ];
 const PAIR_SETTINGS: [Setting<PairFigure>; 2] = [
     Setting { figure: PairFigure::Cov { ddof: 1 }, min_periods: 1 },
@@ -48,16 +48,17 @@ impl PlanCall {
     /// Nine readings, rows (0, 4), (2, 6), (3, 9), lists that are two places longer than is needed.
     fn new(setting: Setting) -> Self {
         let trace = (0..9).flat_map(|i| (f64::from(i) * 1.5).to_le_bytes()).collect();
-        let lent = Lengths { readings: [11, 0], work: setting.work(6) + 2, figures: 5, present: 5 };
+        let lent = Lengths::longer(([9, 0], setting.work(6), 3), 2);
         PlanCall { setting, trace, map: Some(vec![0b1011_0111, 0b1]), starts: vec![0, 2, 3], ends: vec![4, 6, 9], lent }
     }
     fn run(&self) -> Result<(), Refusal> {
-        let plan = Plan::new(&self.starts, &self.ends);
-        self.lent.run(([self.trace.len() / 8, 0], self.setting.work(6), self.starts.len()), |[readings, _], lists| {
-            plan_into(&self.trace, readings, self.map.as_deref(), plan, self.setting, lists)
-        })?;
-        Ok(())
+        let (plan, needed) =
+            (Plan::new(&self.starts, &self.ends), ([self.trace.len() / 8, 0], self.setting.work(6), self.starts.len()));
+        self.lent.plan(needed, (&self.trace, self.map.as_deref()), plan, self.setting).map(drop)
     }
+}
+fn is_var(setting: Setting) -> bool {
+    matches!(setting.figure, Figure::Var(_))
 }
 /// A list that is too short.
 fn short(list: List, length: usize, needed: usize) -> Refusal {
@@ -69,7 +70,7 @@ fn plans_are_refused_by_the_first_number_that_applies() {
     for setting in SETTINGS {
         let needed = setting.work(6);
         let row = Refusal::BelowRowBefore { row: 2, bounds: (1, 9), before: (2, 6) };
-        let faults: [Fault<PlanCall>; 10] = [
+        let mut faults: Vec<Fault<PlanCall>> = vec![
             (|c| c.trace.truncate(71), Refusal::TraceBytes { trace: Which::Only, bytes: 71 }),
             (|c| c.map = Some(vec![0xFF; 1]), Refusal::MapLength { trace: Which::Only, bytes: 1, readings: 9 }),
             (|c| _ = c.starts.pop(), Refusal::PlanLengths { starts: 2, ends: 3 }),
@@ -81,6 +82,15 @@ fn plans_are_refused_by_the_first_number_that_applies() {
             (|c| (c.lent.figures, c.lent.present, c.lent.readings) = (3, 3, [8, 0]), short(List::Readings(Which::Only), 8, 9)),
             (|c| c.lent.work = c.setting.work(6) - 1, Refusal::WorkTooShort { length: needed - 1, needed }),
         ];
+        if is_var(setting) {
+            let extremes: [Fault<PlanCall>; 4] = [
+                (|c| c.lent.extremes = [2, 3, 3, 3], short(List::Lowest, 2, 3)),
+                (|c| c.lent.extremes = [3, 2, 2, 2], short(List::LowestPresent, 2, 3)),
+                (|c| c.lent.extremes = [3, 3, 2, 0], short(List::Highest, 2, 3)),
+                (|c| c.lent.extremes = [3, 3, 3, 2], short(List::HighestPresent, 2, 3)),
+            ];
+            faults.splice(8..8, extremes);
+        }
         try_each(&PlanCall::new(setting), &faults, PlanCall::run);
         // rows are tested one after the other, not number by number
         let rows: [Fault<PlanCall>; 3] = [
@@ -177,14 +187,12 @@ impl WindowCall {
             trace: (0..9).map(|i| f64::from(i) * -2.5).collect(),
             map: None,
             weights: vec![1.0, 2.0, 0.5],
-            lent: Lengths { readings: [0; 2], work: setting.work(3) + 2, figures: 11, present: 11 },
+            lent: Lengths { readings: [0; 2], ..Lengths::longer(([0; 2], setting.work(3), 9), 2) },
         }
     }
     fn run(&self) -> Result<(), Refusal> {
-        self.lent.run(([0; 2], self.setting.work(3), 9), |_, lists| {
-            rolling_into(&self.trace, self.map.as_deref(), self.window, self.setting, lists)
-        })?;
-        Ok(())
+        let needed = ([0; 2], self.setting.work(3), 9);
+        self.lent.rolling(needed, (&self.trace, self.map.as_deref()), self.window, self.setting).map(drop)
     }
     fn run_weights(&self) -> Result<(), Refusal> {
         let (map, min) = (self.map.as_deref(), self.setting.min_periods);
@@ -224,12 +232,21 @@ const SHORT_PRESENT: Refusal = Refusal::ListTooShort { list: List::Present, leng
 fn fixed_windows_are_refused_by_the_first_number_that_applies() {
     for setting in SETTINGS {
         let needed = setting.work(3);
-        let faults: [Fault<WindowCall>; 4] = [
+        let mut faults: Vec<Fault<WindowCall>> = vec![
             (|c| c.map = Some(vec![1]), Refusal::MapLength { trace: Which::Only, bytes: 1, readings: 9 }),
             (|c| c.lent.figures = 8, SHORT_FIGURES),
             (|c| c.lent.present = 8, SHORT_PRESENT),
             (|c| c.lent.work = c.setting.work(3) - 1, Refusal::WorkTooShort { length: needed - 1, needed }),
         ];
+        if is_var(setting) {
+            let extremes: [Fault<WindowCall>; 4] = [
+                (|c| c.lent.extremes[0] = 8, short(List::Lowest, 8, 9)),
+                (|c| c.lent.extremes[1] = 8, short(List::LowestPresent, 8, 9)),
+                (|c| c.lent.extremes[2] = 8, short(List::Highest, 8, 9)),
+                (|c| c.lent.extremes[3] = 8, short(List::HighestPresent, 8, 9)),
+            ];
+            faults.splice(3..3, extremes);
+        }
         try_each(&WindowCall::new(setting), &faults, WindowCall::run);
     }
 }
@@ -386,6 +403,18 @@ fn each_refusal_is_a_sentence() {
             "the range of 1 place from 7 reaches past the end of the trace, which has 7 readings",
         ),
         (short(List::Present, 1, 3), 12, "the lent list of present bytes has 1 place, but needs 3, one for each row"),
+        (short(List::Lowest, 2, 3), 12, "the lent list of lowest readings has 2 places, but needs 3, one for each row"),
+        (
+            short(List::LowestPresent, 1, 3),
+            12,
+            "the lent list of the lowest readings' present bytes has 1 place, but needs 3, one for each row",
+        ),
+        (short(List::Highest, 0, 3), 12, "the lent list of highest readings has 0 places, but needs 3, one for each row"),
+        (
+            short(List::HighestPresent, 2, 3),
+            12,
+            "the lent list of the highest readings' present bytes has 2 places, but needs 3, one for each row",
+        ),
         (
             short(List::Readings(Which::Only), 0, 1),
             12,
@@ -421,8 +450,9 @@ fn empty_slices_are_answered() {
         for setting in SETTINGS {
             assert_eq!(plan(&[], map, Plan::default(), setting).as_deref(), Ok(&none[..]));
             assert_eq!(plan(&[], map, Plan::new(&[0], &[0]), setting), Ok(vec![None]));
-            let lists = Lists { work: &mut [], figures: &mut [], present: &mut [] };
-            assert_eq!(plan_into(&[], &mut [], map, Plan::default(), setting, lists), Ok(()));
+            let (nothing, lent) = (([0; 2], 0, 0), Lengths::longer(([0; 2], 0, 0), 0));
+            assert_eq!(lent.plan(nothing, (&[], map), Plan::default(), setting), Ok(vec![]));
+            assert_eq!(lent.rolling(nothing, (&[], map), Window::trailing(3), setting), Ok(vec![]));
             for size in [0, 1, 2, 1 << 63, usize::MAX] {
                 for window in [Window::trailing(size), Window::centered(size)] {
                     assert_eq!(rolling(&[], map, window, setting).as_deref(), Ok(&none[..]));
@@ -457,12 +487,18 @@ fn bytes_are_taken_from_any_address() {
     let (trace, rows) = ([2.0f64, 4.0, 6.0, 8.0], Plan::new(&[0, 1, 3], &[2, 3, 4]));
     for shift in 0..8 {
         let bytes = [vec![0xA5; shift], bytes_of(&trace)].concat();
-        let (mut readings, mut work, mut figures, mut present) = ([0.0; 4], [0.0; 8], [9.0; 3], [9; 3]);
-        let lists = Lists { work: &mut work, figures: &mut figures, present: &mut present };
-        assert_eq!(plan_into(&bytes[shift..], &mut readings, None, rows, Setting::var(1), lists), Ok(()));
-        assert_eq!((readings, figures, present), (trace, [2.0, 2.0, 0.0], [1, 1, 0]));
+        let needed = ([4, 0], Setting::var(1).work(2), 3);
+        let held = Lengths::longer(needed, 0).plan(needed, (&bytes[shift..], None), rows, Setting::var(1).into());
+        let wanted = [
+            bits(&trace),
+            [bits(&[2.0, 2.0, 0.0]), vec![1, 1, 0]].concat(),
+            [bits(&[2.0, 4.0, 8.0]), vec![1; 3]].concat(),
+            [bits(&[4.0, 6.0, 8.0]), vec![1; 3]].concat(),
+        ];
+        assert_eq!(held, Ok(wanted.concat()));
         // the second trace stands at another one
         let (mut x_readings, mut y_readings, mut work) = ([0.0; 4], [0.0; 4], [0.0; 12]);
+        let (mut figures, mut present) = ([9.0; 3], [9; 3]);
         let lists = Lists { work: &mut work, figures: &mut figures, present: &mut present };
         let x = Encoded { bytes: &bytes[shift..], readings: &mut x_readings, map: None };
         let second = [vec![0xA5; 7 - shift], bytes_of(&trace)].concat();
@@ -495,17 +531,28 @@ fn a_map_that_is_not_lent_is_not_looked_at() {
             assert_eq!((figures[row].to_bits(), present[row]), answer.map_or((0, 0), |x| (x.to_bits(), 1)));
         }
     }
+    /// The answers of a call that writes variances, lowest and highest readings, each with its bytes.
+    fn same_var(wanted: Result<Vec<Answer>, Refusal>, call: impl FnOnce(*mut f64, *mut f64, [*mut f64; 3], [*mut u8; 3]) -> u32) {
+        let (mut readings, mut work, mut values, mut present) = ([0.0; 4], [0.0; 24], [[9.0; 4]; 3], [[9u8; 4]; 3]);
+        let lists = (values.each_mut().map(|list| list.as_mut_ptr()), present.each_mut().map(|list| list.as_mut_ptr()));
+        assert_eq!(call(readings.as_mut_ptr(), work.as_mut_ptr(), lists.0, lists.1), 0);
+        for (row, Answer { variance, lowest, highest }) in wanted.expect("accepted").into_iter().enumerate() {
+            for (k, answer) in [variance, lowest, highest].into_iter().enumerate() {
+                assert_eq!((values[k][row].to_bits(), present[k][row]), answer.map_or((0, 0), |x| (x.to_bits(), 1)));
+            }
+        }
+    }
     fn same_state<const N: usize>(wanted: Result<impl Into<[f64; N]>, Refusal>, call: impl FnOnce(&mut [f64; N]) -> u32) {
         let mut state = [0.0; N];
         assert_eq!(call(&mut state), 0);
         assert_eq!(Ok(state), wanted.map(Into::into));
     }
-    let [v, k, q] = [Setting::var(1), Setting::skew(true), Setting::kurtosis(true, true)];
+    let (v, k, q) = (Setting::var(1), Setting::skew(true), Setting::kurtosis(true, true));
     let window = Window::trailing(2);
     // SAFETY: pointers and lengths are the slices' and the arrays'.
     unsafe {
-        same(plan(&trace, None, rows, v), |r, x, f, p| {
-            abi::moments_plan_var(b, bn, r, 4, has_map, m, mn, s, 2, e, 2, 1, 1, x, 24, f, 4, p, 4)
+        same_var(plan_var(&trace, None, rows, v), |r, x, [f, l, h], [p, q, o]| {
+            abi::moments_plan_var(b, bn, r, 4, has_map, m, mn, s, 2, e, 2, 1, 1, x, 24, f, 4, p, 4, l, 4, q, 4, h, 4, o, 4)
         });
         same(plan(&trace, None, rows, k), |r, x, f, p| {
             abi::moments_plan_skew(b, bn, r, 4, has_map, m, mn, s, 2, e, 2, 1, true, x, 24, f, 4, p, 4)
@@ -513,8 +560,8 @@ fn a_map_that_is_not_lent_is_not_looked_at() {
         same(plan(&trace, None, rows, q), |r, x, f, p| {
             abi::moments_plan_kurtosis(b, bn, r, 4, has_map, m, mn, s, 2, e, 2, 1, true, true, x, 24, f, 4, p, 4)
         });
-        same(rolling(&trace, None, window, v), |_, x, f, p| {
-            abi::moments_rolling_var(t, n, has_map, m, mn, 2, 1, false, 1, x, 24, f, 4, p, 4)
+        same_var(rolling_var(&trace, None, window, v), |_, x, [f, l, h], [p, q, o]| {
+            abi::moments_rolling_var(t, n, has_map, m, mn, 2, 1, false, 1, x, 24, f, 4, p, 4, l, 4, q, 4, h, 4, o, 4)
         });
         same(rolling(&trace, None, window, k), |_, x, f, p| {
             abi::moments_rolling_skew(t, n, has_map, m, mn, 2, 1, false, true, x, 24, f, 4, p, 4)
@@ -557,7 +604,8 @@ fn a_nan_figure_has_one_pattern() {
     let bad = [0x7FF0_0000_0000_0001, 0xFFF8_0000_0000_0000, 0x7FFF_FFFF_FFFF_FFFF, 0x7FF0_0000_0000_0000, 0xFFF0_0000_0000_0000];
     for word in bad {
         let trace = [1.0, f64::from_bits(word), 3.0, 4.0, 6.0];
-        for setting in [Setting::var(0), Setting::skew(true), Setting::kurtosis(false, true)] {
+        let settings: [Setting; 3] = [Setting::var(0).into(), Setting::skew(true).into(), Setting::kurtosis(false, true).into()];
+        for setting in settings {
             let answers = rolling(&trace, None, Window::trailing(2), setting).expect("accepted");
             let by_plan = plan(&trace, None, Plan::new(&[0, 0, 1, 2, 3], &[1, 2, 3, 4, 5]), setting).expect("accepted");
             let words = |list: &[Option<f64>]| list.iter().map(|x| x.map(f64::to_bits)).collect::<Vec<_>>();
@@ -604,6 +652,7 @@ fn any_input_is_answered_or_refused_by_a_known_number() {
             _ => below(rng, 14),
         };
         let setting = SETTINGS[below(&mut rng, 3)].min_periods(wild(&mut rng));
+        let var_setting = Setting::var(rng.word() as u8).min_periods(wild(&mut rng));
         let rows = below(&mut rng, 5);
         let place = |rng: &mut Rng| if rng.word() % 9 == 0 { rng.word() as u32 } else { below(rng, 13) as u32 };
         let mut starts: Vec<u32> = (0..rows).map(|_| place(&mut rng)).collect();
@@ -623,6 +672,8 @@ fn any_input_is_answered_or_refused_by_a_known_number() {
         for result in [
             rows_of(plan_pair(&trace, map, second, other, Plan::new(&starts, &ends), asked), rows),
             rows_of(rolling_pair(second, other, &trace, map, window, asked), n),
+            plan_var(&trace, map, Plan::new(&starts, &ends), var_setting).map(|answers| assert_eq!(answers.len(), rows)),
+            rolling_var(&trace, map, window, var_setting).map(|answers| assert_eq!(answers.len(), n)),
             rows_of(plan(&trace, map, Plan::new(&starts, &ends), setting), rows),
             rows_of(rolling(&trace, map, window, setting), n),
             rows_of(rolling_var_weights(&trace, map, window, setting.min_periods, &weights), n),

@@ -187,10 +187,10 @@ struct Windows<'a> {
 impl<'a> Windows<'a> {
     fn of(record: &'a [u64]) -> Self {
         let [figure, ddof, bias, fisher] = std::array::from_fn(|i| record[i]);
-        let setting = match figure {
-            1 => Setting::skew(bias == 1),
-            2 => Setting::kurtosis(fisher == 1, bias == 1),
-            _ => Setting::var(ddof as u8),
+        let setting: Setting = match figure {
+            1 => Setting::skew(bias == 1).into(),
+            2 => Setting::kurtosis(fisher == 1, bias == 1).into(),
+            _ => Setting::var(ddof as u8).into(),
         };
         let (setting, has_map) = (setting.min_periods(record[4] as usize), record[5] == 1);
         Windows { record, setting, has_map, number: record[6], free: record[7] as usize }
@@ -210,75 +210,133 @@ impl<'a> Windows<'a> {
         &self.record[at..at + length]
     }
     /// The lists after the call are those of the record, and nothing else was written.
-    fn check<T>(&self, i: usize, result: Result<T, Refusal>, work: &Guarded<f64>, figures: &Guarded<f64>, present: &Guarded<u8>) {
+    fn check<T>(&self, i: usize, result: Result<T, Refusal>, lent: &Lent) {
         assert_eq!(number(&result), self.number, "record {i}");
-        assert_eq!(bits(figures.held()), self.list(6), "record {i}");
-        assert_eq!(bits(present.held()), self.list(7), "record {i}");
-        let answered = if result.is_ok() { usize::MAX } else { 0 };
-        work.check("work", self.free);
-        figures.check("figures", answered.min(figures.held().len()));
-        present.check("present", answered.min(present.held().len()));
+        lent.work.check("work", self.free);
+        for (k, (values, present)) in lent.columns.iter().enumerate() {
+            assert_eq!(bits(values.held()), self.list(6 + 2 * k), "record {i}, column {k}");
+            assert_eq!(bits(present.held()), self.list(7 + 2 * k), "record {i}, column {k}");
+            let answered = |length: usize| if result.is_ok() { length } else { 0 };
+            values.check("values", answered(values.held().len()));
+            present.check("present", answered(present.held().len()));
+        }
     }
 }
-fn lent(rng: &mut Rng, w: &Windows) -> (Guarded<f64>, Guarded<f64>, Guarded<u8>) {
-    let [work, figures, present] = [4, 6, 7].map(|k| w.pair(k).1);
-    (Guarded::holding(rng, w.held(work)), Guarded::holding(rng, w.held(figures)), Guarded::holding(rng, w.held(present)))
+/// The lists that a record's call is lent. Those of the variance without weights have three columns: itself, lowest, highest.
+struct Lent {
+    work: Guarded<f64>,
+    columns: Vec<(Guarded<f64>, Guarded<u8>)>,
+}
+impl Lent {
+    fn new(rng: &mut Rng, w: &Windows, columns: usize) -> Self {
+        let mut column = |k: usize| {
+            let [values, present] = [6, 7].map(|list| w.pair(list + 2 * k).1);
+            (Guarded::holding(rng, w.held(values)), Guarded::holding(rng, w.held(present)))
+        };
+        let columns = (0..columns).map(&mut column).collect();
+        Lent { work: Guarded::holding(rng, w.held(w.pair(4).1)), columns }
+    }
+    fn lists(&mut self) -> Lists<'_> {
+        let Lent { work, columns } = self;
+        let (figures, present) = &mut columns[0];
+        Lists { work: work.lend(), figures: figures.lend(), present: present.lend() }
+    }
+    fn var_lists(&mut self) -> VarLists<'_> {
+        let Lent { work, columns } = self;
+        let mut columns = columns.iter_mut().map(|(values, present)| Column::new(values.lend(), present.lend()));
+        let [variance, lowest, highest] = std::array::from_fn(|_| columns.next().expect("three columns"));
+        VarLists { work: work.lend(), variance, lowest, highest }
+    }
+}
+/// How many columns the call of a figure writes.
+fn columns(setting: Setting) -> usize {
+    match setting.figure {
+        Figure::Var(_) => 3,
+        Figure::Shape(_) => 1,
+    }
 }
 
 #[test]
 fn plans() {
-    let mut rng = Rng(1);
+    let (mut rng, mut seen) = (Rng(1), [0; 4]);
     for (i, record) in records("plan").iter().enumerate() {
         let w = Windows::of(record);
         let (at, length) = w.pair(0);
         let trace: Vec<u8> = record[at - 1..].iter().flat_map(|word| word.to_le_bytes()).take(length).collect();
         let map = bytes(w.list(1));
         let [starts, ends] = [2, 3].map(|k| w.list(k).iter().map(|word| *word as u32).collect::<Vec<u32>>());
-        let (mut work, mut figures, mut present) = lent(&mut rng, &w);
+        let mut lent = Lent::new(&mut rng, &w, columns(w.setting));
         let mut readings = Guarded::holding(&mut rng, w.held(w.pair(5).1));
-        let plan = Plan::new(&starts, &ends);
-        let lists = Lists { work: work.lend(), figures: figures.lend(), present: present.lend() };
-        let result = plan_into(&trace, readings.lend(), lent_map(w.has_map, &map), plan, w.setting, lists);
-        w.check(i, result, &work, &figures, &present);
+        let (plan, map, Setting { figure, min_periods }) = (Plan::new(&starts, &ends), lent_map(w.has_map, &map), w.setting);
+        let result = match figure {
+            Figure::Var(figure) => {
+                plan_var_into(&trace, readings.lend(), map, plan, Setting { figure, min_periods }, lent.var_lists())
+            }
+            Figure::Shape(figure) => plan_into(&trace, readings.lend(), map, plan, Setting { figure, min_periods }, lent.lists()),
+        };
+        w.check(i, result, &lent);
         readings.check("readings", if result.is_ok() { trace.len() / 8 } else { 0 });
         assert_eq!(bits(readings.held()), w.list(5), "record {i}");
         if w.number == 0 {
-            let answers = moments::plan(&decoded(&trace), lent_map(w.has_map, &map), plan, w.setting).expect("accepted");
+            let answers = moments::plan(&decoded(&trace), map, plan, w.setting).expect("accepted");
             assert_eq!(answers.len(), starts.len());
-            w.check_answers(i, &answers);
+            w.check_answers(i, 0, &answers);
+            if let Figure::Var(figure) = figure {
+                let answers = plan_var(&decoded(&trace), map, plan, Setting { figure, min_periods }).expect("accepted");
+                w.check_all(i, &answers, &mut seen);
+            }
         }
     }
+    assert!([0, 2, 3].iter().all(|kind| seen[*kind] > 100), "{seen:?} rows have nothing, the variance, the extremes, all");
 }
 fn decoded(bytes: &[u8]) -> Vec<f64> {
     bytes.chunks_exact(8).map(|b| f64::from_le_bytes(std::array::from_fn(|i| b[i]))).collect()
 }
 impl Windows<'_> {
-    fn check_answers(&self, i: usize, answers: &[Option<f64>]) {
+    /// The answers of a column.
+    fn check_answers(&self, i: usize, column: usize, answers: &[Option<f64>]) {
         for (row, answer) in answers.iter().enumerate() {
-            let wanted = (self.list(6)[row], self.list(7)[row]);
-            assert_eq!(answer.map_or((0, 0), |x| (x.to_bits(), 1)), wanted, "record {i}, row {row}");
+            let wanted = (self.list(6 + 2 * column)[row], self.list(7 + 2 * column)[row]);
+            assert_eq!(answer.map_or((0, 0), |x| (x.to_bits(), 1)), wanted, "record {i}, row {row}, column {column}");
+        }
+    }
+    /// Those of all three, with a count of rows by what they have.
+    fn check_all(&self, i: usize, answers: &[Answer], seen: &mut [usize; 4]) {
+        self.check_answers(i, 0, &answers.iter().map(|answer| answer.variance).collect::<Vec<_>>());
+        self.check_answers(i, 1, &answers.iter().map(|answer| answer.lowest).collect::<Vec<_>>());
+        self.check_answers(i, 2, &answers.iter().map(|answer| answer.highest).collect::<Vec<_>>());
+        for Answer { variance, lowest, highest } in answers {
+            assert_eq!(lowest.is_some(), highest.is_some());
+            seen[usize::from(variance.is_some()) + 2 * usize::from(lowest.is_some())] += 1;
         }
     }
 }
 
 #[test]
 fn fixed_windows() {
-    let mut rng = Rng(2);
+    let (mut rng, mut seen) = (Rng(2), [0; 4]);
     for (i, record) in records("fixed").iter().enumerate() {
         let w = Windows::of(record);
         let (trace, map) = (doubles(w.list(0)), bytes(w.list(1)));
         let (size, center) = w.pair(3);
-        let window = Window { size, center: center == 1 };
-        let (mut work, mut figures, mut present) = lent(&mut rng, &w);
-        let lists = Lists { work: work.lend(), figures: figures.lend(), present: present.lend() };
-        let result = rolling_into(&trace, lent_map(w.has_map, &map), window, w.setting, lists);
-        w.check(i, result, &work, &figures, &present);
+        let (window, Setting { figure, min_periods }) = (Window { size, center: center == 1 }, w.setting);
+        let (mut lent, map) = (Lent::new(&mut rng, &w, columns(w.setting)), lent_map(w.has_map, &map));
+        let result = match figure {
+            Figure::Var(figure) => rolling_var_into(&trace, map, window, Setting { figure, min_periods }, lent.var_lists()),
+            Figure::Shape(figure) => rolling_into(&trace, map, window, Setting { figure, min_periods }, lent.lists()),
+        };
+        w.check(i, result, &lent);
         if w.number == 0 {
-            let answers = rolling(&trace, lent_map(w.has_map, &map), window, w.setting).expect("accepted");
+            let answers = rolling(&trace, map, window, w.setting).expect("accepted");
             assert_eq!(answers.len(), trace.len());
-            w.check_answers(i, &answers);
+            w.check_answers(i, 0, &answers);
+            if let Figure::Var(figure) = figure {
+                let answers = rolling_var(&trace, map, window, Setting { figure, min_periods }).expect("accepted");
+                w.check_all(i, &answers, &mut seen);
+            }
         }
     }
+    assert!([0, 2, 3].iter().all(|kind| seen[*kind] > 100), "{seen:?} rows have nothing, the variance, the extremes, all");
 }
 
 #[test]
@@ -289,14 +347,14 @@ fn weights() {
         let (trace, map, weights) = (doubles(w.list(0)), bytes(w.list(1)), doubles(w.list(2)));
         let (size, center) = w.pair(3);
         let (window, min) = (Window { size, center: center == 1 }, w.setting.min_periods);
-        let (work, mut figures, mut present) = lent(&mut rng, &w);
-        let map = lent_map(w.has_map, &map);
-        let result = rolling_var_weights_into(&trace, map, window, min, &weights, figures.lend(), present.lend());
-        w.check(i, result, &work, &figures, &present);
+        let (mut lent, map) = (Lent::new(&mut rng, &w, 1), lent_map(w.has_map, &map));
+        let Lists { figures, present, .. } = lent.lists();
+        let result = rolling_var_weights_into(&trace, map, window, min, &weights, figures, present);
+        w.check(i, result, &lent);
         if w.number == 0 {
             let answers = rolling_var_weights(&trace, map, window, min, &weights).expect("accepted");
             assert_eq!(answers.len(), trace.len());
-            w.check_answers(i, &answers);
+            w.check_answers(i, 0, &answers);
         }
     }
 }

@@ -72,7 +72,7 @@ fn value_of(name: &str, value: &str) -> Result<(), String> {
     let fine = match name {
         "x" | "y" | "x1" | "x2" | "y1" | "y2" => number(value),
         "width" | "height" => number(value) && !value.starts_with('-'),
-        "d" => value.starts_with('M') && value.split(['M', 'L', 'h', ' ']).filter(|part| !part.is_empty()).all(number),
+        "d" => value.starts_with('M') && value.split(['M', 'L', 'h', 'Z', ' ']).filter(|part| !part.is_empty()).all(number),
         _ => !value.contains(['<', '&', '"']) && !value.contains("NaN") && !value.contains("inf"),
     };
     if fine {
@@ -84,7 +84,7 @@ fn value_of(name: &str, value: &str) -> Result<(), String> {
 
 #[test]
 fn the_check_finds_faults() {
-    assert_eq!(wrong_with("<a x=\"1\"><b d=\"M1 2L3 4h0\"/>t &amp; u</a>\n"), None);
+    assert_eq!(wrong_with("<a x=\"1\"><b d=\"M1 2L3 4h0M5 6L7 8Z\"/>t &amp; u</a>\n"), None);
     let wrong = [
         "",
         "t",

@@ -1,16 +1,17 @@
 //! Random window calls of a second implementation (src/second.rs) against the Rust: plans by the host call, fixed windows and weights
 //! (the other entries: `face`); those of two traces, which the Rust lacks, against the account over its states. Compared: the number, and
-//! what the safe functions of ../host say of the first refused row of a plan; both output lists to the last place, figures by their bits,
-//! a NaN being 7FF8000000000000; the readings that an accepted call decodes; and that nothing else is written: no list on a refusal, and
-//! otherwise no place past the last row, past the needed work, past the readings or beside a list. Each run also makes the calls at
-//! 16,777,216 readings or rows and one more.
+//! what the safe functions of ../host say of the first refused row of a plan; all output lists to the last place, figures by their bits,
+//! a NaN being 7FF8000000000000, and of variance the lowest and the highest by theirs; the readings that an accepted call decodes; and
+//! that nothing else is written: no list on a refusal, and otherwise no place past the last row, past the needed work, past the readings
+//! or beside a list. Each run also makes the calls at 16,777,216 readings or rows and one more.
 //! usage: fuzz [--demo] CALLS SEED [plan] [fixed] [weighted] [pair-plan] [pair-fixed]
 //! (CALLS are made of the kinds that are named, in turn, or of every kind. --demo asks the model of src/model.rs in place
 //! of libmoments.a; it has no weights.)
+use oracle::extremes::{self, Extremes};
 use oracle::host::{Call, Case, Room};
 use oracle::refusal::LIMIT;
 use oracle::rng::Rng;
-use oracle::second::{Answer, Impl, PairsFn, PlanFn, WindowsFn};
+use oracle::second::{Answer, Impl, Outputs, PairsFn, PlanFn, WindowsFn};
 use oracle::*;
 use std::collections::BTreeMap;
 use std::fmt::Debug;
@@ -51,14 +52,31 @@ struct Lists {
     work: Guarded<f64>,
     figures: Guarded<f64>,
     present: Guarded<u8>,
+    lowest: (Guarded<f64>, Guarded<u8>),
+    highest: (Guarded<f64>, Guarded<u8>),
 }
 impl Lists {
     /// For a trace, or for two, of which the second's readings take so many places.
     fn new(r: &mut Rng, room: Room, second: usize) -> Self {
         let mut any = |n| Guarded::new(n, || f64::from_bits(r.u64()));
         let (readings, work, figures) = ([any(room.readings), any(second)], any(room.work), any(room.figures));
-        Lists { readings, work, figures, present: Guarded::new(room.present, || r.u64() as u8) }
+        let [a, b, c, d] = room.extremes;
+        let (lowest, highest) = (any(a), any(c));
+        let mut bytes = |n| Guarded::new(n, || r.u64() as u8);
+        Lists { readings, work, figures, present: bytes(room.present), lowest: (lowest, bytes(b)), highest: (highest, bytes(d)) }
     }
+    /// What a call on one trace is lent: the readings, the work slice and the lists that take answers.
+    fn lent(&mut self) -> (&mut [f64], &mut [f64], Outputs<'_>) {
+        let Lists { readings, work, figures, present, lowest, highest } = self;
+        let (lowest, highest) = ((lowest.0.lent(), lowest.1.lent()), (highest.0.lent(), highest.1.lent()));
+        (readings[0].lent(), work.lent(), Outputs { figures: figures.lent(), present: present.lent(), lowest, highest })
+    }
+}
+/// Of a row what its double and its byte hold, beside what they are to hold.
+fn row_differs(name: &str, i: usize, lists: (&Guarded<f64>, &Guarded<u8>), wanted: Option<f64>) -> Option<String> {
+    let (x, byte) = (lists.0.held()[i].to_bits(), lists.1.held()[i]);
+    let wanted = wanted.map_or((0, 0), |x| (canon(x), 1));
+    ((x, byte) != wanted).then(|| format!("row {i}{name}: {x:016X} {byte}, wanted {:016X} {}", wanted.0, wanted.1))
 }
 /// What the Rust and document 01 say: the number, the plan's row that is refused and what is to be said of it, the decoded
 /// readings of each trace, the rows' answers and the doubles of work needed.
@@ -67,11 +85,13 @@ struct Wanted {
     row: Option<(usize, Vec<usize>)>,
     readings: [Vec<f64>; 2],
     rows: Vec<Option<f64>>,
+    /// As many as there are rows, or none where the call does not give them.
+    extremes: Vec<Extremes>,
     need: usize,
 }
 impl Wanted {
     fn refused(number: u32) -> Self {
-        Wanted { number, row: None, readings: Default::default(), rows: vec![], need: 0 }
+        Wanted { number, row: None, readings: Default::default(), rows: vec![], extremes: vec![], need: 0 }
     }
     /// What the lists of readings hold, each beside what is wanted there: the first trace's, then the second's.
     fn decoded<'a>(&'a self, after: &'a Lists) -> impl Iterator<Item = (f64, f64)> + 'a {
@@ -88,12 +108,17 @@ impl Wanted {
             }
         }
         let readings = |k: usize| before.readings[k].changed(&after.readings[k], self.readings[k].len(), |x| x.to_bits());
+        let given = self.extremes.len();
         for (name, changed) in [
             ("readings", readings(0)),
             ("readings of the second trace", readings(1)),
             ("work", before.work.changed(&after.work, self.need, |x| x.to_bits())),
             ("figures", before.figures.changed(&after.figures, self.rows.len(), |x| x.to_bits())),
             ("present", before.present.changed(&after.present, self.rows.len(), |x| *x)),
+            ("lowest", before.lowest.0.changed(&after.lowest.0, given, |x| x.to_bits())),
+            ("bytes of lowest", before.lowest.1.changed(&after.lowest.1, given, |x| *x)),
+            ("highest", before.highest.0.changed(&after.highest.0, given, |x| x.to_bits())),
+            ("bytes of highest", before.highest.1.changed(&after.highest.1, given, |x| *x)),
         ] {
             if let Some(i) = changed {
                 return Some(format!("wrote {name} at {i}, where it may not"));
@@ -104,14 +129,12 @@ impl Wanted {
                 return Some(format!("reading {i}: {:016X}, wanted {:016X}", got.to_bits(), x.to_bits()));
             }
         }
-        for (i, row) in self.rows.iter().enumerate() {
-            let (figure, present) = (after.figures.held()[i].to_bits(), after.present.held()[i]);
-            let wanted = row.map_or((0, 0), |x| (canon(x), 1));
-            if (figure, present) != wanted {
-                return Some(format!("row {i}: {figure:016X} {present}, wanted {:016X} {}", wanted.0, wanted.1));
-            }
-        }
-        None
+        let figures = self.rows.iter().enumerate().find_map(|(i, row)| row_differs("", i, (&after.figures, &after.present), *row));
+        let extremes = self.extremes.iter().enumerate().find_map(|(i, [low, high])| {
+            let lowest = row_differs(", lowest", i, (&after.lowest.0, &after.lowest.1), *low);
+            lowest.or_else(|| row_differs(", highest", i, (&after.highest.0, &after.highest.1), *high))
+        });
+        figures.or(extremes)
     }
 }
 
@@ -127,6 +150,7 @@ struct Seen {
     nans: u64,
     missing: u64,
     maps: maps::Lengths,
+    extremes: extremes::Tally,
     /// NaN readings decoded, and those of them whose bits are not the trace's.
     nan_readings: (u64, u64),
     /// Refused rows of a plan, and those of them that were told in words.
@@ -196,9 +220,14 @@ fn refused_row(rows: Vec<(usize, usize)>, n: usize, number: u32) -> Option<(usiz
 fn plan_call(seen: &mut Seen, r: &mut Rng, f: PlanFn, call: Call, room: Room) {
     let before = Lists::new(r, room, 0);
     let mut after = before.clone();
-    let answer = f(&call, after.readings[0].lent(), after.work.lent(), after.figures.lent(), after.present.lent());
+    let (readings, work, outputs) = after.lent();
+    let answer = f(&call, readings, work, outputs);
     let wanted = match call.refusal(room) {
-        0 => Wanted { readings: [call.readings(), vec![]], rows: call.answers(), need: call.need(), ..Wanted::refused(0) },
+        0 => {
+            let (rows, extremes) = (call.answers(), call.extremes().unwrap_or_default());
+            seen.extremes.count(&call.readings(), call.map(), &call.rows(), &rows, &extremes);
+            Wanted { readings: [call.readings(), vec![]], rows, extremes, need: call.need(), ..Wanted::refused(0) }
+        }
         number => Wanted { row: refused_row(call.rows(), call.trace.len() / 8, number), ..Wanted::refused(number) },
     };
     seen.maps.count(&[(call.trace.len() / 8, call.map())], wanted.number);
@@ -213,6 +242,16 @@ fn any_plan(seen: &mut Seen, r: &mut Rng, f: PlanFn) {
     let mut case = Case::any(r, most, count);
     if case.has_map {
         case.map = maps::lent(r, case.map, case.trace.len() / 8);
+    }
+    if case.figure.has_extremes() {
+        if r.chance(1, 2) {
+            let (mut x, whole) = (case.call().readings(), case.trace.len() / 8 * 8);
+            extremes::roughen(r, &mut x);
+            case.trace.splice(..whole, x.iter().flat_map(|x| x.to_le_bytes()));
+        }
+        if r.chance(1, 12) {
+            case.room.shorten_extremes(r, case.starts.len());
+        }
     }
     // the bytes of a trace may start at any address
     let shift = r.below(8);
@@ -256,10 +295,16 @@ fn windows_name(c: &windows::Call) -> &'static str {
 fn windows_call(seen: &mut Seen, r: &mut Rng, f: WindowsFn, call: windows::Call, room: Room) {
     let before = Lists::new(r, room, 0);
     let mut after = before.clone();
-    let answer = f(&call, after.work.lent(), after.figures.lent(), after.present.lent());
+    let (_, work, outputs) = after.lent();
+    let answer = f(&call, work, outputs);
     let name = windows_name(&call);
     let wanted = match call.refusal(room) {
-        0 => Wanted { rows: call.answers(), need: call.need(), ..Wanted::refused(0) },
+        0 => {
+            let (n, rows, extremes) = (call.x.len(), call.answers(), call.extremes().unwrap_or_default());
+            let bounds: Vec<(usize, usize)> = (0..n).map(|i| offsets(i, call.size, n, call.centre)).collect();
+            seen.extremes.count(call.x, call.map(), &bounds, &rows, &extremes);
+            Wanted { rows, extremes, need: call.need(), ..Wanted::refused(0) }
+        }
         number => Wanted::refused(number),
     };
     seen.maps.count(&[(call.x.len(), call.map())], wanted.number);
@@ -282,6 +327,14 @@ fn any_windows(seen: &mut Seen, r: &mut Rng, f: WindowsFn, any: fn(&mut Rng, usi
     if case.has_map {
         case.map = maps::lent(r, case.map, case.x.len());
     }
+    if case.call().has_extremes() {
+        if r.chance(1, 2) {
+            extremes::roughen(r, &mut case.x);
+        }
+        if r.chance(1, 12) {
+            case.room.shorten_extremes(r, case.x.len());
+        }
+    }
     windows_call(seen, r, f, case.call(), case.room);
 }
 /// 16,777,216 readings pass, with the largest sizes too (13 where the work is short), and one more is 1, whatever else is
@@ -290,7 +343,7 @@ fn windows_limits(seen: &mut Seen, r: &mut Rng, fixed: Option<WindowsFn>, weight
     use windows::Case;
     let x: Vec<f64> = (0..LIMIT + 1).map(|i| (i % 1000) as f64 - 400.0).collect();
     let (ones, w) = (vec![0xFF; LIMIT / 8 + 64], [1.0, 2.0, 0.5]);
-    let none = Room { readings: 0, work: 0, figures: 0, present: 0 };
+    let none = Room::default();
     let mut make = |f: Option<WindowsFn>, case: Case, room: Room| {
         if let Some(f) = f {
             windows_call(seen, r, f, case.call(), room);
@@ -332,7 +385,7 @@ fn pairs_name(case: &pairs::Case) -> &'static str {
 }
 fn pairs_call(seen: &mut Seen, r: &mut Rng, f: PairsFn, case: &pairs::Case) {
     let [first, second] = [&case.x, &case.y].map(|trace| if case.decodes() { trace.decoded } else { 0 });
-    let room = Room { readings: first, work: case.work, figures: case.figures, present: case.present };
+    let room = Room { readings: first, work: case.work, figures: case.figures, present: case.present, ..Room::default() };
     let before = Lists::new(r, room, second);
     let mut after = before.clone();
     let readings = after.readings.each_mut().map(Guarded::lent);
@@ -459,6 +512,7 @@ fn main() {
     }
     println!("{}", seen.maps);
     println!("rows that are refused: {}, told in words: {}", seen.refused_rows.0, seen.refused_rows.1);
+    println!("{}", seen.extremes);
     println!("rows: {} numbers, {} NaN, {} missing", seen.present, seen.nans, seen.missing);
     println!("NaN readings decoded: {}, with bits other than the trace's: {}", seen.nan_readings.0, seen.nan_readings.1);
     println!("differing {}", seen.differing);

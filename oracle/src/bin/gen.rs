@@ -1,5 +1,6 @@
 //! Prints test vectors; the format is described in FORMAT.md.
 //! usage: gen [seed] [records of each kind] [kind ...]
+use oracle::extremes::Extremes;
 use oracle::record::*;
 use oracle::rng::Rng;
 use oracle::*;
@@ -65,10 +66,31 @@ fn pair_record(r: &mut Rng, mut case: pairs::Case) -> String {
     let setting = pair_setting(*figure);
     format!("{kind} {setting} min={min} {windows}{traces}{rows_given}outv={figures} outp={present} work={work} => {answer}")
 }
+/// A list of answers and a list of bytes.
+fn column(v: impl Iterator<Item = Option<f64>> + Clone) -> (String, String) {
+    let f: Vec<f64> = v.clone().map(|x| x.unwrap_or(0.0)).collect();
+    (listc(&f), v.map(|x| if x.is_some() { '1' } else { '0' }).collect())
+}
 fn rows(v: &[Option<f64>]) -> String {
-    let f: Vec<f64> = v.iter().map(|x| x.unwrap_or(0.0)).collect();
-    let p: String = v.iter().map(|x| if x.is_some() { '1' } else { '0' }).collect();
-    format!("refusal=0 v={} p={p}", listc(&f))
+    let (v, p) = column(v.iter().copied());
+    format!("refusal=0 v={v} p={p}")
+}
+/// What variance gives behind: the lowest and the highest, or nothing where the call is refused.
+fn extremes(v: &[Extremes]) -> String {
+    let ((lowest, lowp), (highest, highp)) = (column(v.iter().map(|row| row[0])), column(v.iter().map(|row| row[1])));
+    format!(" low={lowest} lowp={lowp} high={highest} highp={highp}")
+}
+/// Half of the traces of variance get readings at which a lowest or a highest may go wrong, by a generator of its own too.
+fn rough(r: &Rng, f: Figure, x: &mut [f64]) {
+    let mut own = Rng(r.0 ^ 5);
+    if f.has_extremes() && own.chance(1, 2) {
+        oracle::extremes::roughen(&mut own, x);
+    }
+}
+/// Lengths of the four lists that variance is lent besides, drawn by a generator of its own, so that all else stays as it was drawn before.
+fn extreme_lens(r: &Rng, n: usize) -> [usize; 4] {
+    let mut own = Rng(r.0 ^ 4);
+    [n; 4].map(|n| out_len(&mut own, n))
 }
 
 fn size_n(r: &mut Rng) -> usize {
@@ -84,6 +106,24 @@ fn out_len(r: &mut Rng, n: usize) -> usize {
         0 => n.saturating_sub(1),
         1 => n + r.below(5),
         _ => n,
+    }
+}
+
+/// Lengths of the output lists that a call of this figure is lent, and how they are written.
+fn outs(r: &Rng, f: Figure, n: usize, of: usize, op: usize) -> (Vec<usize>, String) {
+    let mut given = format!("outv={of} outp={op}");
+    if !f.has_extremes() {
+        return (vec![of, op], given);
+    }
+    let [a, b, c, d] = extreme_lens(r, n);
+    write!(given, " outlow={a} outlowp={b} outhigh={c} outhighp={d}").unwrap();
+    (vec![of, op, a, b, c, d], given)
+}
+/// The number, then the answers, none where the call is refused; of variance the lowest and the highest too.
+fn answer(o: &mut String, f: Figure, code: u32, figures: impl FnOnce() -> Vec<Option<f64>>, lows: impl FnOnce() -> Vec<Extremes>) {
+    *o += &if code == 0 { rows(&figures()) } else { format!("refusal={code} v= p=") };
+    if f.has_extremes() {
+        *o += &extremes(&if code == 0 { lows() } else { vec![] });
     }
 }
 
@@ -164,13 +204,14 @@ fn record(r: &mut Rng, kind: &str) -> String {
             let keen = r.chance(1, 2);
             let n = if keen { 8 + r.below(30) } else { size_n(r) };
             let style = [0, 1, 2, 3, 6][r.below(5)];
-            let x = if keen { (0..n).map(|_| r.reading(style)).collect() } else { r.trace(n) };
+            let mut x = if keen { (0..n).map(|_| r.reading(style)).collect() } else { r.trace(n) };
             let m = if keen && r.chance(1, 3) { Some(maps::lent(r, vec![0xFF; n.div_ceil(8)], n)) } else { lent_map(r, n) };
             let m = m.as_deref();
             let count = if keen { 6 + r.below(18) } else { r.below(24) };
             let rw = if keen && r.chance(2, 3) { r.slides(n, count) } else { r.rows(n, count) };
             let f = if keen { keen_figure(r) } else { r.figure() };
             let min = if keen { 1 + r.below(6) } else { r.minimum() };
+            rough(r, f, &mut x);
             let mut starts: Vec<usize> = rw.iter().map(|v| v.0).collect();
             let mut ends: Vec<usize> = rw.iter().map(|v| v.1).collect();
             let mut short = 0;
@@ -191,37 +232,36 @@ fn record(r: &mut Rng, kind: &str) -> String {
             let widest = starts.iter().zip(&ends).map(|(s, e)| e.saturating_sub(*s)).max().unwrap_or(0);
             let work = (f.entry() * widest + if r.chance(1, 6) { r.below(9) } else { 0 }).saturating_sub(short);
             let (of, op) = (out_len(r, starts.len()), out_len(r, starts.len()));
-            let code = refusal::plan(n, m.map(|v| v.len()), &starts, &ends, (of, op), f.entry(), work);
-            write!(o, "plan {} min={min} x={} map={} starts={} ends={} outv={of} outp={op} work={work} => ", setting(f), list(&x), map(m), nums(&starts), nums(&ends)).unwrap();
-            if code == 0 {
-                let rw: Vec<(usize, usize)> = starts.iter().copied().zip(ends.iter().copied()).collect();
-                o += &rows(&plan(&x, m, &rw, f, min));
-            } else {
-                write!(o, "refusal={code} v= p=").unwrap();
-            }
+            let (outs, given) = outs(r, f, starts.len(), of, op);
+            let code = refusal::plan(n, m.map(|v| v.len()), &starts, &ends, &outs, f.entry(), work);
+            write!(o, "plan {} min={min} x={} map={} ", setting(f), list(&x), map(m)).unwrap();
+            write!(o, "starts={} ends={} {given} work={work} => ", nums(&starts), nums(&ends)).unwrap();
+            let rw: Vec<(usize, usize)> = starts.iter().copied().zip(ends.iter().copied()).collect();
+            answer(&mut o, f, code, || plan(&x, m, &rw, f, min), || oracle::extremes::of_rows(&x, m, rw.iter().copied(), min));
         }
         "fixed" => {
             let keen = r.chance(1, 2);
             let n = size_n(r);
             let style = [0, 1, 2, 3, 6][r.below(5)];
-            let x = if keen { (0..n).map(|_| r.reading(style)).collect() } else { r.trace(n) };
+            let mut x = if keen { (0..n).map(|_| r.reading(style)).collect() } else { r.trace(n) };
             let m = if keen && r.chance(1, 3) { Some(maps::lent(r, vec![0xFF; n.div_ceil(8)], n)) } else { lent_map(r, n) };
             let m = m.as_deref();
             let size = match r.below(14) { 0 => usize::MAX - r.below(3), 1 => 1 << 63, 2 => r.below(100), 3 => 0, _ => r.below(14) };
             let centre = r.chance(1, 2);
             let f = if keen { keen_figure(r) } else { r.figure() };
             let min = if keen { 1 + r.below(6) } else { r.minimum() };
+            rough(r, f, &mut x);
             let short = if r.chance(1, 30) { 1 } else { 0 };
             let work = (f.entry() * size.min(n) + if r.chance(1, 6) { r.below(9) } else { 0 }).saturating_sub(short);
             let (of, op) = (out_len(r, n), out_len(r, n));
-            let code = refusal::fixed(n, m.map(|v| v.len()), size, (of, op), f.entry(), work);
-            write!(o, "fixed {} min={min} size={size} centre={} x={} map={} outv={of} outp={op} work={work} => ", setting(f), centre as u8, list(&x), map(m)).unwrap();
-            if code == 0 {
-                // the Rust panics on an empty trace with a trailing window; document 01: no rows
-                o += &rows(&if n == 0 { vec![] } else { fixed(&x, m, size, min, centre, f) });
-            } else {
-                write!(o, "refusal={code} v= p=").unwrap();
-            }
+            let (outs, given) = outs(r, f, n, of, op);
+            let code = refusal::fixed(n, m.map(|v| v.len()), size, &outs, f.entry(), work);
+            write!(o, "fixed {} min={min} size={size} centre={} ", setting(f), centre as u8).unwrap();
+            write!(o, "x={} map={} {given} work={work} => ", list(&x), map(m)).unwrap();
+            let bounds = (0..n).map(|i| offsets(i, size, n, centre));
+            // the Rust panics on an empty trace with a trailing window; document 01: no rows
+            let figures = || if n == 0 { vec![] } else { fixed(&x, m, size, min, centre, f) };
+            answer(&mut o, f, code, figures, || oracle::extremes::of_rows(&x, m, bounds, min));
         }
         "weighted" => {
             let n = size_n(r).min(80);
@@ -235,7 +275,7 @@ fn record(r: &mut Rng, kind: &str) -> String {
             let centre = r.chance(1, 2);
             let min = r.minimum();
             let (of, op) = (out_len(r, n), out_len(r, n));
-            let code = refusal::weighted(n, m.map(|v| v.len()), size, &w, (of, op));
+            let code = refusal::weighted(n, m.map(|v| v.len()), size, &w, &[of, op]);
             write!(o, "weighted min={min} size={size} centre={} w={} x={} map={} outv={of} outp={op} => ", centre as u8, list(&w), list(&x), map(m)).unwrap();
             if code == 0 {
                 o += &rows(&weighted(&x, size, min, centre, &w).unwrap());

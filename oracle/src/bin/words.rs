@@ -1,6 +1,7 @@
 //! Writes the lists that the program `vectors` replays, one file for each kind (FORMAT.md, 'Word lists').
 //! usage: words SEED FOLDER
 use oracle::cases::*;
+use oracle::extremes::Extremes;
 use oracle::host::{Case, Room};
 use oracle::record::*;
 use oracle::rng::Rng;
@@ -79,26 +80,46 @@ struct Lent {
     held: Vec<u64>,
     figures: Vec<u64>,
     present: Vec<u64>,
+    /// The lowest, its bytes, the highest, its bytes, where the call gives them.
+    extremes: Option<[Vec<u64>; 4]>,
 }
 impl Lent {
     /// Every list holds before the call the first words of `held`; of a NaN the program cannot see the bits, so one there is
-    /// the one it reads.
-    fn new(r: &mut Rng, room: Room) -> Lent {
-        let held: Vec<u64> = (0..room.work.max(room.readings).max(room.figures).max(room.present))
-            .map(|_| match r.below(4) {
-                0 => canon(r.bad()),
-                1 => r.reading(2).to_bits(),
-                _ => r.reading(1).to_bits(),
-            })
-            .collect();
-        let figures = held[..room.figures].to_vec();
-        let present = held[..room.present].iter().map(|w| w % 256).collect();
-        Lent { held, figures, present }
+    /// the one it reads. What the lists are longer than they were before document 02's request 4, where the work slice had so many
+    /// doubles, is drawn by a generator of its own, so that the other records stay the same.
+    fn new(r: &mut Rng, room: Room, work: usize, has_extremes: bool) -> Lent {
+        let any = |r: &mut Rng| match r.below(4) {
+            0 => canon(r.bad()),
+            1 => r.reading(2).to_bits(),
+            _ => r.reading(1).to_bits(),
+        };
+        let longest = |work: usize| work.max(room.readings).max(room.figures).max(room.present);
+        let mut held: Vec<u64> = (0..longest(work)).map(|_| any(r)).collect();
+        let mut own = Rng(r.0 ^ 4);
+        let all = room.extremes.into_iter().fold(longest(room.work), usize::max);
+        held.resize_with(all, || any(&mut own));
+        let doubles = |n: usize| held[..n].to_vec();
+        let bytes = |n: usize| held[..n].iter().map(|w| w % 256).collect::<Vec<u64>>();
+        let (figures, present, [a, b, c, d]) = (doubles(room.figures), bytes(room.present), room.extremes);
+        let extremes = has_extremes.then(|| [doubles(a), bytes(b), doubles(c), bytes(d)]);
+        Lent { held, figures, present, extremes }
     }
     fn answered(&mut self, rows: Vec<Option<f64>>) {
         for (i, row) in rows.into_iter().enumerate() {
             (self.figures[i], self.present[i]) = row.map_or((0, 0), |x| (canon(x), 1));
         }
+    }
+    fn answered_extremes(&mut self, rows: Option<Vec<Extremes>>) {
+        let (Some([lowest, lowest_present, highest, highest_present]), Some(rows)) = (&mut self.extremes, rows) else { return };
+        for (i, row) in rows.into_iter().enumerate() {
+            let [low, high] = row.map(|x| x.map_or((0, 0), |x| (x.to_bits(), 1)));
+            ((lowest[i], lowest_present[i]), (highest[i], highest_present[i])) = (low, high);
+        }
+    }
+    /// The lists that take answers, as they stand in a record.
+    fn outputs(self) -> Vec<Pair> {
+        let extremes = self.extremes.into_iter().flatten();
+        [self.figures, self.present].into_iter().chain(extremes).map(list).collect()
     }
 }
 /// Two words of a record on windows: where a list stands and its length, or two numbers that the call is given.
@@ -111,7 +132,7 @@ fn list(words: Vec<u64>) -> Pair {
 }
 /// A record of a call on windows: the figure and the setting, whether a map is lent, the number, the doubles of work that
 /// are free, then the pairs, then the lists.
-fn window_record<const N: usize>(figure: [u64; 4], min: usize, has_map: bool, number: u32, free: usize, pairs: [Pair; N]) -> Vec<u64> {
+fn window_record(figure: [u64; 4], min: usize, has_map: bool, number: u32, free: usize, pairs: Vec<Pair>) -> Vec<u64> {
     let mut words = figure.to_vec();
     words.extend([min as u64, has_map as u64, number as u64, free as u64]);
     // a record's words are counted from its length on: nine before these pairs
@@ -151,7 +172,7 @@ fn wide(v: &[u32]) -> Vec<u64> {
 }
 fn plan_record(r: &mut Rng, case: &Case) -> Vec<u64> {
     let (call, room) = (case.call(), case.room);
-    let mut lent = Lent::new(r, room);
+    let mut lent = Lent::new(r, room, case.drawn_work(), call.figure.has_extremes());
     let mut readings = lent.held[..room.readings].to_vec();
     let number = call.refusal(room);
     let mut free = 0;
@@ -161,47 +182,47 @@ fn plan_record(r: &mut Rng, case: &Case) -> Vec<u64> {
             *to = canon(x);
         }
         lent.answered(call.answers());
+        lent.answered_extremes(call.extremes());
     }
-    let pairs = [
+    let mut pairs = vec![
         packed(call.trace),
         list(bytes(Some(call.map))),
         list(wide(call.starts)),
         list(wide(call.ends)),
-        Pair::List(room.work, lent.held),
+        Pair::List(room.work, std::mem::take(&mut lent.held)),
         list(readings),
-        list(lent.figures),
-        list(lent.present),
     ];
+    pairs.extend(lent.outputs());
     window_record(setting(call.figure), call.min, call.has_map, number, free, pairs)
 }
 /// A record of fixed or weighted.
 fn fixed_record(r: &mut Rng, case: &windows::Case) -> Vec<u64> {
     let (call, room) = (case.call(), case.room);
-    let mut lent = Lent::new(r, room);
+    let mut lent = Lent::new(r, room, case.drawn_work(), call.has_extremes());
     let number = call.refusal(room);
     let mut free = 0;
     if number == 0 {
         free = call.need();
         lent.answered(call.answers());
+        lent.answered_extremes(call.extremes());
     }
-    let pairs = [
+    let mut pairs = vec![
         list(bits(call.x)),
         list(bytes(Some(call.map))),
         list(bits(call.weights.unwrap_or(&[]))),
         Pair::Numbers(call.size, call.centre as usize),
-        Pair::List(room.work, lent.held),
+        Pair::List(room.work, std::mem::take(&mut lent.held)),
         Pair::Numbers(0, 0),
-        list(lent.figures),
-        list(lent.present),
     ];
+    pairs.extend(lent.outputs());
     let figure = if call.weights.is_some() { [3, 0, 0, 0] } else { setting(call.figure) };
     window_record(figure, call.min, call.has_map, number, free, pairs)
 }
 /// A record of paired or paired_fixed: as those of one trace, with the second trace, its map and its readings behind the first's lists.
 fn pair_record(r: &mut Rng, case: &pairs::Case) -> Vec<u64> {
     let [first, second] = [&case.x, &case.y].map(|trace| if case.decodes() { trace.decoded } else { 0 });
-    let room = Room { readings: first.max(second), work: case.work, figures: case.figures, present: case.present };
-    let mut lent = Lent::new(r, room);
+    let room = Room { readings: first.max(second), work: case.work, figures: case.figures, present: case.present, ..Room::default() };
+    let mut lent = Lent::new(r, room, case.work, false);
     let number = case.refusal();
     let decoded = |trace: &pairs::Trace, places: usize| {
         if !case.decodes() {
@@ -225,7 +246,7 @@ fn pair_record(r: &mut Rng, case: &pairs::Case) -> Vec<u64> {
     };
     let trace = |trace: &pairs::Trace| if case.decodes() { packed(trace.bytes()) } else { list(bits(&trace.readings())) };
     let map = |trace: &pairs::Trace| list(bytes(Some(&trace.map)));
-    let pairs = [
+    let pairs = vec![
         trace(&case.x),
         map(&case.x),
         starts,
@@ -482,12 +503,18 @@ fn records(r: &mut Rng, kind: &str) -> Vec<Vec<u64>> {
             for case in other_plan_maps(r) {
                 out.push(plan_record(r, &case));
             }
+            for case in extreme_cases(r) {
+                out.push(plan_record(r, &case));
+            }
         }
         "fixed" => {
             for case in fixed_cases(r) {
                 out.push(fixed_record(r, &case));
             }
             for case in other_fixed_maps(r) {
+                out.push(fixed_record(r, &case));
+            }
+            for case in extreme_fixed_cases(r) {
                 out.push(fixed_record(r, &case));
             }
         }
@@ -535,7 +562,7 @@ fn main() {
             text.push('\n');
         }
         // the program has no more room for a list
-        assert!(text.len() <= 524_288, "{kind} has {} bytes", text.len());
+        assert!(text.len() <= 1_048_576, "{kind} has {} bytes", text.len());
         std::fs::write(Path::new(&folder).join(kind), &text).unwrap();
         println!("{kind}: {} records, {} bytes", list.len(), text.len());
     }
