@@ -52,7 +52,7 @@ where-variance (Variance ddof) byte t p minPeriods l c k h =
     let by = by-weight ddof byte in
     record {
       answer = _;
-      others = [];
+      others = _;
       stands = a .answers k h;
       row = record {
         figure = figure-row Readings variance (λ s. varFinalize s ddof) ddof by t p minPeriods (a .widest) (a .plan) small k h;
@@ -71,7 +71,7 @@ demand-three =
       two = λ q one. alike-same q;
       one = λ q one t l set c k h.
           record {
-            account = known q t l c .answers k h;
+            account = known q t l c .figures k h;
             variance = where-variance (q .statistic) set t (q .plan) (q .minPeriods) l c k h;
           };
     }

@@ -210,7 +210,7 @@ plans : (rust : Rust) (q : Query) (one : OfOneTrace (q .statistic)) (t : GivenTo
     → RowsEqual rust q one t l
 plans rust q one t l c k h =
     let a = known q t l c in
-    a .answers k h ∙ sourced rust (q .statistic) one t (a .given-is) (q .minPeriods) (a .widest) (q .plan) (a .plan) k h
+    a .figures k h ∙ sourced rust (q .statistic) one t (a .given-is) (q .minPeriods) (a .widest) (q .plan) (a .plan) k h
 
 -- a call with fixed windows is the plan call of its bounds
 fixed : (rust : Rust) (center : Bool) (size minPeriods : ℕ) (a : Statistic) (one : OfOneTrace a) (t : Given (kindOf a)) (l₀ l : Lent)

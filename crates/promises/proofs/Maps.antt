@@ -33,7 +33,7 @@ use Rattle.promises.specs.Maps.{LongEnough, SameMaps, padded, SameGiven,
 use Rattle.promises.specs.Maps.{SameColumns, OfTrace, OfPair, MapLaw}
 use Rattle.promises.proofs.SourceArrays.{pairNumber}
 use Rattle.promises.proofs.Accepted.{known, weights-row}
-use Rattle.promises.proofs.TwoCalls.{alike-same}
+use Rattle.promises.proofs.TwoCalls.{alike-answers}
 use Rattle.promises.proofs.DemandOne.{map-wrong}
 use Rattle.promises.proofs.DemandOne.{Hands, number-of, taken, var-hands, skew-hands, kurtosis-hands, cov-hands, pearson-hands}
 
@@ -181,7 +181,7 @@ rows-alike : (q : Query) (t t′ : GivenTo q) → SameGiven (kindOf (q .statisti
     → AcceptedCall q t′ l′ → SameColumns (rows (q .plan)) (l .outputs .answers) (l′ .outputs .answers)
 rows-alike q t t′ s l l′ c c′ k h =
     let kind = kindOf (q .statistic) in
-    alike-same q t t′ l l′ (given-alike kind t t′ s (known q t l c .given-is)) c c′ k h
+    alike-answers q t t′ l l′ (given-alike kind t t′ s (known q t l c .given-is)) c c′ k h
     (given-agree kind t t′ s (rowStart (q .plan) k) (rowEnd (q .plan) k))
 
 -- the number of a host call

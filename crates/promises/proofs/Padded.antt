@@ -7,7 +7,7 @@ use mathlib.Core.List.{List, [], _∷_, zip, zipWith}
 use native.Mathlib.Omega.{arith}
 use lib.ListN.{length}
 use lib.Ieee.{Float, ofBits, ofInt, add, sub, mul, div, eq, lt, le}
-use Rattle.float.specs.Operators.{zero64, one64, two64}
+use Rattle.float.specs.Operators.{zero64, one64, two64, ofNat64}
 use Rattle.float.specs.Tables.{table}
 use Rattle.float.proofs.Cases.{apart}
 use Rattle.trace.specs.Trace.{Trace, traceOf, validAt, bothAt, validFrom}
@@ -24,7 +24,8 @@ use Rattle.window.specs.Window.{splitAfter, figureOf}
 use Rattle.window.specs.Readings.{insertedAt, nonfiniteAt}
 use Rattle.window.specs.Given.{Readings}
 use Rattle.window.specs.Rows.{answerAt}
-use Rattle.window.specs.Outputs.{Column, Lent, column, filled, kept}
+use Rattle.window.specs.Extremes.{extreme, extremeOf}
+use Rattle.window.specs.Outputs.{Column, Lent, column, outputsOf, filled, kept}
 use Rattle.rolling.specs.Moments.{Variance}
 use Rattle.rolling.specs.Calls.{Called}
 use Rattle.rolling.specs.Fixed.{CalledFixed}
@@ -35,7 +36,7 @@ use Rattle.promises.specs.Maps.{SameMaps, padded, SameHost, SameRoom, Sa
 use Rattle.promises.specs.Table.{varianceBy, p9, trace9}
 use Rattle.promises.proofs.Maps.{map-law}
 use Rattle.promises.proofs.Examples.{reals, whole}
-use Rattle.promises.proofs.Witnesses.{fourColumn, lent, fourLent, leaves, trace13, p9Left, p9-accepted}
+use Rattle.promises.proofs.Witnesses.{fourColumn, varLentOf, varLent, varLeftOf, leaves, trace13, p9Left, p9-accepted}
 
 -- ---- "the map-length example for n = 9 reads 'at least 2 bytes'"
 pub nine-by-one : wrongMap 9 true (0 ∷ []) ≡ true
@@ -90,22 +91,22 @@ otherColumn = column (table (λ i. zero64) 4) (table (λ i. 9) 4)
 
 -- what is left of it by P9 with minimum 2
 abbrev behindLeft : Lent
-behindLeft = lent 12 (column (two64 ∷ zero64 ∷ zero64 ∷ zero64 ∷ []) (1 ∷ 9 ∷ 9 ∷ 9 ∷ []))
+behindLeft = varLeftOf otherColumn 18 behind9 p9 2 (two64 ∷ zero64 ∷ zero64 ∷ zero64 ∷ []) (1 ∷ 9 ∷ 9 ∷ 9 ∷ [])
 
-pub behind9-accepted : Called (varianceBy p9 2) behind9 (lent 12 otherColumn) behindLeft 0
+pub behind9-accepted : Called (varianceBy p9 2) behind9 (varLentOf 18 otherColumn) behindLeft 0
 unfolding table refusal _orElse_ wrongMap planRefusal filled kept ofBits ofInt add sub mul div eq lt le varClear varCombine varFinalize
-    entriesFrom splitAfter figureOf insertedAt nonfiniteAt answerAt validAt
+    entriesFrom splitAfter figureOf insertedAt nonfiniteAt answerAt validAt extreme extremeOf
 behind9-accepted = record { number-is = refl; left = leaves refl refl refl refl refl }
 
 -- lists that are as long
-pub room : SameRoom (fourLent 12) (lent 12 otherColumn)
+pub room : SameRoom (varLent 18) (varLentOf 18 otherColumn)
 unfolding table
 room = record { outputs = refl; work = refl }
 
 -- a plan
 pub plans9 : SameRows 1 p9Left behindLeft 0 0
 plans9 =
-    map-law .plans (varianceBy p9 2) trace9 behind9 same9 (fourLent 12) p9Left (lent 12 otherColumn) behindLeft room 0 0 p9-accepted
+    map-law .plans (varianceBy p9 2) trace9 behind9 same9 (varLent 18) p9Left (varLentOf 18 otherColumn) behindLeft room 0 0 p9-accepted
     behind9-accepted
 
 -- a host call: P9's trace as bytes, with either map
@@ -124,41 +125,50 @@ same-bytes9 = (
   record { readings = refl; mapped = refl; long = λ w. omega (arith, w .1); long′ = λ w. omega (arith, w .1); bits = bits9 },
 )
 
-pub bytes9-accepted : CalledBytes (varianceBy p9 2) (bytes9 (5 ∷ [])) (reals (7 ∷ 7 ∷ 7 ∷ [])) (reals (2 ∷ 7 ∷ 4 ∷ [])) (fourLent 12)
+pub bytes9-accepted : CalledBytes (varianceBy p9 2) (bytes9 (5 ∷ [])) (reals (7 ∷ 7 ∷ 7 ∷ [])) (reals (2 ∷ 7 ∷ 4 ∷ [])) (varLent 18)
     p9Left 0
 unfolding table refusal _orElse_ wrongMap planRefusal filled kept ofBits ofInt add sub mul div eq lt le varClear varCombine varFinalize
-    entriesFrom splitAfter figureOf insertedAt nonfiniteAt answerAt validAt
+    entriesFrom splitAfter figureOf insertedAt nonfiniteAt answerAt validAt extreme extremeOf
 bytes9-accepted = record { number-is = refl; readings-are = refl; left = leaves refl refl refl refl refl }
 
 pub behind-bytes9-accepted : CalledBytes (varianceBy p9 2) (bytes9 (253 ∷ 0 ∷ 255 ∷ [])) (reals (8 ∷ 8 ∷ 8 ∷ 8 ∷ []))
-    (reals (2 ∷ 7 ∷ 4 ∷ 8 ∷ [])) (lent 12 otherColumn) behindLeft 0
+    (reals (2 ∷ 7 ∷ 4 ∷ 8 ∷ [])) (varLentOf 18 otherColumn) behindLeft 0
 unfolding table refusal _orElse_ wrongMap planRefusal filled kept ofBits ofInt add sub mul div eq lt le varClear varCombine varFinalize
-    entriesFrom splitAfter figureOf insertedAt nonfiniteAt answerAt validAt
+    entriesFrom splitAfter figureOf insertedAt nonfiniteAt answerAt validAt extreme extremeOf
 behind-bytes9-accepted = record { number-is = refl; readings-are = refl; left = leaves refl refl refl refl refl }
 
 pub hosts9 : SameRows 1 p9Left behindLeft 0 0
 hosts9 =
-    map-law .hosts (varianceBy p9 2) _ _ same-bytes9 _ (reals (2 ∷ 7 ∷ 4 ∷ [])) _ (reals (2 ∷ 7 ∷ 4 ∷ 8 ∷ [])) refl (fourLent 12) p9Left
-    (lent 12 otherColumn) behindLeft room 0 0 bytes9-accepted behind-bytes9-accepted
+    map-law .hosts (varianceBy p9 2) _ _ same-bytes9 _ (reals (2 ∷ 7 ∷ 4 ∷ [])) _ (reals (2 ∷ 7 ∷ 4 ∷ 8 ∷ [])) refl (varLent 18) p9Left
+    (varLentOf 18 otherColumn) behindLeft room 0 0 bytes9-accepted behind-bytes9-accepted
 
 -- trailing windows of 3: the first two rows have one valid place
 abbrev fixedLeft : Float → ℕ → Lent
-fixedLeft x b = lent 12 (column (zero64 ∷ zero64 ∷ two64 ∷ x ∷ []) (0 ∷ 0 ∷ 1 ∷ b ∷ []))
+fixedLeft x b =
+    record {
+      outputs = outputsOf
+          (column (zero64 ∷ zero64 ∷ two64 ∷ x ∷ []) (0 ∷ 0 ∷ 1 ∷ b ∷ [])
+          ∷ column (two64 ∷ two64 ∷ two64 ∷ x ∷ []) (1 ∷ 1 ∷ 1 ∷ b ∷ [])
+          ∷ column (two64 ∷ two64 ∷ ofNat64 4 ∷ x ∷ []) (1 ∷ 1 ∷ 1 ∷ b ∷ [])
+          ∷ [])
+          [];
+      work = table (λ i. zero64) 18;
+    }
 
-pub fixed9-accepted : CalledFixed false 3 1 (Variance 1) trace9 (fourLent 12) (fixedLeft one64 7) 0
+pub fixed9-accepted : CalledFixed false 3 1 (Variance 1) trace9 (varLent 18) (fixedLeft one64 7) 0
 unfolding table refusal _orElse_ wrongMap planRefusal bounds fixedRefusal filled kept ofBits ofInt add sub mul div eq lt le varClear
-    varCombine varFinalize entriesFrom splitAfter figureOf insertedAt nonfiniteAt answerAt validAt
+    varCombine varFinalize entriesFrom splitAfter figureOf insertedAt nonfiniteAt answerAt validAt extreme extremeOf
 fixed9-accepted = record { number-is = refl; plan-call = record { number-is = refl; left = leaves refl refl refl refl refl } }
 
-pub behind-fixed9-accepted : CalledFixed false 3 1 (Variance 1) behind9 (lent 12 otherColumn) (fixedLeft zero64 9) 0
+pub behind-fixed9-accepted : CalledFixed false 3 1 (Variance 1) behind9 (varLentOf 18 otherColumn) (fixedLeft zero64 9) 0
 unfolding table refusal _orElse_ wrongMap planRefusal bounds fixedRefusal filled kept ofBits ofInt add sub mul div eq lt le varClear
-    varCombine varFinalize entriesFrom splitAfter figureOf insertedAt nonfiniteAt answerAt validAt
+    varCombine varFinalize entriesFrom splitAfter figureOf insertedAt nonfiniteAt answerAt validAt extreme extremeOf
 behind-fixed9-accepted = record { number-is = refl; plan-call = record { number-is = refl; left = leaves refl refl refl refl refl } }
 
 pub fixed9 : SameRows 3 (fixedLeft one64 7) (fixedLeft zero64 9) 0 0
 unfolding table bounds
 fixed9 =
-    map-law .fixed false 3 1 (Variance 1) trace9 behind9 same9 (fourLent 12) (fixedLeft one64 7) (lent 12 otherColumn) (fixedLeft zero64 9)
+    map-law .fixed false 3 1 (Variance 1) trace9 behind9 same9 (varLent 18) (fixedLeft one64 7) (varLentOf 18 otherColumn) (fixedLeft zero64 9)
     room 0 0 fixed9-accepted behind-fixed9-accepted
 
 -- weights: a longer map is 8, as an exact one is, and no longer 3

@@ -41,7 +41,7 @@ use Rattle.promises.specs.Table.{varianceBy, p7, trace7, p9, trace9}
 use Rattle.promises.proofs.DemandOne.{demand-one}
 use Rattle.promises.proofs.DemandTwo.{demand-two}
 use Rattle.promises.proofs.Examples.{reals, whole}
-use Rattle.promises.proofs.Witnesses.{fourColumn, fourLent, leaves, trace13, p9Left, p9-accepted}
+use Rattle.promises.proofs.Witnesses.{fourColumn, varLent, leaves, trace13, p9Left, p9-accepted}
 
 -- ---- traces
 -- two readings, and a map of no bytes
@@ -137,7 +137,7 @@ figure-missing = record { present = refl; double = refl }
 abbrev crooked : Plan
 crooked = planOf (1 ∷ 0 ∷ 4 ∷ []) (3 ∷ 3 ∷ 2 ∷ [])
 
-pub plan-refused : Called (varianceBy crooked 1) trace7 (fourLent 8) (fourLent 8) 7
+pub plan-refused : Called (varianceBy crooked 1) trace7 (varLent 12) (varLent 12) 7
 unfolding table refusal _orElse_ wrongMap planRefusal filled kept
 plan-refused = record { number-is = refl; left = leaves refl refl refl refl refl }
 
@@ -145,12 +145,12 @@ plan-refused = record { number-is = refl; left = leaves refl refl refl refl refl
 abbrev nineBytes : Host Readings
 nineBytes = record { bytes = table (λ i. 0) 9; mapped = false; map = [] }
 
-pub host-refused : CalledBytes (varianceBy p7 1) nineBytes (table (λ i. one64) 4) (table (λ i. one64) 4) (fourLent 8) (fourLent 8) 14
+pub host-refused : CalledBytes (varianceBy p7 1) nineBytes (table (λ i. one64) 4) (table (λ i. one64) 4) (varLent 12) (varLent 12) 14
 unfolding table refusal _orElse_ wrongMap planRefusal filled kept
 host-refused = record { number-is = refl; readings-are = refl; left = leaves refl refl refl refl refl }
 
 -- window 2 over 1, 3 with a work slice of 7 doubles: 13
-pub fixed-refused : CalledFixed false 2 1 (Variance 1) trace13 (fourLent 7) (fourLent 7) 13
+pub fixed-refused : CalledFixed false 2 1 (Variance 1) trace13 (varLent 11) (varLent 11) 13
 unfolding table refusal _orElse_ wrongMap planRefusal bounds fixedRefusal filled kept
 fixed-refused =
     record { number-is = refl; plan-call = record { number-is = refl; left = leaves refl refl refl refl refl } }
@@ -175,7 +175,7 @@ pub eleven-first : FirstApplies (rangeChecks trace13 1 2) 11
 eleven-first = inr (λ h. omega arith, inr (λ h. apart (h .0), inl (refl, omega arith)))
 
 -- 7 of the crooked plan: nothing of row 0 applies, and of row 1 only 7
-pub seven-first : FirstApplies (planChecks (varianceBy crooked 1) trace7 (fourLent 8)) 7
+pub seven-first : FirstApplies (planChecks (varianceBy crooked 1) trace7 (varLent 12)) 7
 unfolding rowsChecks
 seven-first =
     inr (
@@ -202,7 +202,7 @@ seven-first =
 abbrev backwards : Plan
 backwards = planOf (1 ∷ 2 ∷ []) (3 ∷ 1 ∷ [])
 
-pub five-first : FirstApplies (planChecks (varianceBy backwards 1) trace7 (fourLent 8)) 5
+pub five-first : FirstApplies (planChecks (varianceBy backwards 1) trace7 (varLent 12)) 5
 unfolding rowsChecks
 five-first =
     inr (
@@ -217,11 +217,11 @@ five-first =
     )
 
 -- 14 of nine bytes, 13 of the work slice, 9 of the weights
-pub fourteen-first : FirstApplies (hostChecks (varianceBy p7 1) nineBytes (table (λ i. one64) 4) (fourLent 8)) 14
+pub fourteen-first : FirstApplies (hostChecks (varianceBy p7 1) nineBytes (table (λ i. one64) 4) (varLent 12)) 14
 unfolding table
 fourteen-first = inl (refl, λ h. omega arith)
 
-pub thirteen-first : FirstApplies (fixedChecks 2 (Variance 1) trace13 (fourLent 7)) 13
+pub thirteen-first : FirstApplies (fixedChecks 2 (Variance 1) trace13 (varLent 11)) 13
 unfolding table
 thirteen-first =
     inr (
@@ -237,7 +237,7 @@ unfolding ofBits add eq
 nine-first = inr (λ h. omega arith, inr (λ h. apart (h .0), inr (λ h. apart h, inl (refl, refl))))
 
 -- `NoneApplies`: P9 with minimum 2
-pub none-apply : NoneApplies (planChecks (varianceBy p9 2) trace9 (fourLent 12))
+pub none-apply : NoneApplies (planChecks (varianceBy p9 2) trace9 (varLent 18))
 unfolding rowsChecks table widest
 none-apply = (
   λ h. omega arith,
@@ -260,13 +260,13 @@ none-apply = (
 )
 
 -- demand 1 said of a call that is accepted, and of one that is refused
-pub p9-answered : Answered (planChecks (varianceBy p9 2) trace9 (fourLent 12)) 0 (fourLent 12) p9Left
-    (Left (varianceBy p9 2) trace9 (fourLent 12) p9Left 0)
-p9-answered = demand-one .plans (varianceBy p9 2) trace9 (fourLent 12) p9Left 0 p9-accepted
+pub p9-answered : Answered (planChecks (varianceBy p9 2) trace9 (varLent 18)) 0 (varLent 18) p9Left
+    (Left (varianceBy p9 2) trace9 (varLent 18) p9Left 0)
+p9-answered = demand-one .plans (varianceBy p9 2) trace9 (varLent 18) p9Left 0 p9-accepted
 
-pub crooked-answered : Answered (planChecks (varianceBy crooked 1) trace7 (fourLent 8)) 7 (fourLent 8) (fourLent 8)
-    (Left (varianceBy crooked 1) trace7 (fourLent 8) (fourLent 8) 0)
-crooked-answered = demand-one .plans (varianceBy crooked 1) trace7 (fourLent 8) (fourLent 8) 7 plan-refused
+pub crooked-answered : Answered (planChecks (varianceBy crooked 1) trace7 (varLent 12)) 7 (varLent 12) (varLent 12)
+    (Left (varianceBy crooked 1) trace7 (varLent 12) (varLent 12) 0)
+crooked-answered = demand-one .plans (varianceBy crooked 1) trace7 (varLent 12) (varLent 12) 7 plan-refused
 
 -- ---- the checks of each kind, by their numbers
 abbrev numbersOf : List Check → List ℕ
@@ -286,16 +286,16 @@ range-numbers = refl
 abbrev twoRows : Plan
 twoRows = planOf (0 ∷ 0 ∷ []) (0 ∷ 0 ∷ [])
 
-pub plan-numbers : numbersOf (planChecks (varianceBy twoRows 1) trace7 (fourLent 8)) ≡ 1 ∷ 3 ∷ 4 ∷ 5 ∷ 6 ∷ 7 ∷ 5 ∷ 6 ∷ 7 ∷ 12 ∷ 13 ∷ []
+pub plan-numbers : numbersOf (planChecks (varianceBy twoRows 1) trace7 (varLent 12)) ≡ 1 ∷ 3 ∷ 4 ∷ 5 ∷ 6 ∷ 7 ∷ 5 ∷ 6 ∷ 7 ∷ 12 ∷ 13 ∷ []
 unfolding rowsChecks
 plan-numbers = refl
 
 -- of a host call with an empty plan
-pub host-numbers : numbersOf (hostChecks (varianceBy (planOf [] []) 1) nineBytes [] (fourLent 8)) ≡ 14 ∷ 1 ∷ 3 ∷ 4 ∷ 12 ∷ 13 ∷ []
+pub host-numbers : numbersOf (hostChecks (varianceBy (planOf [] []) 1) nineBytes [] (varLent 12)) ≡ 14 ∷ 1 ∷ 3 ∷ 4 ∷ 12 ∷ 13 ∷ []
 unfolding rowsChecks
 host-numbers = refl
 
-pub fixed-numbers : numbersOf (fixedChecks 2 (Variance 1) trace7 (fourLent 8)) ≡ 1 ∷ 3 ∷ 12 ∷ 13 ∷ []
+pub fixed-numbers : numbersOf (fixedChecks 2 (Variance 1) trace7 (varLent 12)) ≡ 1 ∷ 3 ∷ 12 ∷ 13 ∷ []
 fixed-numbers = refl
 
 pub weights-numbers : numbersOf (weightsChecks 2 opposed trace7 fourColumn) ≡ 1 ∷ 3 ∷ 8 ∷ 9 ∷ 10 ∷ 12 ∷ []
@@ -303,7 +303,7 @@ weights-numbers = refl
 
 -- ---- what the demand shuts out
 -- 5 of the crooked plan: it applies to row 2, and 7 to row 1 before
-pub five-not-first : FirstApplies (planChecks (varianceBy crooked 1) trace7 (fourLent 8)) 5 → ⊥
+pub five-not-first : FirstApplies (planChecks (varianceBy crooked 1) trace7 (varLent 12)) 5 → ⊥
 unfolding rowsChecks
 five-not-first (inl (e, a)) = omega arith
 five-not-first (inr (_, inl (e, a))) = omega arith
@@ -321,7 +321,7 @@ abbrev Applies : List Check → ℕ → Type 0
 Applies [] number = ⊥
 Applies (c ∷ checks) number = ((number ≡ c .number) × (c .Applies)) ⊎ Applies checks number
 
-pub five-applies : Applies (planChecks (varianceBy crooked 1) trace7 (fourLent 8)) 5
+pub five-applies : Applies (planChecks (varianceBy crooked 1) trace7 (varLent 12)) 5
 unfolding rowsChecks
 five-applies = inr (inr (inr (inr (inr (inr (inr (inr (inr (inl (refl, omega arith))))))))))
 

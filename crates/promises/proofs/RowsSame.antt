@@ -3,10 +3,11 @@
 use Prim.Native.Nat.{ℕ, zero, suc, _+_, _-_, _≤_, _<_}
 use mathlib.Core.Path.{_≡_, refl, sym, ap, _∙_, subst}
 use mathlib.Core.Bool.{Bool, true, false, cond, not, _&&_}
-use mathlib.Core.List.{List, [], _∷_}
+use mathlib.Core.List.{List, [], _∷_, _++_}
 use native.Mathlib.Omega.{arith}
 use lib.Dec.{leb}
 use lib.ListN.{length}
+use lib.Ieee.{Float}
 use lib.Ieee.Scale.{finite}
 use Rattle.float.proofs.Cases.{Or, here, there, order}
 use Rattle.trace.specs.Trace.{validAt}
@@ -16,15 +17,17 @@ use Rattle.plan.specs.Plan.{Plan, rows, rowStart, rowEnd}
 use Rattle.plan.specs.Code.Accepted.{Planned}
 use Rattle.window.specs.Places.{Series, validCount, nonfiniteCount}
 use Rattle.window.specs.Window.{Account, Moment, figureOf}
-use Rattle.window.specs.Readings.{insertedAt, nonfiniteAt}
+use Rattle.window.specs.Readings.{readingOf, insertedAt, nonfiniteAt}
 use Rattle.window.specs.Pairs.{pairOf, finitePair, insertedPair, nonfinitePair}
 use Rattle.window.specs.Given.{Kind, Readings, Pairs, Entry, Given, seriesOf, SameAt}
 use Rattle.window.specs.Rows.{moves, accountAt, counted, answerOf, answerAt}
+use Rattle.window.specs.Extremes.{finiteAt, finiteReadings, lower, higher, extreme, shortRow, extremeOf, extremeAt}
 use Rattle.window.specs.Outputs.{ofFigure, answersAt}
 use Rattle.window.proofs.Places.{count-all}
 use Rattle.window.proofs.Pairs.{unmapped-both}
 use Rattle.window.proofs.Outputs.{_then_}
-use Rattle.rolling.specs.Calls.{figuresBy}
+use Rattle.rolling.specs.Moments.{Statistic, Variance, Skewness, Kurtosis, Covariance, Correlation, kindOf}
+use Rattle.rolling.specs.Calls.{figuresBy, extremesBy}
 use Rattle.promises.proofs.Accounts.{entries-same, account-same, figure-same, lies, meets, row-account}
 
 -- ---- laws of what is given, by its kind
@@ -145,3 +148,39 @@ figures-same kind M [] t t′ minPeriods n widest p plan places k h m g = refl
 figures-same kind M (final ∷ finals) t t′ minPeriods n widest p plan places k h m g =
     ap ofFigure (yields-same kind M final t t′ minPeriods n widest p plan places k h m g)
     then figures-same kind M finals t t′ minPeriods n widest p plan places k h m g
+
+-- the lowest and highest reading, which the places of the row's window tell alone
+pub extremes-same : (a : Statistic) (t t′ : Given (kindOf a)) (minPeriods : ℕ) (p : Plan) (k : ℕ)
+    → seriesOf (kindOf a) t .places .mapped ≡ seriesOf (kindOf a) t′ .places .mapped
+    → ((i : ℕ) → rowStart p k ≤ i → i < rowEnd p k
+    → seriesOf (kindOf a) t .places .valid i ≡ seriesOf (kindOf a) t′ .places .valid i)
+    → ((i : ℕ) → rowStart p k ≤ i → i < rowEnd p k → seriesOf (kindOf a) t .places .valid i ≡ true → SameAt (kindOf a) t t′ i)
+    → answersAt (extremesBy a t minPeriods p) k ≡ answersAt (extremesBy a t′ minPeriods p) k
+extremes-same (Variance ddof) t t′ minPeriods p k m v g =
+    ap ofFigure (same lower) then ap ofFigure (same higher) then refl
+  where
+    guards : (a b c d : Bool) → a ≡ b → (a ≡ true → c ≡ d) → (a && c) ≡ (b && d)
+    guards true b c d e f = rw (← e) (f refl)
+    guards false b c d e f = rw (← e)
+
+    holds : (a b : Bool) → (a && b) ≡ true → a ≡ true
+    holds true b e = refl
+    holds false b e = e
+
+    readings : finiteReadings t (rowStart p k) (rowEnd p k) ≡ finiteReadings t′ (rowStart p k) (rowEnd p k)
+    readings =
+        entries-same (finiteAt t) (finiteAt t′) (readingOf (t .readings)) (readingOf (t′ .readings)) (rowStart p k) (rowEnd p k)
+        (λ i x l. guards _ _ _ _ (v i x l) (λ e. ap finite (g i x l e))) (λ i x l e. g i x l (holds _ _ e))
+
+    same : (beyond : Float → Float → Bool) → extremeAt beyond t minPeriods p k ≡ extremeAt beyond t′ minPeriods p k
+    unfolding extremeOf
+    same beyond = λ j. cond (shortRow (m j) minPeriods (rowStart p k) (rowEnd p k)) Missing (extreme beyond (readings j))
+extremes-same (Skewness bias) t t′ minPeriods p k m v g = refl
+extremes-same (Kurtosis fisher bias) t t′ minPeriods p k m v g = refl
+extremes-same (Covariance ddof) t t′ minPeriods p k m v g = refl
+extremes-same Correlation t t′ minPeriods p k m v g = refl
+
+-- figures, then what stands behind them
+pub answers-both : (fs gs : List (ℕ → Figure)) (k : ℕ) → answersAt (fs ++ gs) k ≡ answersAt fs k ++ answersAt gs k
+answers-both [] gs k = refl
+answers-both (f ∷ fs) gs k = refl then answers-both fs gs k

@@ -2,20 +2,22 @@
 -- the statement for pairs of traces and the law of maps cite. It is proved in a stronger form: where the same rows move both windows, which
 -- is so where both go by the rule for a map or neither does. Assumes nothing.
 use Prim.Native.Nat.{ℕ, zero, suc, _-_, _≤_, _<_}
-use mathlib.Core.Path.{_≡_, refl, sym, _∙_}
+use mathlib.Core.Path.{_≡_, refl, sym, ap, _∙_}
 use mathlib.Core.Bool.{Bool, true, false, _||_}
+use mathlib.Core.List.{_++_}
 use native.Mathlib.Omega.{arith}
 use lib.Dec.{eqb}
+use lib.ListN.{length, take}
 use borrow.Author.Tests.{le-leb}
 use Rattle.plan.specs.Plan.{rows, rowStart, rowEnd}
 use Rattle.window.specs.Given.{seriesOf, placesOf}
 use Rattle.window.specs.Rows.{moves}
 use Rattle.window.specs.Outputs.{Lent, answersIn, countsIn}
-use Rattle.rolling.specs.Moments.{kindOf, momentOf, finalsOf}
-use Rattle.rolling.specs.Calls.{Query, GivenTo}
-use Rattle.promises.specs.Calls.{AcceptedCall}
+use Rattle.rolling.specs.Moments.{Statistic, kindOf, momentOf, finalsOf}
+use Rattle.rolling.specs.Calls.{Query, GivenTo, figuresOf, extremesBy}
+use Rattle.promises.specs.Calls.{figuresIn, AcceptedCall}
 use Rattle.promises.specs.DemandThree.{Alike, Agree, SameAnswers}
-use Rattle.promises.proofs.RowsSame.{figures-same}
+use Rattle.promises.proofs.RowsSame.{figures-same, extremes-same, answers-both}
 use Rattle.promises.proofs.Accepted.{known}
 
 -- ---- where the same rows move the window
@@ -63,31 +65,50 @@ none-shorter q t t′ k f (suc j) h =
     ∙ sym (long-moves (seriesOf (kindOf (q .statistic)) t′ .places .mapped) (q .minPeriods) (suc j) (rowStart (q .plan) (suc j))
     (rowEnd (q .plan) (suc j)) l)
 
--- row k's answers and counts in the lists that two calls leave
-pub record SameRow (k : ℕ) (l l′ : Lent) : Type 0 where
-  pub answers : answersIn (l .outputs .answers) k ≡ answersIn (l′ .outputs .answers) k
+-- row k's figures and counts in the lists that two calls leave
+pub record SameRow (a : Statistic) (k : ℕ) (l l′ : Lent) : Type 0 where
+  pub figures : figuresIn a l k ≡ figuresIn a l′ k
   pub counts : countsIn (l .outputs .counts) k ≡ countsIn (l′ .outputs .counts) k
 
--- of what two calls are given the same rows move the window: the same answers where it agrees in the row's window, and the same counts
+-- of what two calls are given the same rows move the window: the same figures where it agrees in the row's window, and the same counts
 pub same-moves-same-row : (q : Query) (t t′ : GivenTo q) (l l′ : Lent) → AcceptedCall q t l → AcceptedCall q t′ l′
     → ((i : ℕ) → i < placesOf (kindOf (q .statistic)) t → seriesOf (kindOf (q .statistic)) t .places .valid i
     ≡ seriesOf (kindOf (q .statistic)) t′ .places .valid i)
     → (k : ℕ) → k < rows (q .plan) → SameMoves q t t′ k → Agree (kindOf (q .statistic)) t t′ (rowStart (q .plan) k) (rowEnd (q .plan) k)
-    → SameRow k l l′
+    → SameRow (q .statistic) k l l′
 same-moves-same-row q t t′ l l′ c c′ places k h m g =
     let a = known q t l c in
     let a′ = known q t′ l′ c′ in
     let kind = kindOf (q .statistic) in
     record {
-      answers = a .answers k h
+      figures = a .figures k h
           ∙ figures-same kind (momentOf (q .statistic)) (finalsOf (q .statistic)) t t′ (q .minPeriods) (placesOf kind t) (a .widest)
           (q .plan) (a .plan) places k h m g
-          ∙ sym (a′ .answers k h);
+          ∙ sym (a′ .figures k h);
       counts = a .counts k h ∙ sym (a′ .counts k h);
     }
 
--- both by the rule for a map or both not
+-- both by the rule for a map or both not: every answer, of the figures and of what stands behind them
+pub alike-answers : (q : Query) (t t′ : GivenTo q) (l l′ : Lent) → Alike (kindOf (q .statistic)) t t′ → AcceptedCall q t l
+    → AcceptedCall q t′ l′ → (k : ℕ) → k < rows (q .plan)
+    → Agree (kindOf (q .statistic)) t t′ (rowStart (q .plan) k) (rowEnd (q .plan) k)
+    → answersIn (l .outputs .answers) k ≡ answersIn (l′ .outputs .answers) k
+alike-answers q t t′ l l′ alike c c′ k h g =
+    let a = known q t l c in
+    let a′ = known q t′ l′ c′ in
+    let kind = kindOf (q .statistic) in
+    let f = figures-same kind (momentOf (q .statistic)) (finalsOf (q .statistic)) t t′ (q .minPeriods) (placesOf kind t) (a .widest)
+    (q .plan) (a .plan) (alike .places) k h (both-or-neither q t t′ k (alike .mapped)) g in
+    let e = extremes-same (q .statistic) t t′ (q .minPeriods) (q .plan) k (alike .mapped)
+    (λ i x l. let w = a .plan .row k h in alike .places i (omega arith)) g in
+    a .answers k h
+    ∙ answers-both (figuresOf q t) (extremesBy (q .statistic) t (q .minPeriods) (q .plan)) k
+    ∙ (λ j. f j ++ e j)
+    ∙ sym (answers-both (figuresOf q t′) (extremesBy (q .statistic) t′ (q .minPeriods) (q .plan)) k)
+    ∙ sym (a′ .answers k h)
+
+-- so the figures
 pub alike-same : (q : Query) (t t′ : GivenTo q) (l l′ : Lent) → Alike (kindOf (q .statistic)) t t′ → AcceptedCall q t l
     → AcceptedCall q t′ l′ → SameAnswers q t t′ l l′
 alike-same q t t′ l l′ alike c c′ k h g =
-    same-moves-same-row q t t′ l l′ c c′ (alike .places) k h (both-or-neither q t t′ k (alike .mapped)) g .answers
+    ap (take (length (finalsOf (q .statistic)))) (alike-answers q t t′ l l′ alike c c′ k h g)

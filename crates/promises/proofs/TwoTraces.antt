@@ -110,7 +110,7 @@ pair-statement =
       two = λ q pairs. alike-same q;
       one = λ q pairs t l set c k h.
           record {
-            account = known q t l c .answers k h;
+            account = known q t l c .figures k h;
             figure = where-pairs (q .statistic) set t (q .plan) (q .minPeriods) l c k h;
           };
     }

@@ -27,14 +27,15 @@ use Rattle.window.specs.Window.{splitAfter, figureOf}
 use Rattle.window.specs.Readings.{insertedAt, nonfiniteAt, readingOf}
 use Rattle.window.specs.Given.{Readings, SameAt}
 use Rattle.window.specs.Rows.{answerAt}
-use Rattle.window.specs.Outputs.{Column, Lent, column, outputsOf, filled, kept, answered, numbered, Answer, answersIn, answersAt}
+use Rattle.window.specs.Extremes.{lower, higher, extreme, extremeOf, extremeAt}
+use Rattle.window.specs.Outputs.{Column, Lent, column, outputsOf, filled, kept, columnAfter, answered, numbered, Answer, answersIn, answersAt}
 use Rattle.rolling.specs.Moments.{Variance, Skewness, Kurtosis, workWidth}
 use Rattle.rolling.specs.Calls.{Query, query, GivenTo, yields, tallies, Left, Called}
 use Rattle.rolling.specs.Fixed.{fixedQuery, CalledFixed}
 use Rattle.weighted.specs.Weights.{weightedAt, weightsRefusal, CalledWeights}
 use Rattle.moments.specs.HostCall.{CalledBytes}
 use Rattle.promises.specs.Rust.{Rust, someRust}
-use Rattle.promises.specs.Calls.{AcceptedCall, planCall, hostCall, fixedCall}
+use Rattle.promises.specs.Calls.{figuresIn, AcceptedCall, planCall, hostCall, fixedCall}
 use Rattle.promises.specs.DemandTwo.{RowsEqual, FixedRowsEqual, WeightedRowsEqual, CorrectRoot}
 use Rattle.promises.specs.DemandThree.{Alike, Agree, TooFew, SomeNotFinite, VarianceRow, VarianceIn, Yielded}
 use Rattle.promises.specs.Table.{varianceBy, p7, trace7, p8, trace8, p9, trace9}
@@ -58,6 +59,29 @@ fourLent work = lent work fourColumn
 abbrev pub fourLeft : ℕ → List Float → List ℕ → Lent
 fourLeft work figures present = lent work (column figures present)
 
+-- the lists of a variance, its lowest and its highest reading, each as c
+abbrev pub varLentOf : ℕ → Column → Lent
+varLentOf work c = record { outputs = outputsOf (c ∷ c ∷ c ∷ []) []; work = table (λ i. zero64) work }
+
+abbrev pub varLent : ℕ → Lent
+varLent work = varLentOf work fourColumn
+
+-- What is left of such lists: the variances as they are written here, and the lowest and highest readings by their definition. They are
+-- computed in proofs/ExtremeWitnesses
+abbrev pub varLeftOf : Column → ℕ → Trace → Plan → ℕ → List Float → List ℕ → Lent
+varLeftOf c work t p minPeriods figures present =
+    record {
+      outputs = outputsOf
+          (column figures present ∷ columnAfter 0 (extremeAt lower t minPeriods p) (rows p) c
+          ∷ columnAfter 0 (extremeAt higher t minPeriods p) (rows p) c
+          ∷ [])
+          [];
+      work = table (λ i. zero64) work;
+    }
+
+abbrev pub varLeft : ℕ → Trace → Plan → ℕ → List Float → List ℕ → Lent
+varLeft = varLeftOf fourColumn
+
 -- what a call leaves, by equations that compute
 pub leaves : {q : Query} {t : GivenTo q} {l₀ l : Lent} {number : ℕ} → length (l₀ .outputs .answers) ≡ length (yields q t)
     → length (l₀ .outputs .counts) ≡ length (tallies q t) → l .outputs .answers
@@ -74,11 +98,11 @@ leaves a b c d k =
 -- ---- `Called` and `AcceptedCall`: calls that are accepted
 -- P7, which keeps what stands in the place past the last row
 abbrev p7Left : Lent
-p7Left = fourLeft 8 (two64 ∷ two64 ∷ zero64 ∷ one64 ∷ []) (1 ∷ 1 ∷ 0 ∷ 7 ∷ [])
+p7Left = varLeft 12 trace7 p7 1 (two64 ∷ two64 ∷ zero64 ∷ one64 ∷ []) (1 ∷ 1 ∷ 0 ∷ 7 ∷ [])
 
-pub p7-accepted : Called (varianceBy p7 1) trace7 (fourLent 8) p7Left 0
+pub p7-accepted : Called (varianceBy p7 1) trace7 (varLent 12) p7Left 0
 unfolding table refusal _orElse_ wrongMap planRefusal filled kept ofBits ofInt add sub mul div eq lt le varClear varCombine varFinalize
-    entriesFrom splitAfter figureOf insertedAt nonfiniteAt answerAt validAt
+    entriesFrom splitAfter figureOf insertedAt nonfiniteAt answerAt validAt extreme extremeOf
 p7-accepted = record { number-is = refl; left = leaves refl refl refl refl refl }
 
 -- P8's readings as bytes: NaN, 4, 6
@@ -87,32 +111,32 @@ bytes8 =
     0 ∷ 0 ∷ 0 ∷ 0 ∷ 0 ∷ 0 ∷ 0xF8 ∷ 0x7F ∷ 0 ∷ 0 ∷ 0 ∷ 0 ∷ 0 ∷ 0 ∷ 0x10 ∷ 0x40 ∷ 0 ∷ 0 ∷ 0 ∷ 0 ∷ 0 ∷ 0 ∷ 0x18 ∷ 0x40 ∷ []
 
 abbrev p8Left : Lent
-p8Left = fourLeft 8 (nan ∷ two64 ∷ one64 ∷ one64 ∷ []) (1 ∷ 1 ∷ 7 ∷ 7 ∷ [])
+p8Left = varLeft 12 trace8 p8 1 (nan ∷ two64 ∷ one64 ∷ one64 ∷ []) (1 ∷ 1 ∷ 7 ∷ 7 ∷ [])
 
 -- P8 as a host call, its three readings decoded before what stands behind them
 pub p8-accepted : CalledBytes (varianceBy p8 1) (record { bytes = bytes8; mapped = false; map = [] }) (table (λ i. one64) 4)
-    (nan ∷ ofNat64 4 ∷ ofNat64 6 ∷ one64 ∷ []) (fourLent 8) p8Left 0
+    (nan ∷ ofNat64 4 ∷ ofNat64 6 ∷ one64 ∷ []) (varLent 12) p8Left 0
 unfolding table refusal _orElse_ wrongMap planRefusal filled kept ofBits ofInt add sub mul div eq lt le varClear varCombine varFinalize
-    entriesFrom splitAfter figureOf insertedAt nonfiniteAt answerAt validAt
+    entriesFrom splitAfter figureOf insertedAt nonfiniteAt answerAt validAt extreme extremeOf
 p8-accepted = record { number-is = refl; readings-are = refl; left = leaves refl refl refl refl refl }
 
 -- P9 with minimum 2
 abbrev pub p9Left : Lent
-p9Left = fourLeft 12 (two64 ∷ one64 ∷ one64 ∷ one64 ∷ []) (1 ∷ 7 ∷ 7 ∷ 7 ∷ [])
+p9Left = varLeft 18 trace9 p9 2 (two64 ∷ one64 ∷ one64 ∷ one64 ∷ []) (1 ∷ 7 ∷ 7 ∷ 7 ∷ [])
 
-pub p9-accepted : Called (varianceBy p9 2) trace9 (fourLent 12) p9Left 0
+pub p9-accepted : Called (varianceBy p9 2) trace9 (varLent 18) p9Left 0
 unfolding table refusal _orElse_ wrongMap planRefusal filled kept ofBits ofInt add sub mul div eq lt le varClear varCombine varFinalize
-    entriesFrom splitAfter figureOf insertedAt nonfiniteAt answerAt validAt
+    entriesFrom splitAfter figureOf insertedAt nonfiniteAt answerAt validAt extreme extremeOf
 p9-accepted = record { number-is = refl; left = leaves refl refl refl refl refl }
 
 -- "Trailing window 2, minimum 1, trace 1,3", with ddof 1: row 0 has one place, and so no figure
 abbrev pub trace13 : Trace
 trace13 = traceOf (ofNat64 1 ∷ ofNat64 3 ∷ []) false []
 
-pub trailing-accepted : CalledFixed false 2 1 (Variance 1) trace13 (fourLent 8)
-    (fourLeft 8 (zero64 ∷ two64 ∷ one64 ∷ one64 ∷ []) (0 ∷ 1 ∷ 7 ∷ 7 ∷ [])) 0
+pub trailing-accepted : CalledFixed false 2 1 (Variance 1) trace13 (varLent 12)
+    (varLeft 12 trace13 (planOf (0 ∷ 0 ∷ []) (1 ∷ 2 ∷ [])) 1 (zero64 ∷ two64 ∷ one64 ∷ one64 ∷ []) (0 ∷ 1 ∷ 7 ∷ 7 ∷ [])) 0
 unfolding table refusal _orElse_ wrongMap planRefusal bounds fixedRefusal filled kept ofBits ofInt add sub mul div eq lt le varClear
-    varCombine varFinalize entriesFrom splitAfter figureOf insertedAt nonfiniteAt answerAt validAt
+    varCombine varFinalize entriesFrom splitAfter figureOf insertedAt nonfiniteAt answerAt validAt extreme extremeOf
 trailing-accepted =
     record { number-is = refl; plan-call = record { number-is = refl; left = leaves refl refl refl refl refl } }
 
@@ -121,11 +145,11 @@ abbrev trace249 : Trace
 trace249 = traceOf (ofNat64 2 ∷ ofNat64 4 ∷ ofNat64 9 ∷ []) false []
 
 abbrev left249 : Lent
-left249 = fourLeft 12 (zero64 ∷ two64 ∷ ofNat64 13 ∷ one64 ∷ []) (0 ∷ 1 ∷ 1 ∷ 7 ∷ [])
+left249 = varLeft 18 trace249 (planOf (0 ∷ 0 ∷ 0 ∷ []) (1 ∷ 2 ∷ 3 ∷ [])) 1 (zero64 ∷ two64 ∷ ofNat64 13 ∷ one64 ∷ []) (0 ∷ 1 ∷ 1 ∷ 7 ∷ [])
 
-pub trailing3-accepted : CalledFixed false 3 1 (Variance 1) trace249 (fourLent 12) left249 0
+pub trailing3-accepted : CalledFixed false 3 1 (Variance 1) trace249 (varLent 18) left249 0
 unfolding table refusal _orElse_ wrongMap planRefusal bounds fixedRefusal filled kept ofBits ofInt add sub mul div eq lt le varClear
-    varCombine varFinalize entriesFrom splitAfter figureOf insertedAt nonfiniteAt answerAt validAt
+    varCombine varFinalize entriesFrom splitAfter figureOf insertedAt nonfiniteAt answerAt validAt extreme extremeOf
 trailing3-accepted =
     record { number-is = refl; plan-call = record { number-is = refl; left = leaves refl refl refl refl refl } }
 
@@ -144,12 +168,12 @@ kurtosisLeft = fourLeft 30 (ofBits binary64 0x400A000000000000 ∷ one64 ∷ one
 
 pub skewness-accepted : Called (query p5 1 (Skewness true)) trace5 (fourLent 25) skewLeft 0
 unfolding table refusal _orElse_ wrongMap planRefusal filled kept ofBits ofInt add sub mul div eq lt le root skewClear skewCombine
-    skewBiased skewFinalize entriesFrom splitAfter figureOf insertedAt nonfiniteAt answerAt validAt
+    skewBiased skewFinalize entriesFrom splitAfter figureOf insertedAt nonfiniteAt answerAt validAt extreme extremeOf
 skewness-accepted = record { number-is = refl; left = leaves refl refl refl refl refl }
 
 pub kurtosis-accepted : Called (query p5 1 (Kurtosis false true)) trace5 (fourLent 30) kurtosisLeft 0
 unfolding table refusal _orElse_ wrongMap planRefusal filled kept ofBits ofInt add sub mul div eq lt le kurtosisClear kurtosisCombine
-    kurtosisBiased kurtosisFinalize entriesFrom splitAfter figureOf insertedAt nonfiniteAt answerAt validAt
+    kurtosisBiased kurtosisFinalize entriesFrom splitAfter figureOf insertedAt nonfiniteAt answerAt validAt extreme extremeOf
 kurtosis-accepted = record { number-is = refl; left = leaves refl refl refl refl refl }
 
 -- an `AcceptedCall` by each entry and for each figure
@@ -249,15 +273,15 @@ firstByte [] = 7
 firstByte (a ∷ l) = a .byte
 
 -- 9, 4, 6, 8: without a map, and other than P7's trace at place 0 only
-abbrev other7 : Trace
+abbrev pub other7 : Trace
 other7 = traceOf (ofNat64 9 ∷ ofNat64 4 ∷ ofNat64 6 ∷ ofNat64 8 ∷ []) false []
 
 abbrev other7Left : Lent
-other7Left = fourLeft 8 (ofBits binary64 0x4029000000000000 ∷ two64 ∷ zero64 ∷ one64 ∷ []) (1 ∷ 1 ∷ 0 ∷ 7 ∷ [])
+other7Left = varLeft 12 other7 p7 1 (ofBits binary64 0x4029000000000000 ∷ two64 ∷ zero64 ∷ one64 ∷ []) (1 ∷ 1 ∷ 0 ∷ 7 ∷ [])
 
-other7-accepted : Called (varianceBy p7 1) other7 (fourLent 8) other7Left 0
+other7-accepted : Called (varianceBy p7 1) other7 (varLent 12) other7Left 0
 unfolding table refusal _orElse_ wrongMap planRefusal filled kept ofBits ofInt add sub mul div eq lt le varClear varCombine varFinalize
-    entriesFrom splitAfter figureOf insertedAt nonfiniteAt answerAt validAt
+    entriesFrom splitAfter figureOf insertedAt nonfiniteAt answerAt validAt extreme extremeOf
 other7-accepted = record { number-is = refl; left = leaves refl refl refl refl refl }
 
 -- `Alike`: two traces without a map that are not the same
@@ -279,7 +303,7 @@ disagree7 all =
     omega arith
 
 -- so demand 3 says that row 1's answers are the same ..
-pub same7 : answersIn (p7Left .outputs .answers) 1 ≡ answersIn (other7Left .outputs .answers) 1
+pub same7 : figuresIn (Variance 1) p7Left 1 ≡ figuresIn (Variance 1) other7Left 1
 same7 =
     demand-three .two (varianceBy p7 1) tt trace7 other7 p7Left other7Left alike7 plan-call (planCall other7-accepted) 1 (omega arith)
     agree7
@@ -303,19 +327,19 @@ abbrev otherMapped : Trace
 otherMapped = traceOf (ofNat64 9 ∷ ofNat64 5 ∷ ofNat64 4 ∷ ofNat64 8 ∷ []) true (253 ∷ 0 ∷ 255 ∷ [])
 
 abbrev mappedLeft : Lent
-mappedLeft = fourLeft 12 (two64 ∷ ofNat64 8 ∷ one64 ∷ one64 ∷ []) (1 ∷ 1 ∷ 7 ∷ 7 ∷ [])
+mappedLeft = varLeft 18 mapped mapPlan 1 (two64 ∷ ofNat64 8 ∷ one64 ∷ one64 ∷ []) (1 ∷ 1 ∷ 7 ∷ 7 ∷ [])
 
 abbrev otherMappedLeft : Lent
-otherMappedLeft = fourLeft 12 (ofBits binary64 0x4029000000000000 ∷ ofNat64 8 ∷ one64 ∷ one64 ∷ []) (1 ∷ 1 ∷ 7 ∷ 7 ∷ [])
+otherMappedLeft = varLeft 18 otherMapped mapPlan 1 (ofBits binary64 0x4029000000000000 ∷ ofNat64 8 ∷ one64 ∷ one64 ∷ []) (1 ∷ 1 ∷ 7 ∷ 7 ∷ [])
 
-mapped-accepted : Called (varianceBy mapPlan 1) mapped (fourLent 12) mappedLeft 0
+mapped-accepted : Called (varianceBy mapPlan 1) mapped (varLent 18) mappedLeft 0
 unfolding table refusal _orElse_ wrongMap planRefusal filled kept ofBits ofInt add sub mul div eq lt le varClear varCombine varFinalize
-    entriesFrom splitAfter figureOf insertedAt nonfiniteAt answerAt validAt
+    entriesFrom splitAfter figureOf insertedAt nonfiniteAt answerAt validAt extreme extremeOf
 mapped-accepted = record { number-is = refl; left = leaves refl refl refl refl refl }
 
-other-mapped-accepted : Called (varianceBy mapPlan 1) otherMapped (fourLent 12) otherMappedLeft 0
+other-mapped-accepted : Called (varianceBy mapPlan 1) otherMapped (varLent 18) otherMappedLeft 0
 unfolding table refusal _orElse_ wrongMap planRefusal filled kept ofBits ofInt add sub mul div eq lt le varClear varCombine varFinalize
-    entriesFrom splitAfter figureOf insertedAt nonfiniteAt answerAt validAt
+    entriesFrom splitAfter figureOf insertedAt nonfiniteAt answerAt validAt extreme extremeOf
 other-mapped-accepted = record { number-is = refl; left = leaves refl refl refl refl refl }
 
 places-alike : (i : ℕ) → i < 4 → validAt true (13 ∷ []) i ≡ validAt true (253 ∷ 0 ∷ 255 ∷ []) i
@@ -395,11 +419,11 @@ abbrev fullMap : Trace
 fullMap = traceOf (ofNat64 2 ∷ ofNat64 7 ∷ ofNat64 4 ∷ ofNat64 8 ∷ []) true (15 ∷ [])
 
 abbrev fullLeft : Lent
-fullLeft = fourLeft 12 (ofBits binary64 0x4019555555555555 ∷ ofBits binary64 0x4011555555555557 ∷ one64 ∷ one64 ∷ []) (1 ∷ 1 ∷ 7 ∷ 7 ∷ [])
+fullLeft = varLeft 18 fullMap mapPlan 1 (ofBits binary64 0x4019555555555555 ∷ ofBits binary64 0x4011555555555557 ∷ one64 ∷ one64 ∷ []) (1 ∷ 1 ∷ 7 ∷ 7 ∷ [])
 
-full-accepted : Called (varianceBy mapPlan 1) fullMap (fourLent 12) fullLeft 0
+full-accepted : Called (varianceBy mapPlan 1) fullMap (varLent 18) fullLeft 0
 unfolding table refusal _orElse_ wrongMap planRefusal filled kept ofBits ofInt add sub mul div eq lt le varClear varCombine varFinalize
-    entriesFrom splitAfter figureOf insertedAt nonfiniteAt answerAt validAt
+    entriesFrom splitAfter figureOf insertedAt nonfiniteAt answerAt validAt extreme extremeOf
 full-accepted = record { number-is = refl; left = leaves refl refl refl refl refl }
 
 -- traces of equal length, both with a map, that agree in the row's window and miss other places
@@ -428,19 +452,19 @@ noMap = traceOf (ofNat64 2 ∷ ofNat64 0 ∷ ofNat64 1 ∷ ofNat64 3 ∷ []) fal
 
 -- the two calls' lists, which differ in one bit of row 2's double
 abbrev onesLeft : Lent
-onesLeft = fourLeft 12 (zero64 ∷ zero64 ∷ ofBits binary64 0x4002AAAAAAAAAAAB ∷ one64 ∷ []) (0 ∷ 0 ∷ 1 ∷ 7 ∷ [])
+onesLeft = varLeft 18 ones (shortRow .plan) 3 (zero64 ∷ zero64 ∷ ofBits binary64 0x4002AAAAAAAAAAAB ∷ one64 ∷ []) (0 ∷ 0 ∷ 1 ∷ 7 ∷ [])
 
 abbrev noMapLeft : Lent
-noMapLeft = fourLeft 12 (zero64 ∷ zero64 ∷ ofBits binary64 0x4002AAAAAAAAAAAA ∷ one64 ∷ []) (0 ∷ 0 ∷ 1 ∷ 7 ∷ [])
+noMapLeft = varLeft 18 noMap (shortRow .plan) 3 (zero64 ∷ zero64 ∷ ofBits binary64 0x4002AAAAAAAAAAAA ∷ one64 ∷ []) (0 ∷ 0 ∷ 1 ∷ 7 ∷ [])
 
-ones-accepted : Called shortRow ones (fourLent 12) onesLeft 0
+ones-accepted : Called shortRow ones (varLent 18) onesLeft 0
 unfolding table refusal _orElse_ wrongMap planRefusal filled kept ofBits ofInt add sub mul div eq lt le varClear varCombine varFinalize
-    entriesFrom splitAfter figureOf insertedAt nonfiniteAt answerAt validAt
+    entriesFrom splitAfter figureOf insertedAt nonfiniteAt answerAt validAt extreme extremeOf
 ones-accepted = record { number-is = refl; left = leaves refl refl refl refl refl }
 
-no-map-accepted : Called shortRow noMap (fourLent 12) noMapLeft 0
+no-map-accepted : Called shortRow noMap (varLent 18) noMapLeft 0
 unfolding table refusal _orElse_ wrongMap planRefusal filled kept ofBits ofInt add sub mul div eq lt le varClear varCombine varFinalize
-    entriesFrom splitAfter figureOf insertedAt nonfiniteAt answerAt validAt
+    entriesFrom splitAfter figureOf insertedAt nonfiniteAt answerAt validAt extreme extremeOf
 no-map-accepted = record { number-is = refl; left = leaves refl refl refl refl refl }
 
 -- they miss the same places, namely none
@@ -483,9 +507,9 @@ not-alike-maps a = apart (a .mapped)
 abbrev ones7 : Trace
 ones7 = traceOf (trace7 .readings) true (15 ∷ [])
 
-ones7-accepted : Called (varianceBy p7 1) ones7 (fourLent 8) p7Left 0
+ones7-accepted : Called (varianceBy p7 1) ones7 (varLent 12) p7Left 0
 unfolding table refusal _orElse_ wrongMap planRefusal filled kept ofBits ofInt add sub mul div eq lt le varClear varCombine varFinalize
-    entriesFrom splitAfter figureOf insertedAt nonfiniteAt answerAt validAt
+    entriesFrom splitAfter figureOf insertedAt nonfiniteAt answerAt validAt extreme extremeOf
 ones7-accepted = record { number-is = refl; left = leaves refl refl refl refl refl }
 
 -- no row of P7 is shorter than the minimum
@@ -510,7 +534,7 @@ pub moves-by-maps : SameMoves (varianceBy mapPlan 1) mapped otherMapped 2
 moves-by-maps = both-or-neither (varianceBy mapPlan 1) mapped otherMapped 2 refl
 
 -- where they move the same windows, a map of ones gives what no map gives
-pub ones-same : SameRow 1 p7Left p7Left
+pub ones-same : SameRow (Variance 1) 1 p7Left p7Left
 ones-same =
     same-moves-same-row (varianceBy p7 1) ones7 trace7 p7Left p7Left (planCall ones7-accepted) (planCall p7-accepted) ones-places 1
     (omega arith) (λ j h. moves-by-length j (omega arith)) (λ i s e v. refl)
@@ -664,5 +688,5 @@ pub trailing-not-centred :
 unfolding table bounds ofBits ofInt add sub mul div eq lt le varClear varCombine varFinalize entriesFrom splitAfter figureOf insertedAt
     nonfiniteAt answerAt validAt
 trailing-not-centred all =
-    let byte : _≡_ {A = ℕ} 0 1 = ap firstByte (all trace249 (fourLent 12) left249 trailing3-accepted 0 (omega arith)) in
+    let byte : _≡_ {A = ℕ} 0 1 = ap firstByte (all trace249 (varLent 18) left249 trailing3-accepted 0 (omega arith)) in
     omega arith

@@ -4,6 +4,7 @@ use Prim.Native.Nat.{ℕ}
 use mathlib.Core.Bool.{Bool}
 use mathlib.Core.List.{List, [], _∷_}
 use lib.Ieee.{Float}
+use lib.ListN.{length, take}
 use Rattle.trace.specs.Trace.{Trace, validReadings, validPairs}
 use Rattle.moment.specs.declared.var_state.VarState.{VarState}
 use Rattle.moment.specs.declared.cov_state.CovState.{CovState}
@@ -15,8 +16,8 @@ use Rattle.moment.specs.Arrays.{pearsonMembers}
 use Rattle.moment.specs.Arrays.{skewAnswer, skewRange, skewNumber, skewMembers, kurtosisAnswer, kurtosisRange, kurtosisNumber}
 use Rattle.moment.specs.Arrays.{kurtosisMembers, rangeReadings}
 use Rattle.window.specs.Given.{Given}
-use Rattle.window.specs.Outputs.{Lent}
-use Rattle.rolling.specs.Moments.{Statistic, Variance, Skewness, Kurtosis, Covariance, Correlation, kindOf}
+use Rattle.window.specs.Outputs.{Lent, Answer, answersIn}
+use Rattle.rolling.specs.Moments.{Statistic, Variance, Skewness, Kurtosis, Covariance, Correlation, kindOf, finalsOf}
 use Rattle.rolling.specs.Calls.{Query, GivenTo, Called}
 use Rattle.rolling.specs.Fixed.{fixedQuery, CalledFixed}
 use Rattle.moments.specs.HostCall.{Host, decodedOf, ReadingLists, CalledBytes}
@@ -99,6 +100,10 @@ OfTwoTraces (Skewness bias) = ⊥
 OfTwoTraces (Kurtosis fisher bias) = ⊥
 OfTwoTraces (Covariance ddof) = Unit {0}
 OfTwoTraces Correlation = Unit {0}
+
+-- row k's answers of the figures, which stand first in the lists; behind a variance stand its lowest and highest reading
+abbrev pub figuresIn : Statistic → Lent → ℕ → List Answer
+figuresIn a l k = take (length (finalsOf a)) (answersIn (l .outputs .answers) k)
 
 -- An accepted call without weights, its number 0, on what is given with a plan and a setting q, that leaves the lists l: a plan call, a
 -- host call or a call with fixed windows, whatever the lists held before. Answers that are equal here and no NaN have the same bits.

@@ -20,8 +20,8 @@ use Rattle.window.specs.Readings.{readingOf}
 use Rattle.window.specs.Given.{Kind, Readings, Pairs, Given, seriesOf, placesOf, SameAt}
 use Rattle.window.specs.Outputs.{Lent, Answer, answersIn, answersAt}
 use Rattle.rolling.specs.Moments.{Statistic, Variance, Skewness, Kurtosis, Covariance, Correlation, kindOf}
-use Rattle.rolling.specs.Calls.{Query, GivenTo, yields}
-use Rattle.promises.specs.Calls.{OfOneTrace, AcceptedCall}
+use Rattle.rolling.specs.Calls.{Query, GivenTo, figuresOf}
+use Rattle.promises.specs.Calls.{OfOneTrace, figuresIn, AcceptedCall}
 
 -- "Two traces of equal length that miss the same places, both by a map or both without one": of the places of the traces, so that maps of
 -- different length are among those that it speaks of
@@ -39,7 +39,7 @@ Agree kind t t′ s e = (i : ℕ) → s ≤ i → i < e → seriesOf kind t .pla
 abbrev pub SameAnswers : (q : Query) (t t′ : GivenTo q) → Lent → Lent → Type 0
 SameAnswers q t t′ l l′ =
     (k : ℕ) → k < rows (q .plan) → Agree (kindOf (q .statistic)) t t′ (rowStart (q .plan) k) (rowEnd (q .plan) k)
-    → answersIn (l .outputs .answers) k ≡ answersIn (l′ .outputs .answers) k
+    → figuresIn (q .statistic) l k ≡ figuresIn (q .statistic) l′ k
 
 -- "the row's valid count is at most ddof or below the minimum"
 abbrev pub TooFew : (kind : Kind) → Given kind → ℕ → ℕ → ℕ → ℕ → Type 0
@@ -95,7 +95,7 @@ WhereVariance Correlation t p minPeriods k l = Unit {0}
 
 -- "each row's answer is the one that document 01's split account yields"
 abbrev pub ByAccount : (q : Query) → GivenTo q → Lent → ℕ → Type 0
-ByAccount q t l k = answersIn (l .outputs .answers) k ≡ answersAt (yields q t) k
+ByAccount q t l k = figuresIn (q .statistic) l k ≡ answersAt (figuresOf q t) k
 
 -- row k of a call that leaves l
 pub record Yielded (q : Query) (t : GivenTo q) (l : Lent) (k : ℕ) : Type 0 where

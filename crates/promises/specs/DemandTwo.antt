@@ -1,8 +1,8 @@
 -- Demand 2: "For traces of up to 16,777,216 readings, any missing places and any accepted plan, every state and figure equals the Rust's
 -- with the stand-ins that document 01 lists, save the empty trace on which the Rust panics and we give no rows, and the square root is
 -- IEEE 754's correctly rounded one." The Rust is transcribed in the files Source*; what it defines for some arguments only is any `Rust`.
--- Document 02, request 2: "Demand 2 leaves out what the Rust lacks", which is rolling covariance and rolling correlation: of windows it
--- speaks of the figures of one trace. Assumes nothing.
+-- Document 02, request 2: "Demand 2 leaves out what the Rust lacks, here and below", which is rolling covariance and rolling correlation,
+-- and a window's lowest and highest reading: of windows it speaks of the figures of one trace. Assumes nothing.
 use Prim.Native.Nat.{ℕ, zero, suc, _^_, _<_}
 use mathlib.Core.Path.{_≡_}
 use mathlib.Core.Bool.{Bool, true, false}
@@ -45,7 +45,7 @@ use Rattle.promises.specs.SourceRows.{planRow, rowOf}
 use Rattle.promises.specs.SourceFixed.{fixedRow}
 use Rattle.promises.specs.SourceWeights.{rollingVarWeights}
 use Rattle.promises.specs.Calls.{CallsVar, CallsSkew, CallsKurtosis, CallsCov, CallsPearson, CallsSkewRange, CallsKurtosisRange}
-use Rattle.promises.specs.Calls.{varList, skewList, kurtosisList, covList, pearsonList, OfOneTrace, AcceptedCall}
+use Rattle.promises.specs.Calls.{varList, skewList, kurtosisList, covList, pearsonList, OfOneTrace, figuresIn, AcceptedCall}
 
 -- ---- states
 -- "every state .. equals the Rust's": each method that a host can call, of any set of floats
@@ -149,13 +149,13 @@ sourceFixedRows rust Correlation one t minPeriods center size = absurd one
 abbrev pub RowsEqual : Rust → (q : Query) → OfOneTrace (q .statistic) → GivenTo q → Lent → Type 0
 RowsEqual rust q one t l =
     (k : ℕ) → k < rows (q .plan)
-    → answersIn (l .outputs .answers) k ≡ answersAt (sourceRows rust (q .statistic) one t (q .minPeriods) (q .plan)) k
+    → figuresIn (q .statistic) l k ≡ answersAt (sourceRows rust (q .statistic) one t (q .minPeriods) (q .plan)) k
 
 -- the same with fixed windows: the rows are the trace's places, so that the empty trace has none
 abbrev pub FixedRowsEqual : Rust → Bool → ℕ → ℕ → (a : Statistic) → OfOneTrace a → Given (kindOf a) → Lent → Type 0
 FixedRowsEqual rust center windowSize minPeriods a one t l =
     (k : ℕ) → k < placesOf (kindOf a) t
-    → answersIn (l .outputs .answers) k ≡ answersAt (sourceFixedRows rust a one t minPeriods center windowSize) k
+    → figuresIn a l k ≡ answersAt (sourceFixedRows rust a one t minPeriods center windowSize) k
 
 -- the same with weights
 abbrev pub WeightedRowsEqual : Rust → Bool → ℕ → ℕ → List Float → Trace → Column → Type 0
