@@ -32,7 +32,7 @@ use Rattle.window.specs.Outputs.{Column, Outputs, Lent, answerLengths, countLen
 use Rattle.window.specs.Outputs.{kept}
 use Rattle.window.proofs.Outputs.{unfilled, column-is, answered-refused, numbered-refused}
 use Rattle.rolling.specs.Moments.{Statistic, Variance, Skewness, Kurtosis, Covariance, Correlation, kindOf, momentOf, finalsOf, workWidth}
-use Rattle.rolling.specs.Calls.{Query, GivenTo, figuresBy, yields, tallies, Left, Called}
+use Rattle.rolling.specs.Calls.{Query, query, GivenTo, yields, tallies, Left, Called}
 use Rattle.rolling.specs.Fixed.{fixedQuery, CalledFixed}
 use Rattle.weighted.specs.Weights.{weightedAt, weightsRefusal, CalledWeights}
 use Rattle.moments.specs.HostCall.{ByteTrace, readingCount, Host, decodedOf, oddBytes, ReadingLists, shortLists, decodedList}
@@ -239,7 +239,7 @@ module _ (n : ℕ) where
           lt-ltb _ _ (shorter-back (length (c .doubles)) (length (c .bytes) ∷ answerLengths cs ++ countLengths (l .counts)) n e)
 
 some-figure : (a : Statistic) (t : Given (kindOf a)) (minPeriods : ℕ) (p : Plan)
-    → 0 < length (figuresBy (momentOf a) (finalsOf a) (seriesOf (kindOf a) t) minPeriods p)
+    → 0 < length (yields (query p minPeriods a) t)
 some-figure (Variance ddof) t minPeriods p = omega arith
 some-figure (Skewness bias) t minPeriods p = omega arith
 some-figure (Kurtosis fisher bias) t minPeriods p = omega arith

@@ -5,7 +5,6 @@ use mathlib.Core.Bool.{Bool, true, false, cond}
 use mathlib.Core.List.{List, [], _∷_}
 use native.Mathlib.Omega.{arith}
 use lib.IntN.{negsuc}
-use lib.ListN.{drop}
 use lib.Ieee.{Float, nan, inf, binary64, ofBits, ofInt, add, sub, mul, div, eq, lt, le, fits}
 use Rattle.float.specs.Operators.{zero64, one64, two64, ofNat64}
 use Rattle.float.specs.Tables.{table}
@@ -22,7 +21,7 @@ use Rattle.window.specs.Extremes.{lower, unsignedZero, extreme, extremeOf}
 use Rattle.window.specs.Outputs.{Column, Lent, column, outputsOf, filled, kept, answersIn}
 use Rattle.rolling.specs.Moments.{Variance}
 use Rattle.rolling.specs.Calls.{Query, query, Called}
-use Rattle.promises.specs.Calls.{planCall}
+use Rattle.promises.specs.Calls.{extremesIn, planCall}
 use Rattle.promises.specs.LowestHighest.{FiniteIn, Short, ExtremesIn}
 use Rattle.promises.specs.Table.{varianceBy, p7, trace7, p9, trace9}
 use Rattle.promises.proofs.LowestHighest.{lowest-highest}
@@ -90,7 +89,7 @@ bad-extremes = record { number-is = refl; left = leaves refl refl refl refl refl
 -- ---- the hypotheses of the statement
 -- `one`, of a row that is not the first
 pub row-of-two : ExtremesIn badTrace badRows 1 2 badExtremes
-row-of-two = lowest-highest .one badRows 1 0 badTrace badExtremes (planCall bad-extremes) 2 (omega arith)
+row-of-two = lowest-highest .one (query badRows 1 (Variance 0)) badTrace badExtremes (planCall bad-extremes) 2 (omega arith)
 
 -- `FiniteIn`: reading 3 of the bad trace, -0.0, in row 2's window
 pub third : FiniteIn badTrace 2 4 3
@@ -112,10 +111,10 @@ unfolding table refusal _orElse_ wrongMap planRefusal filled kept ofBits ofInt a
     entriesFrom splitAfter figureOf insertedAt nonfiniteAt answerAt validAt extreme extremeOf
 other-extremes = record { number-is = refl; left = leaves refl refl refl refl refl }
 
-pub same-second : drop 1 (answersIn (p7Extremes .outputs .answers) 1) ≡ drop 1 (answersIn (otherExtremes .outputs .answers) 1)
+pub same-second : extremesIn (Variance 1) p7Extremes 1 ≡ extremesIn (Variance 1) otherExtremes 1
 same-second =
-    lowest-highest .two p7 1 1 trace7 other7 p7Extremes otherExtremes alike7 (planCall p7-extremes) (planCall other-extremes) 1 (omega arith)
-    agree7
+    lowest-highest .two (varianceBy p7 1) trace7 other7 p7Extremes otherExtremes alike7 (planCall p7-extremes) (planCall other-extremes) 1
+    (omega arith) agree7
 
 -- `unsigned`: -0.0 and -2, which are doubles
 pub unsigned-zero : unsignedZero (ofBits binary64 0x8000000000000000) ≡ zero64

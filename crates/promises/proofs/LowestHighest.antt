@@ -8,21 +8,23 @@ use mathlib.Core.Logic.{inl, inr, ⊎-elim}
 use native.Mathlib.Omega.{arith}
 use borrow.Author.Tests.{ltb-true, ltb-false, lt-ltb}
 use lib.Dec.{ltb}
-use lib.ListN.{drop}
+use lib.ListN.{length, drop}
 use lib.Ieee.{Float, inf}
 use lib.Ieee.Scale.{finite}
 use Rattle.float.proofs.Cases.{apart}
 use Rattle.float.proofs.Ordering.{Orders, lower-orders, higher-orders, plain-double}
 use Rattle.trace.specs.Trace.{Trace, validAt}
 use Rattle.moment.specs.declared.Figure.the-variants.{Missing}
-use Rattle.plan.specs.Plan.{rowStart, rowEnd}
+use Rattle.plan.specs.Plan.{Plan, rows, rowStart, rowEnd}
 use Rattle.window.specs.Readings.{readingOf}
 use Rattle.window.specs.Extremes.{finiteAt, finiteReadings, lower, higher, further, unsignedZero, extreme, shortRow, extremeOf, extremeAt}
-use Rattle.window.specs.Outputs.{ofFigure}
+use Rattle.window.specs.Given.{Given}
+use Rattle.window.specs.Outputs.{Lent, ofFigure}
 use Rattle.window.proofs.Extremes.{Extreme, entry-place, place-entry, fold-extreme}
-use Rattle.rolling.specs.Moments.{Variance}
+use Rattle.rolling.specs.Moments.{Statistic, Variance, Skewness, Kurtosis, Covariance, Correlation, kindOf, finalsOf}
 use Rattle.rolling.specs.Calls.{query}
-use Rattle.promises.specs.LowestHighest.{FiniteIn, Short, IsExtreme, ExtremeRow, LowestHighest}
+use Rattle.promises.specs.Calls.{AcceptedCall}
+use Rattle.promises.specs.LowestHighest.{FiniteIn, Short, IsExtreme, ExtremeRow, WhereExtremes, LowestHighest}
 use Rattle.promises.proofs.Accepted.{known}
 use Rattle.promises.proofs.TwoCalls.{alike-answers}
 
@@ -48,8 +50,7 @@ module _ (t : Trace) (s e : ℕ) where
   placed : (x : Float) → List·Memᴰ x l → (i : ℕ) × FiniteIn t s e i × (x ≡ readingOf (t .readings) i)
   placed x m =
       let p = entry-place (finiteAt t) (readingOf (t .readings)) s e x m in
-      let v = validAt (t .mapped) (t .map) (p .place) in
-      (
+      let v = validAt (t .mapped) (t .map) (p .place) in (
         p .place,
         record { from = p .from; below = p .below; valid = first-of v _ (p .chosen); is-finite = second-of v _ (p .chosen) },
         p .is,
@@ -130,19 +131,26 @@ module _ (t : Trace) (s e : ℕ) where
             }
         go false h = row-by-list minPeriods h l refl
 
+by-figure : (a : Statistic) (t : Given (kindOf a)) (p : Plan) (minPeriods : ℕ) (l : Lent) → AcceptedCall (query p minPeriods a) t l
+    → (k : ℕ) → k < rows p → WhereExtremes a t p minPeriods k l
+by-figure (Variance ddof) t p minPeriods l c k h =
+    record {
+      variance = _;
+      lowest = ofFigure (extremeAt lower t minPeriods p k);
+      highest = ofFigure (extremeAt higher t minPeriods p k);
+      stand = known (query p minPeriods (Variance ddof)) t l c .answers k h;
+      lowest-is = extreme-row t (rowStart p k) (rowEnd p k) lower (inf false) lower-orders minPeriods;
+      highest-is = extreme-row t (rowStart p k) (rowEnd p k) higher (inf true) higher-orders minPeriods;
+    }
+by-figure (Skewness bias) t p minPeriods l c k h = tt
+by-figure (Kurtosis fisher bias) t p minPeriods l c k h = tt
+by-figure (Covariance ddof) t p minPeriods l c k h = tt
+by-figure Correlation t p minPeriods l c k h = tt
+
 pub lowest-highest : LowestHighest
 lowest-highest =
     record {
-      one = λ p minPeriods ddof t l c k h.
-          record {
-            variance = _;
-            lowest = ofFigure (extremeAt lower t minPeriods p k);
-            highest = ofFigure (extremeAt higher t minPeriods p k);
-            stand = known (query p minPeriods (Variance ddof)) t l c .answers k h;
-            lowest-is = extreme-row t (rowStart p k) (rowEnd p k) lower (inf false) lower-orders minPeriods;
-            highest-is = extreme-row t (rowStart p k) (rowEnd p k) higher (inf true) higher-orders minPeriods;
-          };
-      two = λ p minPeriods ddof t t′ l l′ alike c c′ k h g.
-          ap (drop 1) (alike-answers (query p minPeriods (Variance ddof)) t t′ l l′ alike c c′ k h g);
+      one = λ q t l c k h. by-figure (q .statistic) t (q .plan) (q .minPeriods) l c k h;
+      two = λ q t t′ l l′ alike c c′ k h g. ap (drop (length (finalsOf (q .statistic)))) (alike-answers q t t′ l l′ alike c c′ k h g);
       unsigned = plain-double;
     }

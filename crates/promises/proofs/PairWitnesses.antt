@@ -32,7 +32,7 @@ use Rattle.rolling.specs.Moments.{Covariance, Correlation, covariance, correlat
 use Rattle.rolling.specs.Calls.{Query, query, Called}
 use Rattle.rolling.specs.Fixed.{CalledFixed}
 use Rattle.moments.specs.HostCall.{Host, CalledBytes}
-use Rattle.promises.specs.Calls.{covList, pearsonList, AcceptedCall, planCall, hostCall, fixedCall}
+use Rattle.promises.specs.Calls.{figuresIn, covList, pearsonList, AcceptedCall, planCall, hostCall, fixedCall}
 use Rattle.promises.specs.DemandOne.{planChecks, hostChecks, fixedChecks, rowsChecks, FirstApplies, Answered, HostLeft}
 use Rattle.promises.specs.DemandThree.{Alike, Agree, SomeNotFinite}
 use Rattle.promises.specs.TwoTraces.{PairFigureIn, PairYielded}
@@ -306,7 +306,7 @@ abbrev Claim : (Plan → TracePair → TracePair → ℕ → Type 0) → Type 0
 Claim Enough =
     (p : Plan) (minPeriods : ℕ) (t t′ : TracePair) (l l′ : Lent) → AcceptedCall (covarianceBy p minPeriods 1) t l
     → AcceptedCall (covarianceBy p minPeriods 1) t′ l′ → (k : ℕ) → k < rows p → Enough p t t′ k
-    → answersIn (l .outputs .answers) k ≡ answersIn (l′ .outputs .answers) k
+    → figuresIn (Covariance 1) l k ≡ figuresIn (Covariance 1) l′ k
 
 -- the statement itself makes it with this
 pub enough-of-pairs : Claim (λ p t t′ k. Alike Pairs t t′ × Agree Pairs t t′ (rowStart p k) (rowEnd p k))

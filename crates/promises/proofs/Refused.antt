@@ -1,7 +1,7 @@
 -- Each hypothesis of demand 1, and of demand 2 for arrays and ranges, is met, by computation: calls that hand out a state, accepted and
 -- refused, and refused calls of every kind of window. Of each refusal it is worked from the checks alone which number applies first. And
 -- what demand 1 shuts out: a later number, and a refusal that changes what is lent. Assumes nothing.
-use Prim.Native.Nat.{ℕ, suc}
+use Prim.Native.Nat.{ℕ, suc, _≤_}
 use mathlib.Core.Path.{_≡_, refl, ap}
 use mathlib.Core.Bool.{true, false}
 use mathlib.Core.List.{List, [], _∷_, map, zip, zipWith}
@@ -34,7 +34,7 @@ use Rattle.window.specs.Given.{Readings}
 use Rattle.moments.specs.Results.{FigureResult}
 use Rattle.promises.specs.Calls.{CallsVar, CallsSkew, CallsKurtosis, CallsCov, CallsPearson, CallsSkewRange, CallsKurtosisRange}
 use Rattle.promises.specs.DemandOne.{Check, traceChecks, pairChecks, rangeChecks, planChecks, hostChecks, fixedChecks, weightsChecks}
-use Rattle.promises.specs.DemandOne.{rowsChecks, NoneApplies, FirstApplies, Answered}
+use Rattle.promises.specs.DemandOne.{OutputShorter, rowsChecks, NoneApplies, FirstApplies, Answered}
 use Rattle.promises.specs.Rust.{someRust}
 use Rattle.promises.specs.DemandTwo.{sourceVar, sourceCov, sourceSkewRange}
 use Rattle.promises.specs.Table.{varianceBy, p7, trace7, p9, trace9}
@@ -221,6 +221,16 @@ pub fourteen-first : FirstApplies (hostChecks (varianceBy p7 1) nineBytes (table
 unfolding table
 fourteen-first = inl (refl, λ h. omega arith)
 
+-- none of the six lists of four places is shorter than so many rows
+none-short : (n : ℕ) → OutputShorter (varLent 0 .outputs) n → n ≤ 4 → ⊥
+unfolding table
+none-short n h k =
+    ⊎-elim (λ a. omega arith)
+    (⊎-elim (λ a. omega arith)
+    (⊎-elim (λ a. omega arith)
+    (⊎-elim (λ a. omega arith) (⊎-elim (λ a. omega arith) (⊎-elim (λ a. omega arith) (λ a. a))))))
+    h
+
 pub thirteen-first : FirstApplies (fixedChecks 2 (Variance 1) trace13 (varLent 11)) 13
 unfolding table
 thirteen-first =
@@ -228,7 +238,7 @@ thirteen-first =
       λ h. omega arith,
       inr (
         λ h. apart (h .0),
-        inr (λ h. ⊎-elim (λ g. omega arith) (λ g. ⊎-elim (λ f. omega arith) (λ f. f) g) h, inl (refl, omega arith)),
+        inr (λ h. none-short 2 h (omega arith), inl (refl, omega arith)),
       ),
     )
 
@@ -251,7 +261,7 @@ none-apply = (
           λ h. omega arith,
           (
             λ h. h,
-            (λ h. ⊎-elim (λ g. omega arith) (λ g. ⊎-elim (λ f. omega arith) (λ f. f) g) h, (λ h. omega arith, tt)),
+            (λ h. none-short 1 h (omega arith), (λ h. omega arith, tt)),
           ),
         ),
       ),

@@ -156,6 +156,7 @@ pub extremes-same : (a : Statistic) (t t′ : Given (kindOf a)) (minPeriods : �
     → seriesOf (kindOf a) t .places .valid i ≡ seriesOf (kindOf a) t′ .places .valid i)
     → ((i : ℕ) → rowStart p k ≤ i → i < rowEnd p k → seriesOf (kindOf a) t .places .valid i ≡ true → SameAt (kindOf a) t t′ i)
     → answersAt (extremesBy a t minPeriods p) k ≡ answersAt (extremesBy a t′ minPeriods p) k
+unfolding extremeOf
 extremes-same (Variance ddof) t t′ minPeriods p k m v g =
     ap ofFigure (same lower) then ap ofFigure (same higher) then refl
   where
@@ -173,7 +174,6 @@ extremes-same (Variance ddof) t t′ minPeriods p k m v g =
         (λ i x l. guards _ _ _ _ (v i x l) (λ e. ap finite (g i x l e))) (λ i x l e. g i x l (holds _ _ e))
 
     same : (beyond : Float → Float → Bool) → extremeAt beyond t minPeriods p k ≡ extremeAt beyond t′ minPeriods p k
-    unfolding extremeOf
     same beyond = λ j. cond (shortRow (m j) minPeriods (rowStart p k) (rowEnd p k)) Missing (extreme beyond (readings j))
 extremes-same (Skewness bias) t t′ minPeriods p k m v g = refl
 extremes-same (Kurtosis fisher bias) t t′ minPeriods p k m v g = refl

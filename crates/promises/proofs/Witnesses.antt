@@ -30,7 +30,7 @@ use Rattle.window.specs.Rows.{answerAt}
 use Rattle.window.specs.Extremes.{lower, higher, extreme, extremeOf, extremeAt}
 use Rattle.window.specs.Outputs.{Column, Lent, column, outputsOf, filled, kept, columnAfter, answered, numbered, Answer, answersIn, answersAt}
 use Rattle.rolling.specs.Moments.{Variance, Skewness, Kurtosis, workWidth}
-use Rattle.rolling.specs.Calls.{Query, query, GivenTo, yields, tallies, Left, Called}
+use Rattle.rolling.specs.Calls.{Query, query, GivenTo, figuresOf, yields, tallies, Left, Called}
 use Rattle.rolling.specs.Fixed.{fixedQuery, CalledFixed}
 use Rattle.weighted.specs.Weights.{weightedAt, weightsRefusal, CalledWeights}
 use Rattle.moments.specs.HostCall.{CalledBytes}
@@ -309,7 +309,7 @@ same7 =
     agree7
 
 -- .. and row 0's are not
-pub differ7 : answersIn (p7Left .outputs .answers) 0 ≡ answersIn (other7Left .outputs .answers) 0 → ⊥
+pub differ7 : figuresIn (Variance 1) p7Left 0 ≡ figuresIn (Variance 1) other7Left 0 → ⊥
 unfolding ofBits toBits
 differ7 same =
     let bits : _≡_ {A = ℕ} 0x4000000000000000 0x4029000000000000 = ap firstBits same in
@@ -364,7 +364,7 @@ agree-mapped (suc (suc (suc zero))) s e v = refl
 agree-mapped (suc (suc (suc (suc i)))) s e v = absurd (omega arith)
 
 -- so row 1's answers are the same ..
-pub same-mapped : answersIn (mappedLeft .outputs .answers) 1 ≡ answersIn (otherMappedLeft .outputs .answers) 1
+pub same-mapped : figuresIn (Variance 1) mappedLeft 1 ≡ figuresIn (Variance 1) otherMappedLeft 1
 same-mapped =
     demand-three .two (varianceBy mapPlan 1) tt mapped otherMapped mappedLeft otherMappedLeft alike-mapped (planCall mapped-accepted)
     (planCall other-mapped-accepted) 1 (omega arith) agree-mapped
@@ -376,7 +376,7 @@ disagree-mapped all =
     let bits : _≡_ {A = ℕ} 0x4000000000000000 0x4022000000000000 = ap (toBits binary64) (all 0 (omega arith) (omega arith) refl) in
     omega arith
 
-pub differ-mapped : answersIn (mappedLeft .outputs .answers) 0 ≡ answersIn (otherMappedLeft .outputs .answers) 0 → ⊥
+pub differ-mapped : figuresIn (Variance 1) mappedLeft 0 ≡ figuresIn (Variance 1) otherMappedLeft 0 → ⊥
 unfolding ofBits toBits
 differ-mapped same =
     let bits : _≡_ {A = ℕ} 0x4000000000000000 0x4029000000000000 = ap firstBits same in
@@ -388,7 +388,7 @@ abbrev Claim : (Plan → Trace → Trace → ℕ → Type 0) → Type 0
 Claim Enough =
     (p : Plan) (minPeriods : ℕ) (t t′ : Trace) (l l′ : Lent) → AcceptedCall (varianceBy p minPeriods) t l
     → AcceptedCall (varianceBy p minPeriods) t′ l′ → (k : ℕ) → k < rows p → Enough p t t′ k
-    → answersIn (l .outputs .answers) k ≡ answersIn (l′ .outputs .answers) k
+    → figuresIn (Variance 1) l k ≡ figuresIn (Variance 1) l′ k
 
 -- demand 3 itself makes it with this
 pub enough : Claim (λ p t t′ k. Alike Readings t t′ × Agree Readings t t′ (rowStart p k) (rowEnd p k))
@@ -674,7 +674,7 @@ ones-row =
 pub ones-yielded : Yielded shortRow ones onesLeft 2
 unfolding ofBits ofInt add sub mul div eq lt le varClear varCombine varFinalize entriesFrom splitAfter figureOf insertedAt nonfiniteAt
     answerAt validAt
-ones-yielded = record { account = refl; variance = record { answer = _; others = []; stands = refl; row = ones-row } }
+ones-yielded = record { account = refl; variance = record { answer = _; others = _; stands = refl; row = ones-row } }
 
 -- and demand 3 said of P7's row 0, whose ddof is a byte (`IsSetting`)
 pub p7-row : VarianceIn trace7 p7 1 1 0 p7Left
@@ -683,7 +683,7 @@ p7-row = demand-three .one (varianceBy p7 1) tt trace7 p7Left (omega arith) plan
 -- a call with trailing windows is not the call of the centred bounds: row 0 has one place, and not two
 pub trailing-not-centred :
     ((t : Trace) (l₀ l : Lent) → CalledFixed false 3 1 (Variance 1) t l₀ l 0 → (k : ℕ) → k < length (t .readings)
-    → answersIn (l .outputs .answers) k ≡ answersAt (yields (fixedQuery true 3 1 (Variance 1) t) t) k)
+    → figuresIn (Variance 1) l k ≡ answersAt (figuresOf (fixedQuery true 3 1 (Variance 1) t) t) k)
     → ⊥
 unfolding table bounds ofBits ofInt add sub mul div eq lt le varClear varCombine varFinalize entriesFrom splitAfter figureOf insertedAt
     nonfiniteAt answerAt validAt

@@ -4,7 +4,7 @@ use Prim.Native.Nat.{ℕ}
 use mathlib.Core.Bool.{Bool}
 use mathlib.Core.List.{List, [], _∷_}
 use lib.Ieee.{Float}
-use lib.ListN.{length, take}
+use lib.ListN.{length, take, drop}
 use Rattle.trace.specs.Trace.{Trace, validReadings, validPairs}
 use Rattle.moment.specs.declared.var_state.VarState.{VarState}
 use Rattle.moment.specs.declared.cov_state.CovState.{CovState}
@@ -104,6 +104,10 @@ OfTwoTraces Correlation = Unit {0}
 -- row k's answers of the figures, which stand first in the lists; behind a variance stand its lowest and highest reading
 abbrev pub figuresIn : Statistic → Lent → ℕ → List Answer
 figuresIn a l k = take (length (finalsOf a)) (answersIn (l .outputs .answers) k)
+
+-- row k's answers behind them: of a variance the lowest and highest reading, of other figures none
+abbrev pub extremesIn : Statistic → Lent → ℕ → List Answer
+extremesIn a l k = drop (length (finalsOf a)) (answersIn (l .outputs .answers) k)
 
 -- An accepted call without weights, its number 0, on what is given with a plan and a setting q, that leaves the lists l: a plan call, a
 -- host call or a call with fixed windows, whatever the lists held before. Answers that are equal here and no NaN have the same bits.

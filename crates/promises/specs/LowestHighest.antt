@@ -6,21 +6,20 @@ use Prim.Native.Nat.{ℕ, _-_, _≤_, _<_}
 use mathlib.Core.Path.{_≡_}
 use mathlib.Core.Bool.{Bool, true, false, cond}
 use mathlib.Core.List.{[], _∷_}
-use mathlib.Core.Logic.{_⊎_, _↔_, ¬_}
+use mathlib.Core.Logic.{_⊎_, _↔_}
 use lib.Dec.{T}
-use lib.ListN.{drop}
 use lib.Ieee.{Float, binary64, fits, eq}
 use lib.Ieee.Scale.{finite}
 use Rattle.float.specs.Operators.{zero64}
 use Rattle.trace.specs.Trace.{Trace, validAt}
 use Rattle.plan.specs.Plan.{Plan, rows, rowStart, rowEnd}
 use Rattle.window.specs.Readings.{readingOf}
-use Rattle.window.specs.Given.{Readings}
+use Rattle.window.specs.Given.{Given}
 use Rattle.window.specs.Extremes.{lower, higher, unsignedZero}
 use Rattle.window.specs.Outputs.{Lent, Answer, answersIn}
-use Rattle.rolling.specs.Moments.{Variance}
-use Rattle.rolling.specs.Calls.{query}
-use Rattle.promises.specs.Calls.{AcceptedCall}
+use Rattle.rolling.specs.Moments.{Statistic, Variance, Skewness, Kurtosis, Covariance, Correlation, kindOf}
+use Rattle.rolling.specs.Calls.{Query, GivenTo}
+use Rattle.promises.specs.Calls.{extremesIn, AcceptedCall}
 use Rattle.promises.specs.DemandThree.{Alike, Agree}
 
 -- place i is in the window from s up to e and holds a "finite valid reading"
@@ -60,15 +59,27 @@ pub record ExtremesIn (t : Trace) (p : Plan) (minPeriods k : ℕ) (l : Lent) : T
   pub lowest-is : ExtremeRow lower t (rowStart p k) (rowEnd p k) minPeriods lowest
   pub highest-is : ExtremeRow higher t (rowStart p k) (rowEnd p k) minPeriods highest
 
--- for any accepted calls for a variance, fixed windows' too, whose plan is their bounds
+-- by what is asked: of other figures nothing is said
+abbrev pub WhereExtremes : (a : Statistic) → Given (kindOf a) → Plan → ℕ → ℕ → Lent → Type 0
+WhereExtremes (Variance ddof) t p minPeriods k l = ExtremesIn t p minPeriods k l
+WhereExtremes (Skewness bias) t p minPeriods k l = Unit {0}
+WhereExtremes (Kurtosis fisher bias) t p minPeriods k l = Unit {0}
+WhereExtremes (Covariance ddof) t p minPeriods k l = Unit {0}
+WhereExtremes Correlation t p minPeriods k l = Unit {0}
+
+-- what demand 3 says of figures, of the lowest and highest: at every row in whose window both traces hold the same bits at every valid place
+abbrev pub SameExtremes : (q : Query) (t t′ : GivenTo q) → Lent → Lent → Type 0
+SameExtremes q t t′ l l′ =
+    (k : ℕ) → k < rows (q .plan) → Agree (kindOf (q .statistic)) t t′ (rowStart (q .plan) k) (rowEnd (q .plan) k)
+    → extremesIn (q .statistic) l k ≡ extremesIn (q .statistic) l′ k
+
+-- for any accepted calls, fixed windows' too, whose plan is their bounds
 pub record LowestHighest : Type 0 where
   -- of every call by itself
-  pub one : (p : Plan) (minPeriods ddof : ℕ) (t : Trace) (l : Lent) → AcceptedCall (query p minPeriods (Variance ddof)) t l
-      → (k : ℕ) → k < rows p → ExtremesIn t p minPeriods k l
-  -- of two calls, as demand 3 says it of figures: at every row in whose window both traces hold the same bits at every valid place
-  pub two : (p : Plan) (minPeriods ddof : ℕ) (t t′ : Trace) (l l′ : Lent) → Alike Readings t t′
-      → AcceptedCall (query p minPeriods (Variance ddof)) t l → AcceptedCall (query p minPeriods (Variance ddof)) t′ l′
-      → (k : ℕ) → k < rows p → Agree Readings t t′ (rowStart p k) (rowEnd p k)
-      → drop 1 (answersIn (l .outputs .answers) k) ≡ drop 1 (answersIn (l′ .outputs .answers) k)
+  pub one : (q : Query) (t : GivenTo q) (l : Lent) → AcceptedCall q t l → (k : ℕ) → k < rows (q .plan)
+      → WhereExtremes (q .statistic) t (q .plan) (q .minPeriods) k l
+  -- of two calls
+  pub two : (q : Query) (t t′ : GivenTo q) (l l′ : Lent) → Alike (kindOf (q .statistic)) t t′ → AcceptedCall q t l → AcceptedCall q t′ l′
+      → SameExtremes q t t′ l l′
   -- "a zero of either sign as +0.0", and every other finite double as it is
   pub unsigned : (x : Float) → T (fits binary64 x) → finite x ≡ true → unsignedZero x ≡ cond (eq x zero64) zero64 x
