@@ -31,7 +31,7 @@ use Rattle.plan.specs.Bounds.{bounds, boundsAt, offsetsAt, nextOffsets}
 use Rattle.plan.specs.Code.Reaching.{rightOf, StepsTo}
 use Rattle.plan.specs.declared.bounds.Offsets.{Offsets}
 use Rattle.plan.proofs.FixedWindows.{steps-bounds}
-use Rattle.window.specs.Given.{Given}
+use Rattle.window.specs.Given.{Given, placesOf}
 use Rattle.window.specs.Outputs.{Column, Lent}
 use Rattle.rolling.specs.Moments.{Statistic, Variance, Skewness, Kurtosis, Covariance, Correlation, kindOf}
 use Rattle.rolling.specs.Calls.{Query, query, GivenTo, Called}
@@ -46,6 +46,7 @@ use Rattle.promises.proofs.DemandOne.{demand-one}
 use Rattle.promises.proofs.DemandTwo.{demand-two}
 use Rattle.promises.proofs.DemandThree.{demand-three}
 use Rattle.promises.proofs.TwoTraces.{pair-statement}
+use Rattle.promises.proofs.LowestHighest.{lowest-highest}
 use Rattle.promises.proofs.Maps.{map-law}
 use Rattle.promises.specs.KeptBounds.{leftWindow, RaisesEach}
 use Rattle.promises.proofs.KeptBounds.{left-is, kept-bounds}
@@ -82,6 +83,7 @@ host-meets {q} {h} {r₀} {r} {l₀} {l} {number} c set =
       two = λ e rust one. demand-two .plans rust q one (decodedOf (kindOf (q .statistic)) h) l (host-accepted c e);
       three = λ e one. demand-three .one q one (decodedOf (kindOf (q .statistic)) h) l set (host-accepted c e);
       pairs = λ e two. pair-statement .one q two (decodedOf (kindOf (q .statistic)) h) l set (host-accepted c e);
+      extremes = λ e. lowest-highest .one q (decodedOf (kindOf (q .statistic)) h) l (host-accepted c e);
     }
 
 pub two-hosts-meet : {q : Query} {h h′ : Host (kindOf (q .statistic))} {r₀ r r₀′ r′ : ReadingLists (kindOf (q .statistic))}
@@ -93,6 +95,9 @@ two-hosts-meet {q} {h} {h′} {r₀} {r} {r₀′} {r′} {l₀} {l} {l₀′} {
       second = host-meets c′ set;
       both = λ alike e e′.
           same-answers q (decodedOf (kindOf (q .statistic)) h) (decodedOf (kindOf (q .statistic)) h′) l l′ alike (host-accepted c e)
+          (host-accepted c′ e′);
+      both-extremes = λ alike e e′.
+          lowest-highest .two q (decodedOf (kindOf (q .statistic)) h) (decodedOf (kindOf (q .statistic)) h′) l l′ alike (host-accepted c e)
           (host-accepted c′ e′);
       maps = λ s short room. map-law .hosts q h h′ s r₀ r r₀′ r′ short l₀ l l₀′ l′ room number number′ c c′;
     }
@@ -109,6 +114,7 @@ plan-meets {q} {t} {l₀} {l} {number} c set =
       two = λ e rust one. demand-two .plans rust q one t l (plan-accepted c e);
       three = λ e one. demand-three .one q one t l set (plan-accepted c e);
       pairs = λ e two. pair-statement .one q two t l set (plan-accepted c e);
+      extremes = λ e. lowest-highest .one q t l (plan-accepted c e);
     }
 
 pub two-plans-meet : {q : Query} {t t′ : GivenTo q} {l₀ l l₀′ l′ : Lent} {number number′ : ℕ} → Called q t l₀ l number
@@ -118,6 +124,7 @@ two-plans-meet {q} {t} {t′} {l₀} {l} {l₀′} {l′} {number} {number′} c
       first = plan-meets c set;
       second = plan-meets c′ set;
       both = λ alike e e′. same-answers q t t′ l l′ alike (plan-accepted c e) (plan-accepted c′ e′);
+      both-extremes = λ alike e e′. lowest-highest .two q t t′ l l′ alike (plan-accepted c e) (plan-accepted c′ e′);
       maps = λ s room. map-law .plans q t t′ s l₀ l l₀′ l′ room number number′ c c′;
     }
 
@@ -136,9 +143,15 @@ module _ {center : Bool} {size minPeriods : ℕ} {a : Statistic} where
         two = λ e rust one. demand-two .fixed rust center size minPeriods a one t l₀ l small (fixed-zero c e);
         three = λ e one. demand-three .one (fixedQuery center size minPeriods a t) one t l set (fixedCall (fixed-zero c e));
         pairs = λ e two. pair-statement .one (fixedQuery center size minPeriods a t) two t l set (fixedCall (fixed-zero c e));
+        extremes = λ e. lowest-highest .one (fixedQuery center size minPeriods a t) t l (fixedCall (fixed-zero c e));
       }
 
   -- equal lengths have the same bounds
+  other : (t : Given (kindOf a)) {t′ : Given (kindOf a)} {l₀ l : Lent} {number : ℕ} → CalledFixed center size minPeriods a t′ l₀ l number
+      → placesOf (kindOf a) t ≡ placesOf (kindOf a) t′ → number ≡ 0 → AcceptedCall (fixedQuery center size minPeriods a t) t′ l
+  other t {t′} {l₀} {l} c same e =
+      subst (λ (n : ℕ). AcceptedCall (query (bounds center size n) minPeriods a) t′ l) (sym same) (fixedCall (fixed-zero c e))
+
   pub two-fixed-meet : {t t′ : Given (kindOf a)} {l₀ l l₀′ l′ : Lent} {number number′ : ℕ}
       → CalledFixed center size minPeriods a t l₀ l number → CalledFixed center size minPeriods a t′ l₀′ l′ number′ → size < 2 ^ 64
       → IsSetting a
@@ -148,9 +161,9 @@ module _ {center : Bool} {size minPeriods : ℕ} {a : Statistic} where
         first = fixed-meets c small set;
         second = fixed-meets c′ small set;
         both = λ alike e e′.
-            same-answers (fixedQuery center size minPeriods a t) t t′ l l′ alike (fixedCall (fixed-zero c e))
-            (subst (λ (n : ℕ). AcceptedCall (query (bounds center size n) minPeriods a) t′ l′) (sym (alike .long))
-            (fixedCall (fixed-zero c′ e′)));
+            same-answers (fixedQuery center size minPeriods a t) t t′ l l′ alike (fixedCall (fixed-zero c e)) (other t c′ (alike .long) e′);
+        both-extremes = λ alike e e′.
+            lowest-highest .two (fixedQuery center size minPeriods a t) t t′ l l′ alike (fixedCall (fixed-zero c e)) (other t c′ (alike .long) e′);
         maps = λ s room. map-law .fixed center size minPeriods a t t′ s l₀ l l₀′ l′ room number number′ c c′;
       }
 

@@ -36,6 +36,7 @@ use Rattle.promises.specs.DemandOne.{Answered, HostLeft}
 use Rattle.promises.specs.DemandTwo.{sourceVar, sourceSkew, sourceKurtosis, sourceCov, sourcePearson, sourceSkewRange, sourceKurtosisRange}
 use Rattle.promises.specs.DemandTwo.{RowsEqual, FixedRowsEqual, WeightedRowsEqual, CorrectRoot}
 use Rattle.promises.specs.DemandThree.{Alike, SameAnswers, Yielded}
+use Rattle.promises.specs.LowestHighest.{WhereExtremes, SameExtremes}
 use Rattle.promises.specs.TwoTraces.{PairYielded}
 use Rattle.promises.specs.KeptBounds.{leftWindow, RaisesEach}
 use Rattle.promises.specs.Maps.{SameMaps, SameGiven, SameHost, SameRoom, SameReadingRoom, SameColumnRoom, SameAnswer, SameColumns, SameRows}
@@ -51,9 +52,11 @@ pub record MeetsHost (q : Query) (h : Host (kindOf (q .statistic)))
       → Yielded q (decodedOf (kindOf (q .statistic)) h) (l .1) k
   pub pairs : number ≡ 0 → OfTwoTraces (q .statistic) → (k : ℕ) → k < rows (q .plan)
       → PairYielded q (decodedOf (kindOf (q .statistic)) h) (l .1) k
+  pub extremes : number ≡ 0 → (k : ℕ) → k < rows (q .plan) → WhereExtremes (q .statistic) (decodedOf (kindOf (q .statistic)) h) (q .plan)
+      (q .minPeriods) k (l .1)
 
 -- two, with the same plan, the same setting and the same figure: of each what is said of one, of both demand 3 or the statement for pairs
--- of traces, and the law of maps
+-- of traces, the same of a variance's lowest and highest reading, and the law of maps
 pub record MeetTwoHosts (q : Query) (h h′ : Host (kindOf (q .statistic)))
     (r r′ : ReadingLists (kindOf (q .statistic)) × ReadingLists (kindOf (q .statistic))) (l l′ : Lent × Lent)
     (number number′ : ℕ) : Type 0 where
@@ -62,6 +65,9 @@ pub record MeetTwoHosts (q : Query) (h h′ : Host (kindOf (q .statistic)))
   pub both : Alike (kindOf (q .statistic)) (decodedOf (kindOf (q .statistic)) h) (decodedOf (kindOf (q .statistic)) h′)
       → number ≡ 0 → number′ ≡ 0
       → SameAnswers q (decodedOf (kindOf (q .statistic)) h) (decodedOf (kindOf (q .statistic)) h′) (l .1) (l′ .1)
+  pub both-extremes : Alike (kindOf (q .statistic)) (decodedOf (kindOf (q .statistic)) h) (decodedOf (kindOf (q .statistic)) h′)
+      → number ≡ 0 → number′ ≡ 0
+      → SameExtremes q (decodedOf (kindOf (q .statistic)) h) (decodedOf (kindOf (q .statistic)) h′) (l .1) (l′ .1)
   pub maps : SameHost (kindOf (q .statistic)) h h′ → SameReadingRoom (kindOf (q .statistic)) h h′ (r .0) (r′ .0)
       → SameRoom (l .0) (l′ .0) → SameRows (rows (q .plan)) (l .1) (l′ .1) number number′
 
@@ -72,12 +78,14 @@ pub record MeetsPlan (q : Query) (t : GivenTo q) (l : Lent × Lent) (number : �
   pub two : number ≡ 0 → (rust : Rust) (one : OfOneTrace (q .statistic)) → RowsEqual rust q one t (l .1)
   pub three : number ≡ 0 → OfOneTrace (q .statistic) → (k : ℕ) → k < rows (q .plan) → Yielded q t (l .1) k
   pub pairs : number ≡ 0 → OfTwoTraces (q .statistic) → (k : ℕ) → k < rows (q .plan) → PairYielded q t (l .1) k
+  pub extremes : number ≡ 0 → (k : ℕ) → k < rows (q .plan) → WhereExtremes (q .statistic) t (q .plan) (q .minPeriods) k (l .1)
 
 -- two
 pub record MeetTwoPlans (q : Query) (t t′ : GivenTo q) (l l′ : Lent × Lent) (number number′ : ℕ) : Type 0 where
   pub first : MeetsPlan q t l number
   pub second : MeetsPlan q t′ l′ number′
   pub both : Alike (kindOf (q .statistic)) t t′ → number ≡ 0 → number′ ≡ 0 → SameAnswers q t t′ (l .1) (l′ .1)
+  pub both-extremes : Alike (kindOf (q .statistic)) t t′ → number ≡ 0 → number′ ≡ 0 → SameExtremes q t t′ (l .1) (l′ .1)
   pub maps : SameGiven (kindOf (q .statistic)) t t′ → SameRoom (l .0) (l′ .0) → SameRows (rows (q .plan)) (l .1) (l′ .1) number number′
 
 -- ---- fixed windows
@@ -91,6 +99,8 @@ pub record MeetsFixed (center : Bool) (windowSize minPeriods : ℕ) (a : Statist
       → Yielded (fixedQuery center windowSize minPeriods a t) t (l .1) k
   pub pairs : number ≡ 0 → OfTwoTraces a → (k : ℕ) → k < rows (fixedQuery center windowSize minPeriods a t .plan)
       → PairYielded (fixedQuery center windowSize minPeriods a t) t (l .1) k
+  pub extremes : number ≡ 0 → (k : ℕ) → k < rows (fixedQuery center windowSize minPeriods a t .plan)
+      → WhereExtremes a t (fixedQuery center windowSize minPeriods a t .plan) minPeriods k (l .1)
 
 -- two, over traces of equal length, whose plan is then the same
 pub record MeetTwoFixed (center : Bool) (windowSize minPeriods : ℕ) (a : Statistic) (t t′ : Given (kindOf a)) (l l′ : Lent × Lent)
@@ -99,6 +109,8 @@ pub record MeetTwoFixed (center : Bool) (windowSize minPeriods : ℕ) (a : Stati
   pub second : MeetsFixed center windowSize minPeriods a t′ l′ number′
   pub both : Alike (kindOf a) t t′ → number ≡ 0 → number′ ≡ 0
       → SameAnswers (fixedQuery center windowSize minPeriods a t) t t′ (l .1) (l′ .1)
+  pub both-extremes : Alike (kindOf a) t t′ → number ≡ 0 → number′ ≡ 0
+      → SameExtremes (fixedQuery center windowSize minPeriods a t) t t′ (l .1) (l′ .1)
   pub maps : SameGiven (kindOf a) t t′ → SameRoom (l .0) (l′ .0)
       → SameRows (rows (fixedQuery center windowSize minPeriods a t .plan)) (l .1) (l′ .1) number number′
 

@@ -2,7 +2,7 @@
 // and the law of maps speak; and those of two traces, x and y, of which the statement for pairs of traces speaks in place of demands
 // 2 and 3. Of two such calls the second has the traces u and v.
 ghost use Rattle.rolling.specs.Moments.{Variance, Skewness, Kurtosis, Covariance, Correlation};
-ghost use Rattle.rolling.specs.Calls.{querying, lending};
+ghost use Rattle.rolling.specs.Calls.{querying, lending, lendingThree};
 ghost use Rattle.moments.specs.HostCall.{hosting, decoding, hostingPair, decodingPair};
 ghost use Rattle.demands.specs.Meets.{MeetsHost, MeetTwoHosts};
 use crate::Numbers;
@@ -19,9 +19,13 @@ pub fn plan_var(
     work: &mut [f64],
     figures: &mut [f64],
     present: &mut [u8],
+    lowest: &mut [f64],
+    lowest_present: &mut [u8],
+    highest: &mut [f64],
+    highest_present: &mut [u8],
 ) -> u32
     ensures { λ r. ⌜ MeetsHost (querying starts ends «min_periods» (Variance ddof)) (hosting trace «has_map» map) (decoding readings)
-        (lending work figures present) r ⌝ }
+        (lendingThree work figures present lowest «lowest_present» highest «highest_present») r ⌝ }
 {
     moments::moments_plan_var(
         trace,
@@ -35,6 +39,10 @@ pub fn plan_var(
         work,
         figures,
         present,
+        lowest,
+        lowest_present,
+        highest,
+        highest_present,
     )
 }
 
@@ -54,13 +62,22 @@ pub fn two_plans_var(
     x_work: &mut [f64],
     x_figures: &mut [f64],
     x_present: &mut [u8],
+    x_lowest: &mut [f64],
+    x_lowest_present: &mut [u8],
+    x_highest: &mut [f64],
+    x_highest_present: &mut [u8],
     y_work: &mut [f64],
     y_figures: &mut [f64],
     y_present: &mut [u8],
+    y_lowest: &mut [f64],
+    y_lowest_present: &mut [u8],
+    y_highest: &mut [f64],
+    y_highest_present: &mut [u8],
 ) -> Numbers
     ensures { λ r. ⌜ MeetTwoHosts (querying starts ends «min_periods» (Variance ddof))
         (hosting x «x_has_map» «x_map») (hosting y «y_has_map» «y_map») (decoding «x_readings») (decoding «y_readings»)
-        (lending «x_work» «x_figures» «x_present») (lending «y_work» «y_figures» «y_present») (r .first) (r .second) ⌝ }
+        (lendingThree «x_work» «x_figures» «x_present» «x_lowest» «x_lowest_present» «x_highest» «x_highest_present»)
+        (lendingThree «y_work» «y_figures» «y_present» «y_lowest» «y_lowest_present» «y_highest» «y_highest_present») (r .first) (r .second) ⌝ }
 {
     let first = moments::moments_plan_var(
         x,
@@ -74,6 +91,10 @@ pub fn two_plans_var(
         x_work,
         x_figures,
         x_present,
+        x_lowest,
+        x_lowest_present,
+        x_highest,
+        x_highest_present,
     );
     let second = moments::moments_plan_var(
         y,
@@ -87,6 +108,10 @@ pub fn two_plans_var(
         y_work,
         y_figures,
         y_present,
+        y_lowest,
+        y_lowest_present,
+        y_highest,
+        y_highest_present,
     );
     Numbers { first, second }
 }

@@ -2,7 +2,7 @@
 ghost use Rattle.trace.specs.Trace.{tracing};
 ghost use Rattle.window.specs.Pairs.{pairing};
 ghost use Rattle.rolling.specs.Moments.{Variance, Skewness, Kurtosis, Covariance, Correlation};
-ghost use Rattle.rolling.specs.Calls.{querying, lending};
+ghost use Rattle.rolling.specs.Calls.{querying, lending, lendingThree};
 ghost use Rattle.demands.specs.Meets.{MeetsPlan, MeetTwoPlans};
 use crate::Numbers;
 
@@ -17,9 +17,13 @@ pub fn plan_var(
     work: &mut [f64],
     figures: &mut [f64],
     present: &mut [u8],
+    lowest: &mut [f64],
+    lowest_present: &mut [u8],
+    highest: &mut [f64],
+    highest_present: &mut [u8],
 ) -> u32
     ensures { λ r. ⌜ MeetsPlan (querying starts ends «min_periods» (Variance ddof)) (tracing trace «has_map» map)
-        (lending work figures present) r ⌝ }
+        (lendingThree work figures present lowest «lowest_present» highest «highest_present») r ⌝ }
 {
     rolling::plan_var(
         trace,
@@ -32,6 +36,10 @@ pub fn plan_var(
         work,
         figures,
         present,
+        lowest,
+        lowest_present,
+        highest,
+        highest_present,
     )
 }
 
@@ -49,13 +57,22 @@ pub fn two_plans_var(
     x_work: &mut [f64],
     x_figures: &mut [f64],
     x_present: &mut [u8],
+    x_lowest: &mut [f64],
+    x_lowest_present: &mut [u8],
+    x_highest: &mut [f64],
+    x_highest_present: &mut [u8],
     y_work: &mut [f64],
     y_figures: &mut [f64],
     y_present: &mut [u8],
+    y_lowest: &mut [f64],
+    y_lowest_present: &mut [u8],
+    y_highest: &mut [f64],
+    y_highest_present: &mut [u8],
 ) -> Numbers
     ensures { λ r. ⌜ MeetTwoPlans (querying starts ends «min_periods» (Variance ddof))
         (tracing x «x_has_map» «x_map») (tracing y «y_has_map» «y_map»)
-        (lending «x_work» «x_figures» «x_present») (lending «y_work» «y_figures» «y_present») (r .first) (r .second) ⌝ }
+        (lendingThree «x_work» «x_figures» «x_present» «x_lowest» «x_lowest_present» «x_highest» «x_highest_present»)
+        (lendingThree «y_work» «y_figures» «y_present» «y_lowest» «y_lowest_present» «y_highest» «y_highest_present») (r .first) (r .second) ⌝ }
 {
     let first = rolling::plan_var(
         x,
@@ -68,6 +85,10 @@ pub fn two_plans_var(
         x_work,
         x_figures,
         x_present,
+        x_lowest,
+        x_lowest_present,
+        x_highest,
+        x_highest_present,
     );
     let second = rolling::plan_var(
         y,
@@ -80,6 +101,10 @@ pub fn two_plans_var(
         y_work,
         y_figures,
         y_present,
+        y_lowest,
+        y_lowest_present,
+        y_highest,
+        y_highest_present,
     );
     Numbers { first, second }
 }

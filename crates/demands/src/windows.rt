@@ -5,7 +5,7 @@ ghost use Rattle.trace.specs.Slices.{entering};
 ghost use Rattle.trace.specs.Trace.{tracing};
 ghost use Rattle.window.specs.Pairs.{pairing};
 ghost use Rattle.rolling.specs.Moments.{Variance, Skewness, Kurtosis, Covariance, Correlation};
-ghost use Rattle.rolling.specs.Calls.{lending};
+ghost use Rattle.rolling.specs.Calls.{lending, lendingThree};
 ghost use Rattle.weighted.specs.Weights.{lendingColumn};
 ghost use Rattle.demands.specs.Meets.{MeetsFixed, MeetTwoFixed, MeetsWeights, MeetTwoWeights, MeetsStep};
 use crate::Numbers;
@@ -28,9 +28,13 @@ pub fn rolling_var(
     work: &mut [f64],
     figures: &mut [f64],
     present: &mut [u8],
+    lowest: &mut [f64],
+    lowest_present: &mut [u8],
+    highest: &mut [f64],
+    highest_present: &mut [u8],
 ) -> u32
     ensures { λ r. ⌜ MeetsFixed center «window_size» «min_periods» (Variance ddof) (tracing trace «has_map» map)
-        (lending work figures present) r ⌝ }
+        (lendingThree work figures present lowest «lowest_present» highest «highest_present») r ⌝ }
 {
     moments::moments_rolling_var(
         trace,
@@ -43,6 +47,10 @@ pub fn rolling_var(
         work,
         figures,
         present,
+        lowest,
+        lowest_present,
+        highest,
+        highest_present,
     )
 }
 
@@ -60,13 +68,22 @@ pub fn two_rolling_var(
     x_work: &mut [f64],
     x_figures: &mut [f64],
     x_present: &mut [u8],
+    x_lowest: &mut [f64],
+    x_lowest_present: &mut [u8],
+    x_highest: &mut [f64],
+    x_highest_present: &mut [u8],
     y_work: &mut [f64],
     y_figures: &mut [f64],
     y_present: &mut [u8],
+    y_lowest: &mut [f64],
+    y_lowest_present: &mut [u8],
+    y_highest: &mut [f64],
+    y_highest_present: &mut [u8],
 ) -> Numbers
     ensures { λ r. ⌜ MeetTwoFixed center «window_size» «min_periods» (Variance ddof)
         (tracing x «x_has_map» «x_map») (tracing y «y_has_map» «y_map»)
-        (lending «x_work» «x_figures» «x_present») (lending «y_work» «y_figures» «y_present») (r .first) (r .second) ⌝ }
+        (lendingThree «x_work» «x_figures» «x_present» «x_lowest» «x_lowest_present» «x_highest» «x_highest_present»)
+        (lendingThree «y_work» «y_figures» «y_present» «y_lowest» «y_lowest_present» «y_highest» «y_highest_present») (r .first) (r .second) ⌝ }
 {
     let first = moments::moments_rolling_var(
         x,
@@ -79,6 +96,10 @@ pub fn two_rolling_var(
         x_work,
         x_figures,
         x_present,
+        x_lowest,
+        x_lowest_present,
+        x_highest,
+        x_highest_present,
     );
     let second = moments::moments_rolling_var(
         y,
@@ -91,6 +112,10 @@ pub fn two_rolling_var(
         y_work,
         y_figures,
         y_present,
+        y_lowest,
+        y_lowest_present,
+        y_highest,
+        y_highest_present,
     );
     Numbers { first, second }
 }
