@@ -77,7 +77,8 @@ pub fn two_plans_var(
     ensures { λ r. ⌜ MeetTwoHosts (querying starts ends «min_periods» (Variance ddof))
         (hosting x «x_has_map» «x_map») (hosting y «y_has_map» «y_map») (decoding «x_readings») (decoding «y_readings»)
         (lendingThree «x_work» «x_figures» «x_present» «x_lowest» «x_lowest_present» «x_highest» «x_highest_present»)
-        (lendingThree «y_work» «y_figures» «y_present» «y_lowest» «y_lowest_present» «y_highest» «y_highest_present») (r .first) (r .second) ⌝ }
+        (lendingThree «y_work» «y_figures» «y_present» «y_lowest» «y_lowest_present» «y_highest» «y_highest_present»)
+        (r .first) (r .second) ⌝ }
 {
     let first = moments::moments_plan_var(
         x,

@@ -333,9 +333,10 @@ impl VarianceMoment {
         requires { ⌜ CanWork varStored (rawSeries «has_map» (now map) (now values)) (length (now values)) rows (now starts) (now ends)
             (shortestThree (now figures) (now present) (now lowest) (now «lowest_present») (now highest) (now «highest_present»))
             first until at (opening .window) (opening .«agg_back») (now work) ⌝ }
-        ensures { λ q. ⌜ WorksLent varStored (rawSeriesIn «has_map» map values) (length (entering values)) rows (entering starts) (entering ends)
-            (yields (drivenQuery rows values starts ends (Variance (self .ddof))) (tracing values «has_map» map)) first until
-            (lendingThree work figures present lowest «lowest_present» highest «highest_present») (q .window) (q .«agg_back») ⌝ }
+        ensures { λ q. ⌜ WorksLent varStored (rawSeriesIn «has_map» map values) (length (entering values)) rows (entering starts)
+            (entering ends) (yields (drivenQuery rows values starts ends (Variance (self .ddof))) (tracing values «has_map» map))
+            first until (lendingThree work figures present lowest «lowest_present» highest «highest_present») (q .window)
+            (q .«agg_back») ⌝ }
     {
         let mut w = opening;
         let mut next = at;
