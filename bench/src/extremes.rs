@@ -53,7 +53,7 @@ fn of_plan(bench: &mut Bench, input: &Input, bytes: &[u8], plan_name: &str, (sta
     let (n, plan, setting) = (input.n, Plan::new(&starts, &ends), Setting::var(DDOF));
     for (map, tag) in input.maps() {
         bench.run(
-            Case { section: SECTION, name: format!("plan {plan_name}, {tag}"), aim: Aim::AtMost(1.0), n },
+            Case { section: SECTION, name: format!("plan {plan_name}, {tag}"), aim: Aim::AtMost(0.9), n },
             || Both::new(n, n, setting.work(plan.widest())),
             |both| {
                 let rows = plan.starts.iter().zip(plan.ends).map(|(start, end)| (*start as usize, *end as usize));
@@ -74,7 +74,7 @@ fn of_fixed(bench: &mut Bench, input: &Input, window_name: &str, window: Window)
     let (n, Window { size, center }, setting) = (input.n, window, Setting::var(DDOF));
     for (map, tag) in input.maps() {
         bench.run(
-            Case { section: SECTION, name: format!("fixed {window_name}, {tag}"), aim: Aim::AtMost(1.0), n },
+            Case { section: SECTION, name: format!("fixed {window_name}, {tag}"), aim: Aim::AtMost(0.9), n },
             || Both::new(n, 0, setting.work(size.min(n))),
             |both| rust(&input.x, map, (0..n).map(|i| oracle::offsets(i, size, n, center)), &mut both.rust),
             |both| {
