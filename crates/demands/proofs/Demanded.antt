@@ -163,7 +163,8 @@ module _ {center : Bool} {size minPeriods : ℕ} {a : Statistic} where
         both = λ alike e e′.
             same-answers (fixedQuery center size minPeriods a t) t t′ l l′ alike (fixedCall (fixed-zero c e)) (other t c′ (alike .long) e′);
         both-extremes = λ alike e e′.
-            lowest-highest .two (fixedQuery center size minPeriods a t) t t′ l l′ alike (fixedCall (fixed-zero c e)) (other t c′ (alike .long) e′);
+            lowest-highest .two (fixedQuery center size minPeriods a t) t t′ l l′ alike (fixedCall (fixed-zero c e)) (other t c′
+            (alike .long) e′);
         maps = λ s room. map-law .fixed center size minPeriods a t t′ s l₀ l l₀′ l′ room number number′ c c′;
       }
 

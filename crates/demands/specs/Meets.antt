@@ -1,8 +1,10 @@
--- What the three demands, the statement for pairs of traces and the law of maps say of calls, each as the contract of a function of this
--- crate that makes them: demands 1, 2 and 3 of a call without weights, 3 also of two such calls, or for 2 and 3 the statement, where the
--- figure is of two traces; 1 and 2 of the others, and the law of any two that are lent maps; and what is shown of a step from row to row.
--- What they mean is in `promises` DemandOne, DemandTwo, DemandThree, TwoTraces, Maps and KeptBounds. Lists that are lent come as (before,
--- after). Assumes nothing.
+-- What the three demands, the statement for pairs of traces, that of a window's lowest and highest reading and the law of maps say of
+-- calls,
+-- each as the contract of a function of this crate that makes them: demands 1, 2 and 3 of a call without weights, 3 also of two such
+-- calls, or for 2 and 3 the statement for pairs, where the figure is of two traces; of a variance the other statement too; 1 and 2 of the
+-- others, and the law of any two that are lent maps; and what is shown of a step from row to row. What they mean is in `promises`
+-- DemandOne, DemandTwo, DemandThree, TwoTraces, LowestHighest, Maps and KeptBounds. Lists that are lent come as (before, after). Assumes
+-- nothing.
 use Prim.Native.Nat.{ℕ, _+_, _<_}
 use mathlib.Core.Path.{_≡_}
 use mathlib.Core.Bool.{Bool}
@@ -56,7 +58,7 @@ pub record MeetsHost (q : Query) (h : Host (kindOf (q .statistic)))
       (q .minPeriods) k (l .1)
 
 -- two, with the same plan, the same setting and the same figure: of each what is said of one, of both demand 3 or the statement for pairs
--- of traces, the same of a variance's lowest and highest reading, and the law of maps
+-- of traces, of a variance also that its lowest and highest reading are the same, and the law of maps
 pub record MeetTwoHosts (q : Query) (h h′ : Host (kindOf (q .statistic)))
     (r r′ : ReadingLists (kindOf (q .statistic)) × ReadingLists (kindOf (q .statistic))) (l l′ : Lent × Lent)
     (number number′ : ℕ) : Type 0 where

@@ -1,6 +1,6 @@
 // Plan calls of a host: one, of which all three demands speak, and two of the same plan, setting and figure, of which the third
 // and the law of maps speak; and those of two traces, x and y, of which the statement for pairs of traces speaks in place of demands
-// 2 and 3. Of two such calls the second has the traces u and v.
+// 2 and 3. Of two such calls the second has the traces u and v. Of a variance its lowest and highest reading are spoken of too.
 ghost use Rattle.rolling.specs.Moments.{Variance, Skewness, Kurtosis, Covariance, Correlation};
 ghost use Rattle.rolling.specs.Calls.{querying, lending, lendingThree};
 ghost use Rattle.moments.specs.HostCall.{hosting, decoding, hostingPair, decodingPair};

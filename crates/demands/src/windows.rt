@@ -1,6 +1,7 @@
 // Calls with fixed windows: one, of which all three demands speak, two of the same windows, setting and figure, of which the third does,
 // and those of two traces, as a host's; and with weights, of which the first two speak. Of two calls the law of maps speaks too, with
-// weights as well. Last a step from a row's bounds to the next row's.
+// weights as well, and of a variance without weights its lowest and highest reading are spoken of. Last a step from a row's bounds to
+// the next row's.
 ghost use Rattle.trace.specs.Slices.{entering};
 ghost use Rattle.trace.specs.Trace.{tracing};
 ghost use Rattle.window.specs.Pairs.{pairing};

@@ -20,24 +20,13 @@ use Rattle.window.specs.Readings.{readingOf}
 use Rattle.window.specs.Extremes.{finiteAt, finiteReadings, lower, higher, further, unsignedZero, extreme, shortRow, extremeOf, extremeAt}
 use Rattle.window.specs.Given.{Given}
 use Rattle.window.specs.Outputs.{Lent, ofFigure}
-use Rattle.window.proofs.Extremes.{Extreme, entry-place, place-entry, fold-extreme}
+use Rattle.window.proofs.Extremes.{Extreme, entry-place, place-entry, not-limit, fold-extreme, both, first-of, second-of}
 use Rattle.rolling.specs.Moments.{Statistic, Variance, Skewness, Kurtosis, Covariance, Correlation, kindOf, finalsOf}
 use Rattle.rolling.specs.Calls.{query}
 use Rattle.promises.specs.Calls.{AcceptedCall}
 use Rattle.promises.specs.LowestHighest.{FiniteIn, Short, IsExtreme, ExtremeRow, WhereExtremes, LowestHighest}
 use Rattle.promises.proofs.Accepted.{known}
 use Rattle.promises.proofs.TwoCalls.{alike-answers}
-
-both : (a b : Bool) → a ≡ true → b ≡ true → (a && b) ≡ true
-both a b e f = rw (e, f)
-
-first-of : (a b : Bool) → (a && b) ≡ true → a ≡ true
-first-of true b e = refl
-first-of false b e = apart e
-
-second-of : (a b : Bool) → (a && b) ≡ true → b ≡ true
-second-of true b e = e
-second-of false b e = apart e
 
 module _ (t : Trace) (s e : ℕ) where
   abbrev l : List Float
@@ -84,7 +73,7 @@ module _ (t : Trace) (s e : ℕ) where
         let z = foldl (further beyond) x m in
         let here = List·Memᴰ·head refl in
         ⊎-elim
-        (λ k. apart (sym (v .none-beyond x here (f x here)) ∙ ap (beyond x) k ∙ O .within x (f x here)))
+        (λ k. not-limit beyond limit O x z (f x here) (v .none-beyond x here (f x here)) k)
         (λ o.
         let p = placed z (in-l z (o .1)) in
         record {

@@ -168,7 +168,8 @@ behind-fixed9-accepted = record { number-is = refl; plan-call = record { number-
 pub fixed9 : SameRows 3 (fixedLeft one64 7) (fixedLeft zero64 9) 0 0
 unfolding table bounds
 fixed9 =
-    map-law .fixed false 3 1 (Variance 1) trace9 behind9 same9 (varLent 18) (fixedLeft one64 7) (varLentOf 18 otherColumn) (fixedLeft zero64 9)
+    map-law .fixed false 3 1 (Variance 1) trace9 behind9 same9 (varLent 18) (fixedLeft one64 7) (varLentOf 18 otherColumn)
+    (fixedLeft zero64 9)
     room 0 0 fixed9-accepted behind-fixed9-accepted
 
 -- weights: a longer map is 8, as an exact one is, and no longer 3

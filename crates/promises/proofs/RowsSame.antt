@@ -25,6 +25,7 @@ use Rattle.window.specs.Extremes.{finiteAt, finiteReadings, lower, higher, extr
 use Rattle.window.specs.Outputs.{ofFigure, answersAt}
 use Rattle.window.proofs.Places.{count-all}
 use Rattle.window.proofs.Pairs.{unmapped-both}
+use Rattle.window.proofs.Extremes.{first-of}
 use Rattle.window.proofs.Outputs.{_then_}
 use Rattle.rolling.specs.Moments.{Statistic, Variance, Skewness, Kurtosis, Covariance, Correlation, kindOf}
 use Rattle.rolling.specs.Calls.{figuresBy, extremesBy}
@@ -164,14 +165,11 @@ extremes-same (Variance ddof) t t′ minPeriods p k m v g =
     guards true b c d e f = rw (← e) (f refl)
     guards false b c d e f = rw (← e)
 
-    holds : (a b : Bool) → (a && b) ≡ true → a ≡ true
-    holds true b e = refl
-    holds false b e = e
-
     readings : finiteReadings t (rowStart p k) (rowEnd p k) ≡ finiteReadings t′ (rowStart p k) (rowEnd p k)
     readings =
         entries-same (finiteAt t) (finiteAt t′) (readingOf (t .readings)) (readingOf (t′ .readings)) (rowStart p k) (rowEnd p k)
-        (λ i x l. guards _ _ _ _ (v i x l) (λ e. ap finite (g i x l e))) (λ i x l e. g i x l (holds _ _ e))
+        (λ i x l. guards _ _ _ _ (v i x l) (λ e. ap finite (g i x l e))) (λ i x l e. g i x l (first-of (validAt (t .mapped)
+        (t .map) i) _ e))
 
     same : (beyond : Float → Float → Bool) → extremeAt beyond t minPeriods p k ≡ extremeAt beyond t′ minPeriods p k
     same beyond = λ j. cond (shortRow (m j) minPeriods (rowStart p k) (rowEnd p k)) Missing (extreme beyond (readings j))

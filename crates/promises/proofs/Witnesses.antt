@@ -28,7 +28,8 @@ use Rattle.window.specs.Readings.{insertedAt, nonfiniteAt, readingOf}
 use Rattle.window.specs.Given.{Readings, SameAt}
 use Rattle.window.specs.Rows.{answerAt}
 use Rattle.window.specs.Extremes.{lower, higher, extreme, extremeOf, extremeAt}
-use Rattle.window.specs.Outputs.{Column, Lent, column, outputsOf, filled, kept, columnAfter, answered, numbered, Answer, answersIn, answersAt}
+use Rattle.window.specs.Outputs.{Column, Lent, column, outputsOf, filled, kept, columnAfter, answered, numbered, Answer, answersIn}
+use Rattle.window.specs.Outputs.{answersAt}
 use Rattle.rolling.specs.Moments.{Variance, Skewness, Kurtosis, workWidth}
 use Rattle.rolling.specs.Calls.{Query, query, GivenTo, figuresOf, yields, tallies, Left, Called}
 use Rattle.rolling.specs.Fixed.{fixedQuery, CalledFixed}
@@ -330,7 +331,8 @@ abbrev mappedLeft : Lent
 mappedLeft = varLeft 18 mapped mapPlan 1 (two64 ∷ ofNat64 8 ∷ one64 ∷ one64 ∷ []) (1 ∷ 1 ∷ 7 ∷ 7 ∷ [])
 
 abbrev otherMappedLeft : Lent
-otherMappedLeft = varLeft 18 otherMapped mapPlan 1 (ofBits binary64 0x4029000000000000 ∷ ofNat64 8 ∷ one64 ∷ one64 ∷ []) (1 ∷ 1 ∷ 7 ∷ 7 ∷ [])
+otherMappedLeft = varLeft 18 otherMapped mapPlan 1 (ofBits binary64 0x4029000000000000 ∷ ofNat64 8 ∷ one64 ∷ one64 ∷ [])
+    (1 ∷ 1 ∷ 7 ∷ 7 ∷ [])
 
 mapped-accepted : Called (varianceBy mapPlan 1) mapped (varLent 18) mappedLeft 0
 unfolding table refusal _orElse_ wrongMap planRefusal filled kept ofBits ofInt add sub mul div eq lt le varClear varCombine varFinalize
@@ -419,7 +421,8 @@ abbrev fullMap : Trace
 fullMap = traceOf (ofNat64 2 ∷ ofNat64 7 ∷ ofNat64 4 ∷ ofNat64 8 ∷ []) true (15 ∷ [])
 
 abbrev fullLeft : Lent
-fullLeft = varLeft 18 fullMap mapPlan 1 (ofBits binary64 0x4019555555555555 ∷ ofBits binary64 0x4011555555555557 ∷ one64 ∷ one64 ∷ []) (1 ∷ 1 ∷ 7 ∷ 7 ∷ [])
+fullLeft = varLeft 18 fullMap mapPlan 1 (ofBits binary64 0x4019555555555555 ∷ ofBits binary64 0x4011555555555557 ∷ one64 ∷ one64 ∷ [])
+    (1 ∷ 1 ∷ 7 ∷ 7 ∷ [])
 
 full-accepted : Called (varianceBy mapPlan 1) fullMap (varLent 18) fullLeft 0
 unfolding table refusal _orElse_ wrongMap planRefusal filled kept ofBits ofInt add sub mul div eq lt le varClear varCombine varFinalize

@@ -1,7 +1,8 @@
 -- Document 02, request 4: "Rolling variance without weights shall also give, each as one double and one byte, the lowest and highest finite
 -- valid reading of the window, a zero of either sign as +0.0, both missing when there is none. They are given also where the variance is
 -- missing, except in a row without a map that is shorter than the minimum, where both are missing." What is said is of the window's places
--- alone: neither the account, nor a 0.0 that is entered for a bad reading, nor a reading that has left the window can show. Assumes nothing.
+-- alone: neither the account, nor a 0.0 that is entered for a bad reading, nor a reading that has left the window can show. Assumes
+-- nothing.
 use Prim.Native.Nat.{ℕ, _-_, _≤_, _<_}
 use mathlib.Core.Path.{_≡_}
 use mathlib.Core.Bool.{Bool, true, false, cond}
@@ -34,7 +35,8 @@ pub record Short (t : Trace) (s e minPeriods : ℕ) : Type 0 where
   pub without : t .mapped ≡ false
   pub shorter : e - s < minPeriods
 
--- x is "the lowest" or the "highest finite valid reading of the window, a zero of either sign as +0.0": it is one of them, and none is beyond
+-- x is "the lowest" or the "highest finite valid reading of the window, a zero of either sign as +0.0": it is one of them, and none is
+-- beyond it
 pub record IsExtreme (beyond : Float → Float → Bool) (t : Trace) (s e : ℕ) (x : Float) : Type 0 where
   pub place : ℕ
   pub stands : FiniteIn t s e place
@@ -67,7 +69,8 @@ WhereExtremes (Kurtosis fisher bias) t p minPeriods k l = Unit {0}
 WhereExtremes (Covariance ddof) t p minPeriods k l = Unit {0}
 WhereExtremes Correlation t p minPeriods k l = Unit {0}
 
--- what demand 3 says of figures, of the lowest and highest: at every row in whose window both traces hold the same bits at every valid place
+-- what demand 3 says of figures, of the lowest and highest: at every row in whose window both traces hold the same bits at every valid
+-- place
 abbrev pub SameExtremes : (q : Query) (t t′ : GivenTo q) → Lent → Lent → Type 0
 SameExtremes q t t′ l l′ =
     (k : ℕ) → k < rows (q .plan) → Agree (kindOf (q .statistic)) t t′ (rowStart (q .plan) k) (rowEnd (q .plan) k)
@@ -81,5 +84,6 @@ pub record LowestHighest : Type 0 where
   -- of two calls
   pub two : (q : Query) (t t′ : GivenTo q) (l l′ : Lent) → Alike (kindOf (q .statistic)) t t′ → AcceptedCall q t l → AcceptedCall q t′ l′
       → SameExtremes q t t′ l l′
-  -- "a zero of either sign as +0.0", and every other finite double as it is
+  -- "a zero of either sign as +0.0", and every other finite double as it is. `fits` says that x is a double, as every f64 is: a float of
+  -- the logic need not be one
   pub unsigned : (x : Float) → T (fits binary64 x) → finite x ≡ true → unsignedZero x ≡ cond (eq x zero64) zero64 x

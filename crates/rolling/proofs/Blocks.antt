@@ -242,13 +242,15 @@ module _ (bias has : Bool) (map : List ℕ) (values : List Float) (r : Rows) (st
                 worked = record { standing = f .worked .standing; rest = f .worked .rest ∙ v .works .worked .rest };
                 written = (
                   record {
-                    doubles-are = fills-part (λ j. doubleOf (Answer j)) (doubleAt bias m2s' m3s' factors') 0 first until figures₀ figures figures' out
+                    doubles-are = fills-part (λ j. doubleOf (Answer j))
+                        (doubleAt bias m2s' m3s' factors') 0 first until figures₀ figures figures' out
                         rises (v .works .written .0 .doubles-are)
                         (λ i k.
                         let n : first + i - first ≡ i = omega arith in
                         ap (doubleAt bias m2s' m3s' factors') (sym n) ∙ f .doubles (first + i) (omega arith) (omega arith))
                         (g ∙ ap (table (doubleAt bias m2s' m3s' factors')) m) e;
-                    bytes-are = fills-both (λ j. byteOf (Answer j)) 0 first until present₀ present present' rises (v .works .written .0 .bytes-are)
+                    bytes-are = fills-both (λ j. byteOf (Answer j)) 0 first until present₀ present present' rises
+                        (v .works .written .0 .bytes-are)
                         (f .bytes);
                   },
                   tt,

@@ -1,4 +1,5 @@
--- What the stacks of variance keep is the variance of readings with zeros for those that are not finite, and their lowest and highest: by the
+-- What the stacks of variance keep is the variance of readings with zeros for those that are not finite, and their lowest and highest:
+-- by the
 -- laws of what two moments keep alike and of numbers that readings widen. Assumes nothing.
 use Prim.Native.Nat.{ℕ}
 use mathlib.Core.Path.{_≡_, refl, ap, _∙_}
@@ -65,7 +66,8 @@ not-beyond-highest (inf false) = refl
 not-beyond-highest (fin s m e) = refl
 
 module _ (w : Window) (agg : VarExtremes) (work : List Float) (q : Weighed varStates varWeight w agg work) where
-  counts : varCombine (agg .var) (topOf varStored work (w .front) .var) ≡ cond (eqb (w .front) 0) (agg .var) (varMerged (agg .var) (topOf varStored work (w .front) .var))
+  counts : varCombine (agg .var) (topOf varStored work (w .front) .var) ≡ cond (eqb (w .front) 0) (agg .var) (varMerged (agg .var)
+      (topOf varStored work (w .front) .var))
   counts = let h = q .few in var-by-counts (agg .var) _ (w .back) (w .front) (omega arith) (q .back-is) (q .front-is)
 
   pub extremes-alone : w .front ≡ 0 → stateBy varStored w agg work ≡ agg
@@ -73,8 +75,10 @@ module _ (w : Window) (agg : VarExtremes) (work : List Float) (q : Weighed varSt
   extremes-alone z =
       let e = eq-eqb (w .front) 0 z in
       let c : varCombine (agg .var) (topOf varStored work (w .front) .var) ≡ agg .var = counts ∙ rw e in
-      let l : further lower (agg .lowest) (topOf varStored work (w .front) .lowest) ≡ agg .lowest = rw e (rw (not-beyond-lowest (agg .lowest))) in
-      let h : further higher (agg .highest) (topOf varStored work (w .front) .highest) ≡ agg .highest = rw e (rw (not-beyond-highest (agg .highest))) in
+      let l : further lower (agg .lowest) (topOf varStored work (w .front) .lowest) ≡ agg .lowest = rw e (rw (not-beyond-lowest
+      (agg .lowest))) in
+      let h : further higher (agg .highest) (topOf varStored work (w .front) .highest) ≡ agg .highest = rw e (rw (not-beyond-highest
+      (agg .highest))) in
       λ j. record { var = c j; lowest = l j; highest = h j }
 
   pub extremes-both : (w .front ≡ 0 → ⊥) → stateBy varStored w agg work ≡ extremesMerged agg (topOf varStored work (w .front))
@@ -96,7 +100,8 @@ abbrev keeps-highest : Keeps higher (inf true) higher-orders varianceExtremes
 keeps-highest = record { of = λ s. s .highest; empties = refl; inserts = λ s x. refl; combines = λ s o. refl }
 
 -- of row k, by the window after its step
-module _ (has : Bool) (map : List ℕ) (values : List Float) (minPeriods widest k : ℕ) (p : Plan) (w : Window) {s e : ℕ} {w' : Window} {agg' : VarExtremes}
+module _ (has : Bool) (map : List ℕ) (values : List Float) (minPeriods widest k : ℕ) (p : Plan)
+    (w : Window) {s e : ℕ} {w' : Window} {agg' : VarExtremes}
     {work work' : List Float} (q : Stepped varStored (rawSeries has map values) widest minPeriods k s e w work w' agg' work')
     (s-is : s ≡ rowStart p k) (e-is : e ≡ rowEnd p k) {state : VarExtremes} (state-is : state ≡ stateBy varStored w' agg' work')
     {short : Bool} (short-is : short ≡ shortRow has minPeriods s e) {x : Figure} where

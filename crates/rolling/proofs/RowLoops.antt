@@ -24,7 +24,8 @@ use Rattle.window.specs.declared.Window.{Window}
 use Rattle.window.proofs.Rows.{stand-start}
 use Rattle.window.proofs.Steps.{Working, work-starts, work-done, work-listed, work-movable, work-fits, work-next, work-answer}
 use Rattle.window.proofs.Outputs.{columns-none, columns-next, columns-there, columns-all, long-same, long-next, _then_}
-use Rattle.rolling.specs.Code.Rows.{bothHave, planBy, SameMany, RowIn, RowBounds, Ahead, Driven, rowAnswer, CanWork, HasWorked, Works, WorksColumns}
+use Rattle.rolling.specs.Code.Rows.{bothHave, planBy, SameMany, RowIn, RowBounds, Ahead, Driven, rowAnswer, CanWork, HasWorked}
+use Rattle.rolling.specs.Code.Rows.{Works, WorksColumns}
 use Rattle.rolling.specs.declared.row.Rows.{Rows}
 
 -- as many rows as `how_many` answers
@@ -87,7 +88,13 @@ module _ {A : Type 0} (M : Stored Float A) (t : Series A) (n : ℕ) (r : Rows) (
       (can : CanWork M t n r starts ends (shortestOf (answerLengths cs₀)) first until at₀ w₀ agg₀ work₀) where
     pub columns-start : length cs₀ ≡ length fs → ColumnTurn w₀ agg₀ at₀ work₀ cs₀ first
     columns-start e =
-        record { ahead = can .ahead; working = work-starts M t (can .workable); same = long-same cs₀; written = columns-none fs first cs₀ e }
+        record {
+          ahead = can .ahead;
+          working = work-starts M t
+              (can .workable);
+          same = long-same cs₀;
+          written = columns-none fs first cs₀ e;
+        }
 
     module _ {w : Window} {agg : M .moment .State} {at : Offsets} {work : List Float} {cs : List Column} {k : ℕ}
         (v : ColumnTurn w agg at work cs k) where
@@ -119,7 +126,8 @@ module _ {A : Type 0} (M : Stored Float A) (t : Series A) (n : ℕ) (r : Rows) (
             (q : Stepped M t (r .widest) (r .«min_periods») k (at .start) (at .end) w work w' agg' work')
             (same : length work' ≡ length work) where
           pub columns-fits : (M .inFront .width * w' .front ≤ length work') × (w' .front + w' .back ≤ 2 ^ 53) × (at .start ≤ at .end)
-          columns-fits = work-fits M t (can .workable) (v .working) more (columns-row .bounds .start-is) (columns-row .bounds .end-is) q same
+          columns-fits = work-fits M t (can .workable) (v .working) more (columns-row .bounds .start-is)
+              (columns-row .bounds .end-is) q same
 
           -- the figure of a `finalize`
           pub columns-answer : (final : M .moment .State → Figure) {f : Figure}
@@ -128,12 +136,14 @@ module _ {A : Type 0} (M : Stored Float A) (t : Series A) (n : ℕ) (r : Rows) (
           columns-answer final g =
               work-answer M t (can .workable) (v .working) more (columns-row .bounds .start-is) (columns-row .bounds .end-is) q same final g
 
-          pub columns-turn : {xs : List Figure} {cs' : List Column} {at' : Offsets} → xs ≡ rowOf fs k → RowsSet k xs cs cs' → Ahead p (k + 1) at'
+          pub columns-turn : {xs : List Figure} {cs' : List Column} {at' : Offsets} → xs ≡ rowOf fs k → RowsSet k xs cs cs'
+              → Ahead p (k + 1) at'
               → ColumnTurn w' agg' at' work' cs' (k + 1)
           columns-turn {xs} {cs'} e o h =
               record {
                 ahead = h;
-                working = work-next M t (can .workable) (v .working) more (columns-row .bounds .start-is) (columns-row .bounds .end-is) q same;
+                working = work-next M t (can .workable) (v .working) more (columns-row .bounds .start-is)
+                    (columns-row .bounds .end-is) q same;
                 same = long-next k xs cs₀ cs cs' (v .same) o;
                 written = columns-next fs first k xs cs₀ cs cs' (v .written) e o;
               }
@@ -148,7 +158,8 @@ module _ {A : Type 0} (M : Stored Float A) (final : M .moment .State → Figure)
   cs₀ = column figures₀ present₀ ∷ []
 
   abbrev pub Turn : Window → M .moment .State → Offsets → List Float → List Float → List ℕ → ℕ → Type 0
-  Turn w agg at work figures present k = ColumnTurn M t n r starts ends fs first until work₀ cs₀ w agg at work (column figures present ∷ []) k
+  Turn w agg at work figures present k = ColumnTurn M t n r starts ends fs first until work₀ cs₀ w agg at work
+      (column figures present ∷ []) k
 
   module _ {w₀ : Window} {agg₀ : M .moment .State} {at₀ : Offsets}
       (can : CanWork M t n r starts ends (min (length figures₀) (length present₀)) first until at₀ w₀ agg₀ work₀) where
@@ -178,7 +189,8 @@ module _ {A : Type 0} (M : Stored Float A) (final : M .moment .State → Figure)
 
           pub turn-next : {f : Figure} {figures' : List Float} {present' : List ℕ} {at' : Offsets}
               → f ≡ answerBy M final (t .places .mapped) (r .«min_periods») (at .start) (at .end) w' agg' work'
-              → RowSet k f figures figures' present present' → Ahead (planBy r n starts ends) (k + 1) at' → Turn w' agg' at' work' figures' present' (k + 1)
+              → RowSet k f figures figures' present present' → Ahead (planBy r n starts ends) (k + 1) at'
+              → Turn w' agg' at' work' figures' present' (k + 1)
           turn-next {f} g o h =
               let a = columns-answer M t n r starts ends fs first until work₀ cs₀ can v more q same final g in
               columns-turn M t n r starts ends fs first until work₀ cs₀ can v more q same {xs = f ∷ []} (a then refl) (o, tt) h

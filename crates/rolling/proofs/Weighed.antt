@@ -88,9 +88,12 @@ module _ (m : ReadingStates) (q : Weighs m) where
       q .plain agg x (length (drop j B)) (omega arith) (ap (q .weight) (f .agg-is) ∙ falls-count (q .weight) (m .moment .insert) (raising (q .weight) (m .moment .insert) (q .raises)) (drop j B) (m .moment .empty) (q .none) (omega arith))
 
   -- nor does a turn of an append
-  pub append-inserted : (has : Bool) (map : List ℕ) (values : List Float) (entry : ℕ → Float) (l₀ : List Float) (n nonfinite₀ : ℕ) (s₀ : m .moment .State) (a e : ℕ) {l : List Float} {many nonfinite : ℕ} {s : m .moment .State} {i : ℕ} →
+  pub append-inserted : (has : Bool) (map : List ℕ) (values : List Float) (entry : ℕ
+      → Float) (l₀ : List Float) (n nonfinite₀ : ℕ) (s₀ : m .moment .State)
+      (a e : ℕ) {l : List Float} {many nonfinite : ℕ} {s : m .moment .State} {i : ℕ} →
       Appending m has map values entry l₀ n nonfinite₀ s₀ a e l many nonfinite s i → i < e
-      → Appendable (ofReadings m) (record { places = placesBy has map values; entry = entry }) a e (length values) n nonfinite₀ l₀ → q .weight s₀ ≡ ofNat64 n →
+      → Appendable (ofReadings m) (record { places = placesBy has map values; entry = entry }) a e (length values) n nonfinite₀ l₀
+      → q .weight s₀ ≡ ofNat64 n →
       (x : Float) → q .inserted s x ≡ m .moment .insert s x
   append-inserted has map values entry l₀ n nonfinite₀ s₀ a e {s = s} {i = i} f more can w x =
       let l = entries (validAt has map) entry a i in

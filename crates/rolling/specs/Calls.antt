@@ -16,7 +16,8 @@ use Rattle.window.specs.Given.{Given, seriesOf, placesOf, givenRefusal}
 use Rattle.window.specs.Rows.{answerAt}
 use Rattle.window.specs.Extremes.{lower, higher, extremeAt}
 use Rattle.window.specs.Outputs.{Column, Outputs, Lent, column, outputsOf, kept, answered, numbered, shortestOutput}
-use Rattle.rolling.specs.Moments.{Statistic, Variance, Skewness, Kurtosis, Covariance, Correlation, kindOf, momentOf, finalsOf, workWidth}
+use Rattle.rolling.specs.Moments.{Statistic, Variance, Skewness, Kurtosis, Covariance, Correlation}
+use Rattle.rolling.specs.Moments.{kindOf, momentOf, finalsOf, workWidth}
 
 -- a plan, which figure, and a setting: "the minimum that Rows tests and what the figure's `finalize` takes beside the state"
 pub record Query : Type 0 where
@@ -89,11 +90,12 @@ pub record Called (q : Query) (t : GivenTo q) (l₀ l₁ : Lent) (number : ℕ) 
 abbrev pub querying : Slice ℕ → Slice ℕ → ℕ → Statistic → Query
 querying starts ends minPeriods statistic = query (planning starts ends) minPeriods statistic
 
--- the columns that lists of doubles and bytes are, before and after
+-- the columns that lists of doubles and bytes are, before a call
 abbrev pub columnsBefore : List (Slice Float × Slice ℕ) → List Column
 columnsBefore [] = []
 columnsBefore (c ∷ cs) = column (entering (c .0)) (entering (c .1)) ∷ columnsBefore cs
 
+-- and after it
 abbrev pub columnsAfter : List (Slice Float × Slice ℕ) → List Column
 columnsAfter [] = []
 columnsAfter (c ∷ cs) = column (leaving (c .0)) (leaving (c .1)) ∷ columnsAfter cs

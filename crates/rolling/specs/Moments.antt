@@ -81,8 +81,8 @@ finalsOf (Kurtosis fisher bias) = (λ s. kurtosisFinalize s fisher bias) ∷ []
 finalsOf (Covariance ddof) = (λ s. covFinalize s ddof) ∷ []
 finalsOf Correlation = correlationFinalize ∷ []
 
--- Work slice: "skewness 5, kurtosis 6 doubles", "6 doubles for covariance and 8 for correlation", and of request 4 "work becomes 6 doubles a
--- place for variance"
+-- Work slice: "skewness 5, kurtosis 6 doubles", "6 doubles for covariance and 8 for correlation", and of request 4 "work becomes 6 doubles
+-- a place for variance"
 abbrev pub workWidth : Statistic → ℕ
 workWidth (Variance ddof) = 6
 workWidth (Skewness bias) = 5

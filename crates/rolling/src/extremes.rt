@@ -16,12 +16,14 @@ pub struct VarExtremes {
     pub highest: f64,
 }
 
+// Where there is no finite reading: above every one.
 fn no_lowest() -> f64
     ensures { λ r. ⌜ r ≡ inf false ⌝ }
 {
     1.0 / 0.0
 }
 
+// The same below every one.
 fn no_highest() -> f64
     ensures { λ r. ⌜ r ≡ inf true ⌝ }
 {

@@ -88,7 +88,7 @@ pub(crate) fn moves(has_map: bool, min_periods: usize, row: usize, start: usize,
     row == 0
 }
 
-// Whether a row is short without a map: it then shows no lowest and no highest reading.
+// Whether a row without a map is shorter than the minimum: such a row shows no lowest and no highest reading, row 0 too.
 pub(crate) fn is_short(has_map: bool, min_periods: usize, start: usize, end: usize) -> bool
     requires { ⌜ start ≤ end ⌝ }
     ensures { λ r. ⌜ r ≡ shortRow «has_map» «min_periods» start end ⌝ }

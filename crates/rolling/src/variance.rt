@@ -75,8 +75,7 @@ impl VarianceMoment {
         VarExtremes::empty()
     }
 
-    // The n readings of the back stack become the front stack, the last of them at its bottom. The weight counts them, so that
-    // `insert_one` has nothing to clear.
+    // The n readings of the back stack become the front stack, the last of them at its bottom.
     fn flip(work: &mut [f64], base: usize, n: usize)
         requires { ⌜ Flippable varStored base n (now work) ⌝ }
         ensures { λ _. ⌜ Flipped varStored base n (entering work) (leaving work) ⌝ }

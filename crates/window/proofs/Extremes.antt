@@ -96,7 +96,7 @@ module _ (beyond : Float → Float → Bool) (limit : Float) (O : Orders beyond 
   extreme-none = record { none-beyond = λ x m f. absurd (List·Memᴰ·not-nil m); is-one = inl refl }
 
   -- a finite reading lies beyond the limit, so one that nothing is beyond is not the limit
-  not-limit : {A : Type 0} (x y : Float) → finite x ≡ true → beyond x y ≡ false → y ≡ limit → A
+  pub not-limit : {A : Type 0} (x y : Float) → finite x ≡ true → beyond x y ≡ false → y ≡ limit → A
   not-limit x y f b e = apart (sym b ∙ ap (beyond x) e ∙ O .within x f)
 
   -- the limit is beyond none
@@ -145,7 +145,8 @@ module _ (beyond : Float → Float → Bool) (limit : Float) (O : Orders beyond 
   alone x false f =
       record { none-beyond = λ u m g. apart (sym f ∙ ap finite (sym (List·Memᴰ·eq-of-singleton m)) ∙ g); is-one = inl refl }
 
-  wider : (l : List Float) (y x : Float) → Extreme l y → (f : Bool) → finite x ≡ f → further beyond y (cond f x limit) ≡ cond f (further beyond y x) y
+  wider : (l : List Float) (y x : Float) → Extreme l y → (f : Bool) → finite x ≡ f
+      → further beyond y (cond f x limit) ≡ cond f (further beyond y x) y
   wider l y x v true f = refl
   wider l y x v false f = rw (limit-last l y v)
 
@@ -158,7 +159,8 @@ module _ (beyond : Float → Float → Bool) (limit : Float) (O : Orders beyond 
 
   pub one-behind : (l : List Float) (x y : Float) → Extreme l y → Extreme (l ++ (x ∷ [])) (widened beyond y x)
   one-behind l x y v =
-      one-more l (l ++ (x ∷ [])) x (λ u m. List·Memᴰ·append-cases l m) (λ u m. Memᴰ·append-left (x ∷ []) m) (λ u m. Memᴰ·append-right l m) y v
+      one-more l (l ++ (x ∷ [])) x (λ u m. List·Memᴰ·append-cases l m) (λ u m. Memᴰ·append-left (x ∷ []) m)
+      (λ u m. Memᴰ·append-right l m) y v
 
   one-before : (l : List Float) (x y : Float) → Extreme l y → Extreme (x ∷ l) (widened beyond y x)
   one-before l x y v =
@@ -187,7 +189,8 @@ module _ (beyond : Float → Float → Bool) (limit : Float) (O : Orders beyond 
     pub parts-extreme : (F B : List Float) → Extreme (F ++ B) (K .of (M .combine (rising M (M .empty) B) (falling M F)))
     parts-extreme F B =
         rw (K .combines (rising M (M .empty) B) (falling M F))
-        (join B F (F ++ B) (λ x m. ⊎-elim inr inl (List·Memᴰ·append-cases F m)) (λ x m. Memᴰ·append-right F m) (λ x m. Memᴰ·append-left B m) _ _
+        (join B F (F ++ B) (λ x m. ⊎-elim inr inl (List·Memᴰ·append-cases F m)) (λ x m. Memᴰ·append-right F m)
+        (λ x m. Memᴰ·append-left B m) _ _
         (rising-from [] B (M .empty) (rw (K .empties) extreme-none)) (falling-all F))
 
   -- ---- and the definition's
@@ -206,7 +209,8 @@ module _ (beyond : Float → Float → Bool) (limit : Float) (O : Orders beyond 
       → Extreme (x ∷ l) (foldl (further beyond) x l)
   fold-extreme x l f =
       let g = f x (List·Memᴰ·head refl) in
-      folded (x ∷ []) l x (subst (λ (b : Bool). Extreme (x ∷ []) (cond b x limit)) g (alone x (finite x) refl)) (λ u m. f u (List·Memᴰ·tail m))
+      folded (x ∷ []) l x (subst (λ (b : Bool). Extreme (x ∷ []) (cond b x limit)) g (alone x (finite x) refl)) (λ u m. f u
+      (List·Memᴰ·tail m))
 
   -- two of them have the same bits, with an unsigned zero
   same-bits : (l m : List Float) (y z : Float) → ((x : Float) → List·Memᴰ x l → finite x ≡ true → List·Memᴰ x m)
@@ -220,7 +224,8 @@ module _ (beyond : Float → Float → Bool) (limit : Float) (O : Orders beyond 
       → shown y ≡ extreme beyond m
   unfolding shown extreme
   shown-is l [] y to back f v =
-      ⊎-elim (λ e. let h : finite y ≡ false = ap finite e ∙ O .limit-out in rw h) (λ o. absurd (List·Memᴰ·not-nil (to y (o .1) (o .0)))) (v .is-one)
+      ⊎-elim (λ e. let h : finite y ≡ false = ap finite e ∙ O .limit-out in rw h) (λ o. absurd (List·Memᴰ·not-nil (to y (o .1)
+      (o .0)))) (v .is-one)
   shown-is l (x ∷ m) y to back f v =
       let i = List·Memᴰ·head refl in
       let z = foldl (further beyond) x m in
@@ -234,14 +239,14 @@ module _ (beyond : Float → Float → Bool) (limit : Float) (O : Orders beyond 
       (v .is-one)
 
 -- ---- a row's, by the window after its step
-both : (a b : Bool) → a ≡ true → b ≡ true → (a && b) ≡ true
+pub both : (a b : Bool) → a ≡ true → b ≡ true → (a && b) ≡ true
 both a b e f = rw (e, f)
 
-first-of : (a b : Bool) → (a && b) ≡ true → a ≡ true
+pub first-of : (a b : Bool) → (a && b) ≡ true → a ≡ true
 first-of true b e = refl
 first-of false b e = apart e
 
-second-of : (a b : Bool) → (a && b) ≡ true → b ≡ true
+pub second-of : (a b : Bool) → (a && b) ≡ true → b ≡ true
 second-of true b e = e
 second-of false b e = apart e
 

@@ -121,7 +121,8 @@ columns-next fs first k xs cs₀ cs cs' v e o = go fs cs₀ cs cs' v (subst (λ 
     go [] [] [] [] v o = tt
     go (f ∷ fs) (c₀ ∷ cs₀) (c ∷ cs) (c' ∷ cs') v o = (
       record {
-        doubles-are = fills-next (λ j. doubleOf (f j)) first k (c₀ .doubles) (c .doubles) (c' .doubles) (doubleOf (f k)) (v .0 .doubles-are) refl
+        doubles-are = fills-next (λ j. doubleOf (f j)) first k (c₀ .doubles) (c .doubles) (c' .doubles) (doubleOf (f k))
+            (v .0 .doubles-are) refl
             (o .0 .figures-are);
         bytes-are = fills-next (λ j. byteOf (f j)) first k (c₀ .bytes) (c .bytes) (c' .bytes) (byteOf (f k)) (v .0 .bytes-are) refl
             (o .0 .present-are);

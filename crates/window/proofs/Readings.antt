@@ -86,7 +86,8 @@ module _ (m : ReadingStates) (has : Bool) (map : List ℕ) (values : List Float)
     appending-nonfinite = append-nonfinite-le (ofReadings m) over l₀ n nonfinite₀ s₀ a e p more fits
 
     pub appending-hit : validAt has map i ≡ true → (x : Float) → x ≡ entry i → (u : m .moment .State) → u ≡ m .moment .insert s x
-        → (b : Bool) → finite (readingOf values i) ≡ b → (k : ℕ) → k ≡ nonfinite + boolByte (not b) → Appending (set l at x) (at + 1) k u (i + 1)
+        → (b : Bool) → finite (readingOf values i) ≡ b → (k : ℕ) → k ≡ nonfinite + boolByte (not b)
+        → Appending (set l at x) (at + 1) k u (i + 1)
     unfolding nonfiniteAt
     appending-hit v x f u g b c k d =
         append-hit (ofReadings m) over l₀ n nonfinite₀ s₀ a e p more fits v at (sym (one-mul at)) x f u g (not b) (rw (v, c)) k d
@@ -111,7 +112,8 @@ module _ (m : ReadingStates) (has : Bool) (map : List ℕ) (values l₀ : List F
       Next (set l at (readingOf values i)) nonfinite u
   unfolding insertedAt
   appending-finite f u g =
-      appending-hit m has map values (insertedAt values) l₀ n nonfinite₀ s₀ a e p more can v (readingOf values i) (rw f) u g true f nonfinite
+      appending-hit m has map values (insertedAt values) l₀ n nonfinite₀ s₀ a e p more can v (readingOf values i)
+      (rw f) u g true f nonfinite
       (sym (add-zero nonfinite))
 
   pub appending-zero : finite (readingOf values i) ≡ false → (u : m .moment .State) → u ≡ m .moment .insert s zero64 →

@@ -36,19 +36,23 @@ plan-refusal-requires c κs = search needs
 
 -- what the host lends, and the plan
 abbrev lends : tie.After-plan-refusal → ByteTrace
-lends k = let g = k .before .before .before .before .before .before .before .before .before .before .before .before .before .before .before .before .args in record { bytes = g .trace .now; mapped = g .has-map; map = g .map .now }
+lends k = let g = k .before .before .before .before .before .before .before .before .before .before .before .before .before .before
+    .before .before .args in record { bytes = g .trace .now; mapped = g .has-map; map = g .map .now }
 
 abbrev plan : tie.After-plan-refusal → Plan
-plan k = let g = k .before .before .before .before .before .before .before .before .before .before .before .before .before .before .before .before .args in planOf (g .starts .now) (g .ends .now)
+plan k = let g = k .before .before .before .before .before .before .before .before .before .before .before .before .before .before
+    .before .before .args in planOf (g .starts .now) (g .ends .now)
 
 abbrev room : tie.After-plan-refusal → List Float
-room k = k .before .before .before .before .before .before .before .before .before .before .before .before .before .before .before .before .args .readings .now
+room k = k .before .before .before .before .before .before .before .before .before .before .before .before .before .before .before
+    .before .args .readings .now
 
 returns-2 : tie.Need-returns-2
 returns-2 c =
     let k = c .before .before in
     record {
-      number-is = host-number (lends k) (plan k) (length (room k)) (k .before .before .before .if1 .left) (k .before .before .array-refusal .ensures) (k .before .shortest .ensures) (k .plan-refusal .ensures);
+      number-is = host-number (lends k) (plan k) (length (room k)) (k .before .before .before .if1 .left)
+          (k .before .before .array-refusal .ensures) (k .before .shortest .ensures) (k .plan-refusal .ensures);
       readings-are = unfilled _ _ _ _ (c .if2 .taken);
       left = refused-left _ _ _ _ (record { answers = refl; counts = refl }) (c .if2 .taken);
     }
@@ -60,13 +64,16 @@ slice-reshare-prefix-plan-var : tie.Need-slice-reshare-prefix-plan-var
 slice-reshare-prefix-plan-var c =
     let k = c .before .before .before .before .before .before in
     rw (c .before .before .decode .kept .1 .0)
-    (host-room (lends k) (plan k) (length (room k)) (k .before .before .before .if1 .left) (k .before .before .array-refusal .ensures) (k .before .shortest .ensures) (k .plan-refusal .ensures) (c .before .before .before .before .if2 .left))
+    (host-room (lends k) (plan k) (length (room k)) (k .before .before .before .if1 .left) (k .before .before .array-refusal .ensures)
+    (k .before .shortest .ensures) (k .plan-refusal .ensures) (c .before .before .before .before .if2 .left))
 
 slice-aggregate-plan-var : tie.Need-slice-aggregate-plan-var
 slice-aggregate-plan-var c =
     let k = c .before .before .before .before .before .before .before in
     let o = c .before .before .before .decode .kept .1 .0 in
-    let h = host-room (lends k) (plan k) (length (room k)) (k .before .before .before .if1 .left) (k .before .before .array-refusal .ensures) (k .before .shortest .ensures) (k .plan-refusal .ensures) (c .before .before .before .before .before .if2 .left) in
+    let h = host-room (lends k) (plan k) (length (room k)) (k .before .before .before .if1 .left)
+    (k .before .before .array-refusal .ensures) (k .before .shortest .ensures) (k .plan-refusal .ensures)
+    (c .before .before .before .before .before .if2 .left) in
     sym (length-take-le _ _ (omega arith))
 
 plan-var-requires : tie.Need-plan-var-requires
@@ -102,17 +109,20 @@ returns-3 c =
     let d = u .before .before .before .before .before .before .before .before .before .before .before in
     let i = d .before .before in
     let k = i .before .before in
-    let g = k .before .before .before .before .before .before .before .before .before .before .before .before .before .before .before .before .args in
+    let g = k .before .before .before .before .before .before .before .before .before .before .before .before .before .before .before
+    .before .args in
     let w = k .before .before .before .if1 .left in
     let a = k .before .before .array-refusal .ensures in
     let o = k .before .shortest .ensures in
     let z = i .if2 .left in
     let h = host-room (lends k) (plan k) (length (room k)) w a o (k .plan-refusal .ensures) z in
     let e = decoded-all (g .trace .now) (room k) _ _ refl h (d .decode .ensures) in
-    let m = called-on (query (plan k) (g .min-periods) (Variance (g .ddof))) (λ (l : List Float). traceOf l (g .has-map) (g .map .now)) (e .1) (u .plan-var .ensures) in
+    let m = called-on (query (plan k) (g .min-periods) (Variance (g .ddof))) (λ (l : List Float). traceOf l (g .has-map) (g .map .now))
+    (e .1) (u .plan-var .ensures) in
     record {
       number-is = host-again (lends k) (plan k) (length (room k)) w a o (k .plan-refusal .ensures) z (m .number-is);
-      readings-are = filled-by _ _ _ _ (host-accepted (lends k) (plan k) (length (room k)) w a o (k .plan-refusal .ensures) z (m .number-is)) (e .0);
+      readings-are = filled-by _ _ _ _ (host-accepted (lends k) (plan k) (length (room k)) w a o (k .plan-refusal .ensures) z
+          (m .number-is)) (e .0);
       left = m .left;
     }
 

@@ -69,6 +69,7 @@ pub record SameLong (c₀ c : Column) : Type 0 where
   pub doubles : length (c .doubles) ≡ length (c₀ .doubles)
   pub bytes : length (c .bytes) ≡ length (c₀ .bytes)
 
+-- of every figure
 abbrev pub AllSameLong : List Column → List Column → Type 0
 AllSameLong [] [] = Unit {0}
 AllSameLong (c₀ ∷ cs₀) (c ∷ cs) = SameLong c₀ c × AllSameLong cs₀ cs

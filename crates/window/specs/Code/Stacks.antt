@@ -80,6 +80,7 @@ answerFrom final mapped minPeriods s e w state =
 abbrev pub stateBy : {C A : Type 0} → (M : Stored C A) → Window → M .moment .State → List C → M .moment .State
 stateBy M w agg work = M .moment .combine agg (topOf M work (w .front))
 
+-- a row's answer by the window's numbers and the stacks
 abbrev pub answerBy : {C A : Type 0} → (M : Stored C A) → (M .moment .State → Figure) → Bool → ℕ → ℕ → ℕ → Window → M .moment .State → List C → Figure
 answerBy M final mapped minPeriods s e w agg work = answerFrom final mapped minPeriods s e w (stateBy M w agg work)
 

@@ -20,7 +20,8 @@ fixed-refusal-requires c κs = search needs
 returns : tie.Need-returns
 returns c =
     let k = c .before .before in
-    fixed-refused _ _ _ _ _ _ (k .before .before .array-refusal .ensures) (k .before .shortest .ensures) (k .fixed-refusal .ensures .number-is)
+    fixed-refused _ _ _ _ _ _ (k .before .before .array-refusal .ensures) (k .before .shortest .ensures)
+    (k .fixed-refusal .ensures .number-is)
     (record { answers = refl; counts = refl }) (c .if1 .taken)
 
 right-window-requires : tie.Need-right-window-requires
@@ -70,7 +71,8 @@ returns-2 c =
     let r = c .before .before .before .before .before .before .before .before .before .before .before .before .before .before in
     let w = r .before .before .before .before .before .before .before .before .before .before in
     let k = w .before .before .before in
-    fixed-called _ _ _ _ _ _ (k .before .before .array-refusal .ensures) (k .before .shortest .ensures) (k .fixed-refusal .ensures .number-is)
+    fixed-called _ _ _ _ _ _ (k .before .before .array-refusal .ensures) (k .before .shortest .ensures)
+    (k .fixed-refusal .ensures .number-is)
     _ _ (w .right-window .ensures .0) (w .before .if1 .left) (r .rows .ensures)
 
 pub rolling-var-spec : {M : Type 1} → statement M

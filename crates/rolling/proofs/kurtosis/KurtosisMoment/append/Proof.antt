@@ -37,7 +37,8 @@ is-finite-requires c κs = search needs
 room : (c : tie.After-is-finite Inv-loop μ-loop) → c .before .before .before .before .before .loop .at < length (c .before .before .before .before .before .loop .back)
 room c =
     let l = c .before .before .before .before .before in
-    appending-room kurtosisStates _ _ _ _ _ _ _ _ _ _ (l .loop .inv) (c .before .before .before .before .loop-test .taken) (l .before .before .before .before .pre)
+    appending-room kurtosisStates _ _ _ _ _ _ _ _ _ _ (l .loop .inv) (c .before .before .before .before .loop-test .taken)
+    (l .before .before .before .before .pre)
     (sym (c .before .before .before .valid .ensures) ∙ c .before .before .if1 .taken)
 
 mul-back : tie.Need-mul-back Inv-loop μ-loop
@@ -62,7 +63,8 @@ add-count : tie.Need-add-count Inv-loop μ-loop
 add-count c =
     let l = c .before .before .before .before .before .before .before in
     let s = l .before .before .before .before in
-    let h = appending-nonfinite kurtosisStates _ _ _ _ _ _ _ _ _ _ (l .loop .inv) (c .before .before .before .before .before .before .loop-test .taken) (s .pre) in
+    let h = appending-nonfinite kurtosisStates _ _ _ _ _ _ _ _ _ _ (l .loop .inv)
+    (c .before .before .before .before .before .before .loop-test .taken) (s .pre) in
     let k = l .loop .inv .low in
     omega arith
 
@@ -88,7 +90,8 @@ loop-again c =
     (λ u. rw (u .2, u .3, u .4) (appending-finite kurtosisStates _ _ _ _ _ _ _ _ _ (l .loop .inv) more (s .pre) v (sym (w .2 .ensures) ∙ u .0 .taken) _ (u .1 .ensures)))
     (λ u. rw (u .2, u .3, u .4) (appending-zero kurtosisStates _ _ _ _ _ _ _ _ _ (l .loop .inv) more (s .pre) v (sym (w .2 .ensures) ∙ u .0 .left) _ (u .1 .ensures)))
     (w .3 .came)))
-    (λ w. rw (w .1, w .2, w .3, w .4) (appending-missing kurtosisStates _ _ _ _ _ _ _ _ _ _ (l .loop .inv) more (s .pre) (sym (c .before .valid .ensures) ∙ w .0 .left)))
+    (λ w. rw (w .1, w .2, w .3, w .4) (appending-missing kurtosisStates _ _ _ _ _ _ _ _ _ _ (l .loop .inv) more (s .pre) (sym
+    (c .before .valid .ensures) ∙ w .0 .left)))
     (c .if1 .came)
 
 same-length : tie.Need-same-length Inv-loop μ-loop

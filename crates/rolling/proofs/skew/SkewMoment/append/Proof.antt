@@ -38,7 +38,8 @@ is-finite-requires c κs = search needs
 room : (c : tie.After-is-finite Inv-loop μ-loop) → c .before .before .before .before .before .loop .at < length (c .before .before .before .before .before .loop .back)
 room c =
     let l = c .before .before .before .before .before in
-    appending-room skewStates _ _ _ _ _ _ _ _ _ _ (l .loop .inv) (c .before .before .before .before .loop-test .taken) (l .before .before .before .before .pre .0)
+    appending-room skewStates _ _ _ _ _ _ _ _ _ _ (l .loop .inv) (c .before .before .before .before .loop-test .taken)
+    (l .before .before .before .before .pre .0)
     (sym (c .before .before .before .valid .ensures) ∙ c .before .before .if1 .taken)
 
 mul-back : tie.Need-mul-back Inv-loop μ-loop
@@ -63,7 +64,8 @@ add-count : tie.Need-add-count Inv-loop μ-loop
 add-count c =
     let l = c .before .before .before .before .before .before .before in
     let s = l .before .before .before .before in
-    let h = appending-nonfinite skewStates _ _ _ _ _ _ _ _ _ _ (l .loop .inv) (c .before .before .before .before .before .before .loop-test .taken) (s .pre .0) in
+    let h = appending-nonfinite skewStates _ _ _ _ _ _ _ _ _ _ (l .loop .inv)
+    (c .before .before .before .before .before .before .loop-test .taken) (s .pre .0) in
     let k = l .loop .inv .low in
     omega arith
 
@@ -90,7 +92,8 @@ loop-again c =
     (λ u. rw (u .2, u .3, u .4) (appending-finite skewStates _ _ _ _ _ _ _ _ _ (l .loop .inv) more (s .pre .0) v (sym (w .2 .ensures) ∙ u .0 .taken) _ (u .1 .ensures ∙ plain _)))
     (λ u. rw (u .2, u .3, u .4) (appending-zero skewStates _ _ _ _ _ _ _ _ _ (l .loop .inv) more (s .pre .0) v (sym (w .2 .ensures) ∙ u .0 .left) _ (u .1 .ensures ∙ plain _)))
     (w .3 .came)))
-    (λ w. rw (w .1, w .2, w .3, w .4) (appending-missing skewStates _ _ _ _ _ _ _ _ _ _ (l .loop .inv) more (s .pre .0) (sym (c .before .valid .ensures) ∙ w .0 .left)))
+    (λ w. rw (w .1, w .2, w .3, w .4) (appending-missing skewStates _ _ _ _ _ _ _ _ _ _ (l .loop .inv) more (s .pre .0) (sym
+    (c .before .valid .ensures) ∙ w .0 .left)))
     (c .if1 .came)
 
 same-length : tie.Need-same-length Inv-loop μ-loop

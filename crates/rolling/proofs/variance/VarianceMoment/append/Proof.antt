@@ -8,7 +8,8 @@ use borrow.Author.Needs.{needs}
 use mir.Val.{boolByte}
 use lib.ListN.{length}
 use Rattle.window.specs.Readings.{readingOf}
-use Rattle.window.proofs.Readings.{Appending, appending-start, appending-room, appending-nonfinite, appending-hit, appending-missing, appending-done}
+use Rattle.window.proofs.Readings.{Appending, appending-start, appending-room, appending-nonfinite, appending-hit, appending-missing}
+use Rattle.window.proofs.Readings.{appending-done}
 use Rattle.rolling.specs.Code.Layouts.{varStates}
 use Rattle.rolling.proofs.Rolling.{bit-le}
 use Rattle.rolling.proofs.Weighed.{var-weighs, append-inserted}
@@ -35,7 +36,8 @@ shared-slice-read-x : tie.Need-shared-slice-read-x Inv-loop μ-loop
 shared-slice-read-x c = search needs
 
 -- the store is within the back stack
-room : (c : tie.After-valid Inv-loop μ-loop) → c .valid .result ≡ true → c .before .before .loop .at < length (c .before .before .loop .back)
+room : (c : tie.After-valid Inv-loop μ-loop) → c .valid .result ≡ true
+    → c .before .before .loop .at < length (c .before .before .loop .back)
 room c v =
     let l = c .before .before in
     appending-room varStates _ _ _ _ _ _ _ _ _ _ (l .loop .inv) (c .before .loop-test .taken) (l .before .before .before .before .pre .0)
@@ -60,7 +62,8 @@ add-count : tie.Need-add-count Inv-loop μ-loop
 add-count c =
     let l = c .before .before .before .before .before .before in
     let s = l .before .before .before .before in
-    let h = appending-nonfinite varStates _ _ _ _ _ _ _ _ _ _ (l .loop .inv) (c .before .before .before .before .before .loop-test .taken) (s .pre .0) in
+    let h = appending-nonfinite varStates _ _ _ _ _ _ _ _ _ _ (l .loop .inv)
+    (c .before .before .before .before .before .loop-test .taken) (s .pre .0) in
     let k = l .loop .inv .low in
     let b = bit-le (not (c .is-finite .result)) in
     omega arith

@@ -89,7 +89,8 @@ abbrev fits : (c : tie.After-step Inv-loop μ-loop) → (5 * c .step .result .wi
     × (turn c .before .loop .next .start ≤ turn c .before .loop .next .end)
 fits c =
     let r = turn c in
-    columns-fits varStored _ _ _ _ _ _ _ _ _ _ (start r .pre) (r .before .loop .inv) (r .loop-test .taken) (c .step .ensures) (c .step .kept .0)
+    columns-fits varStored _ _ _ _ _ _ _ _ _ _ (start r .pre) (r .before .loop .inv) (r .loop-test .taken) (c .step .ensures)
+    (c .step .kept .0)
 
 total-requires : tie.Need-total-requires Inv-loop μ-loop
 total-requires c κs =
@@ -158,18 +159,22 @@ loop-again c =
     let p = planBy (g .rows) (length (g .values .now)) (g .starts .now) (g .ends .now) in
     let b = columns-row varStored _ _ _ _ _ _ _ _ _ _ can (v .inv) more .bounds in
     let t = state .total .ensures in
-    let a = columns-answer varStored _ _ _ _ _ _ _ _ _ _ can (v .inv) more (q .ensures) (q .kept .0) (λ y. varFinalize (y .var) (g .self .ddof))
+    let a = columns-answer varStored _ _ _ _ _ _ _ _ _ _ can (v .inv) more (q .ensures) (q .kept .0) (λ y. varFinalize (y .var)
+    (g .self .ddof))
     (told .answer .ensures
     ∙ ap (λ (y : VarExtremes). answerFrom (λ u. varFinalize (u .var) (g .self .ddof)) (g .has-map) (g .rows .«min_periods») (v .next .start)
     (v .next .end) (q .result .window) y) t)
     ∙ variance-row (g .self .ddof) (g .has-map) (g .map .now) (g .values .now) _ _ _ in
-    let l = lowest-row (g .has-map) (g .map .now) (g .values .now) _ (g .rows .widest) (v .row) p (v .w .window) (q .ensures) (b .start-is) (b .end-is) t (short .is-short .ensures)
+    let l = lowest-row (g .has-map) (g .map .now) (g .values .now) _ (g .rows .widest) (v .row) p (v .w .window) (q .ensures)
+    (b .start-is) (b .end-is) t (short .is-short .ensures)
     (low .extreme .ensures) in
-    let h = highest-row (g .has-map) (g .map .now) (g .values .now) _ (g .rows .widest) (v .row) p (v .w .window) (q .ensures) (b .start-is) (b .end-is) t (short .is-short .ensures)
+    let h = highest-row (g .has-map) (g .map .now) (g .values .now) _ (g .rows .widest) (v .row) p (v .w .window) (q .ensures)
+    (b .start-is) (b .end-is) t (short .is-short .ensures)
     (high .extreme2 .ensures) in
     columns-turn varStored _ _ _ _ _ _ _ _ _ _ can (v .inv) more (q .ensures) (q .kept .0)
     {xs = told .answer .result ∷ low .extreme .result ∷ high .extreme2 .result ∷ []}
-    (a then l then h then refl) (wrote .write .ensures, (second .write2 .ensures, (z .write3 .ensures, tt))) (s .before .before .next .ensures)
+    (a then l then h then refl) (wrote .write .ensures, (second .write2 .ensures, (z .write3 .ensures, tt)))
+    (s .before .before .next .ensures)
 
 same-length : tie.Need-same-length Inv-loop μ-loop
 same-length c = c .before .loop .inv .working .same

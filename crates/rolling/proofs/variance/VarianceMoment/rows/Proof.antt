@@ -37,7 +37,8 @@ block-requires : tie.Need-block-requires
 block-requires c κs =
     let h = c .before .before .before .before .before .before .before in
     let k = h .before .before in
-    rows-can varStored _ _ _ _ _ (start h .pre) (k .before .empty-at .ensures) (k .empty .ensures) (until-is h) (h .before .first-offsets .ensures)
+    rows-can varStored _ _ _ _ _ (start h .pre) (k .before .empty-at .ensures) (k .empty .ensures) (until-is h)
+    (h .before .first-offsets .ensures)
 
 same-length : tie.Need-same-length
 same-length c = search needs
