@@ -6,7 +6,7 @@ use mathlib.Core.Bool.{Bool, true, false, cond, not, _&&_}
 use mathlib.Core.List.{List, [], _∷_, foldl, List·Memᴰ, List·Memᴰ·head, List·Memᴰ·not-nil}
 use mathlib.Core.Logic.{inl, inr, ⊎-elim}
 use native.Mathlib.Omega.{arith}
-use borrow.Author.Tests.{ltb-true, ltb-false, lt-ltb}
+use borrow.Author.Tests.{not-true, ltb-true, lt-ltb}
 use lib.Dec.{ltb}
 use lib.ListN.{length, drop}
 use lib.Ieee.{Float, inf}
@@ -52,13 +52,9 @@ module _ (t : Trace) (s e : ℕ) where
   short-is : (minPeriods : ℕ) → shortRow (t .mapped) minPeriods s e ≡ true → Short t s e minPeriods
   short-is minPeriods h =
       record {
-        without = go (t .mapped) (first-of (not (t .mapped)) _ h);
+        without = not-true (t .mapped) (first-of (not (t .mapped)) _ h);
         shorter = ltb-true (e - s) minPeriods (second-of (not (t .mapped)) _ h);
       }
-    where
-      go : (b : Bool) → not b ≡ true → b ≡ false
-      go true h = apart h
-      go false h = refl
 
   not-short : (minPeriods : ℕ) → shortRow (t .mapped) minPeriods s e ≡ false → Short t s e minPeriods → ⊥
   not-short minPeriods h q = apart (sym h ∙ rw (q .without, lt-ltb (e - s) minPeriods (q .shorter)))
