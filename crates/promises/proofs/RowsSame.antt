@@ -37,9 +37,13 @@ unfolding insertedAt insertedPair
 entry-same Readings t t′ i e = rw e
 entry-same Pairs t t′ i e = rw (e .0, e .1)
 
+-- what is told of valid places alone
+guards : (a b c d : Bool) → a ≡ b → (a ≡ true → c ≡ d) → (a && c) ≡ (b && d)
+guards true b c d e f = rw (← e) (f refl)
+guards false b c d e f = rw (← e)
+
 guarded : (v a b : Bool) → (v ≡ true → a ≡ b) → (v && not a) ≡ (v && not b)
-guarded true a b g = rw (g refl)
-guarded false a b g = refl
+guarded v a b g = guards v v (not a) (not b) refl (λ e. ap not (g e))
 
 nonfinite-same : (kind : Kind) (t t′ : Given kind) (i : ℕ) → seriesOf kind t .places .valid i ≡ seriesOf kind t′ .places .valid i
     → (seriesOf kind t .places .valid i ≡ true → SameAt kind t t′ i) → seriesOf kind t .places .nonfinite i ≡ seriesOf kind t′ .places .nonfinite i
@@ -161,10 +165,6 @@ unfolding extremeOf
 extremes-same (Variance ddof) t t′ minPeriods p k m v g =
     ap ofFigure (same lower) then ap ofFigure (same higher) then refl
   where
-    guards : (a b c d : Bool) → a ≡ b → (a ≡ true → c ≡ d) → (a && c) ≡ (b && d)
-    guards true b c d e f = rw (← e) (f refl)
-    guards false b c d e f = rw (← e)
-
     readings : finiteReadings t (rowStart p k) (rowEnd p k) ≡ finiteReadings t′ (rowStart p k) (rowEnd p k)
     readings =
         entries-same (finiteAt t) (finiteAt t′) (readingOf (t .readings)) (readingOf (t′ .readings)) (rowStart p k) (rowEnd p k)
