@@ -6,8 +6,7 @@ machine for a while slows both. A line has the medians in ns a row, and the medi
 whose speed changes from turn to turn moves the first two more than the last. Exit 1 where an answer or a byte that is left
 in a list of outputs differs. An entry that either build lacks is left out, and said so. Variance has six lists of outputs since document
 02's request 4 and two before: a build of two is given six all the same, which a call of C's may do, and then the lowest and the highest,
-which only the other build works out, are in its time and not compared; that is said too. Skewness and kurtosis are one call since
-request 5: of a build that has two, both are made, one after the other, and their times added.
+which only the other build works out, are in its time and not compared; that is said too.
 """
 import argparse, array, ctypes, math, os, random, statistics, subprocess, sys, tempfile, time
 
@@ -60,23 +59,14 @@ pair_maps = {"no map": (none, none), "one map": (first_map, none), "both maps": 
 readings, second_readings = lent(double, [0] * n), lent(double, [0] * n)
 figures, present, work = lent(double, [0] * n), lent(byte, [0] * n), lent(double, [0] * (8 * min(n, 4096)))
 lists, outputs = [work, figures, present], (readings, second_readings, figures, present)
-more = [lent(of, [0] * n) for of in (double, byte, double, byte)]  # of variance lowest and highest, of skewness the kurtosis
+extremes = [lent(of, [0] * n) for of in (double, byte, double, byte)]
+settings = {"var": [byte(1)], "skew": [flag(False)], "kurtosis": [flag(True), flag(False)]}
 pair_settings = {"cov": [byte(1)], "pearson_corr": []}
 plans = {str(size): [(max(0, i + 1 - size), i + 1) for i in range(n)] for size in (8, 128, 4096)} | {"uneven": list(uneven())}
 
 
-def ways(kind, given):
-    """What is asked of a trace, with the calls that give it, each an entry and all it is given, and the lists that are held against each
-    other besides `outputs`. Of several ways that of a build is the first whose entries it has."""
-    def call(figure, setting, outs):
-        return f"moments_{kind}_{figure}", [*given, *setting, *sum([work, *outs], [])]
-
-    yield "var", [[call("var", [byte(1)], [figures, present, *more])]], more if all(six) else []
-    for name, bias in (("skew_kurtosis", flag(False)), ("skew_kurtosis biased", flag(True))):
-        skew, kurtosis = [figures, present], more[:2]
-        one = [call("skew_kurtosis", [bias, flag(True), bias], skew + kurtosis)]
-        two = [call("skew", [bias], skew), call("kurtosis", [flag(True), bias], kurtosis)]
-        yield name, [one, two], kurtosis
+def answers(figure):
+    return sum(lists + extremes if figure == "var" else lists, [])
 
 
 def has_extremes(library):
@@ -86,61 +76,60 @@ def has_extremes(library):
     return library.moments_rolling_var(*given, *4 * [place[0], size_t(0)]) == 12
 
 
-with tempfile.TemporaryDirectory() as room:
-    libraries = [load(folder, room) for folder in asked.builds]
-six = [has_extremes(library) for library in libraries]
 cases = []
 for name, rows in plans.items():
     starts, ends = (lent(word, column) for column in zip(*rows))
-    for tag, mapped in maps.items():
-        given = [trace[0], size_t(8 * n), *readings, *mapped, *starts, *ends, size_t(1)]
-        cases += [(f"plan {name}, {what}, {tag}", *rest) for what, *rest in ways("plan", given)]
+    for figure, setting in settings.items():
+        for tag, mapped in maps.items():
+            cases.append((f"plan {name}, {figure}, {tag}", f"moments_plan_{figure}",
+                          [trace[0], size_t(8 * n), *readings, *mapped, *starts, *ends, size_t(1), *setting, *answers(figure)]))
     for figure, setting in pair_settings.items():
         for tag, (mapped, other) in pair_maps.items():
             traces = [trace[0], size_t(8 * n), *readings, *mapped, second[0], size_t(8 * n), *second_readings, *other]
-            given = [*traces, *starts, *ends, size_t(1), *setting, *sum(lists, [])]
-            cases.append((f"plan {name}, {figure}, {tag}", [[(f"moments_plan_{figure}", given)]], []))
+            cases.append((f"plan {name}, {figure}, {tag}", f"moments_plan_{figure}",
+                          [*traces, *starts, *ends, size_t(1), *setting, *sum(lists, [])]))
 for size, center in ((size, center) for size in (8, 128, 4096) for center in (False, True)):
     window, where = [size_t(size), size_t(1), flag(center)], f"{'centred' if center else 'trailing'} {size}"
-    for tag, mapped in maps.items():
-        cases += [(f"{where}, {what}, {tag}", *rest) for what, *rest in ways("rolling", [*trace, *mapped, *window])]
+    for figure, setting in settings.items():
+        for tag, mapped in maps.items():
+            cases.append((f"{where}, {figure}, {tag}", f"moments_rolling_{figure}", [*trace, *mapped, *window, *setting, *answers(figure)]))
     for figure, setting in pair_settings.items():
         for tag, (mapped, other) in pair_maps.items():
-            given = [*trace, *mapped, *second, *other, *window, *setting, *sum(lists, [])]
-            cases.append((f"{where}, {figure}, {tag}", [[(f"moments_rolling_{figure}", given)]], []))
+            cases.append((f"{where}, {figure}, {tag}", f"moments_rolling_{figure}",
+                          [*trace, *mapped, *second, *other, *window, *setting, *sum(lists, [])]))
     if size < 4096:
         weights = lent(double, [1] * size)
-        given = [*trace, *none, *window, *weights, *figures, *present]
-        cases.append((f"{where}, weights", [[("moments_rolling_var_weights", given)]], []))
+        cases.append((f"{where}, weights", "moments_rolling_var_weights", [*trace, *none, *window, *weights, *figures, *present]))
 
 bad, ratios = 0, []
+with tempfile.TemporaryDirectory() as room:
+    libraries = [load(folder, room) for folder in asked.builds]
+six = [has_extremes(library) for library in libraries]
 if six[0] != six[1]:
     print(f"variance: only the {'new' if six[1] else 'old'} build gives the lowest and the highest: in its time, not compared")
-print(f"{n} readings, medians of {asked.turns} turns, ns a row\n{'':44}      old      new    ratio")
-for name, several, besides in cases:
+print(f"{n} readings, medians of {asked.turns} turns, ns a row\n{'':36}      old      new    ratio")
+for name, entry, given in cases:
     if asked.filter not in name:
         continue
-    calls = [next((way for way in several if all(hasattr(library, entry) for entry, _ in way)), None) for library in libraries]
-    if None in calls:
-        print(f"{name:44} left out: a build has no {several[0][0][0]}")
+    if not all(hasattr(library, entry) for library in libraries):
+        print(f"{name:36} left out: a build has no {entry}")
         continue
-    held = (*outputs, *besides)
+    held = (*outputs, *extremes) if all(six) else outputs
     times, left = ([], []), [None, None]
     for turn in range(-1, asked.turns):
         for side in ((0, 1), (1, 0))[turn % 2]:
-            made = [(libraries[side][entry], given) for entry, given in calls[side]]
+            function = libraries[side][entry]
             if turn < 0:  # not timed: what each leaves in lists that held something else
                 for whole, _ in held:
                     ctypes.memset(whole, 0xAA, ctypes.sizeof(whole))
-                left[side] = max([function(*given) for function, given in made]), *(bytes(whole) for whole, _ in held)
+                left[side] = function(*given), *(bytes(whole) for whole, _ in held)
                 continue
             began = time.perf_counter_ns()
-            for function, given in made:
-                function(*given)
+            function(*given)
             times[side].append((time.perf_counter_ns() - began) / n)
     old, new = [statistics.median(side) for side in times]
     ratios.append(statistics.median(b / a for a, b in zip(*times)))
-    print(f"{name:44} {old:8.2f} {new:8.2f} {ratios[-1]:8.3f}", flush=True)
+    print(f"{name:36} {old:8.2f} {new:8.2f} {ratios[-1]:8.3f}", flush=True)
     if left[0] != left[1] or left[0][0] != 0:
         print(f"{name}: the answers differ, or the call is refused ({left[0][0]}, {left[1][0]})"); bad += 1
 if not ratios:

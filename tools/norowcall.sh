@@ -49,7 +49,7 @@ objdump -dr --no-show-raw-insn -M intel "$1" | awk '
   }
 
   END {
-    k = split("plan_var plan_skew_kurtosis rolling_var rolling_skew_kurtosis", wanted)
+    k = split("plan_var plan_skew plan_kurtosis rolling_var rolling_skew rolling_kurtosis", wanted)
     for (; k > 0; k--) if (!("moments_" wanted[k] in known)) fault("the archive has no moments_" wanted[k])
     for (k = 1; k <= functions; k++) if ((entry = order[k]) ~ /^moments_(plan|rolling)_/) {
       holders = ""; follow(entry)

@@ -6,8 +6,9 @@ use crate::input::Input;
 use crate::measure::{Aim, Bench, Case};
 use crate::windows::{name, windows as fixed_windows, Column, Lent, SIZES};
 use moments::{plan_var_into, rolling_var_into, Plan, Setting, Window};
+use oracle::extremes::Extremes;
 use oracle::model::plan_into;
-use oracle::Asked;
+use oracle::Figure;
 use std::hint::black_box;
 
 const SECTION: &str = "Variance with lowest and highest";
@@ -20,28 +21,28 @@ struct Both {
 }
 impl Both {
     fn new(n: usize, readings: usize, work: usize) -> Self {
-        let lent = || Lent::new(3, n, readings, work);
+        let lent = || Lent::with_extremes(n, readings, work);
         Both { rust: lent(), ours: lent() }
     }
     /// Whether each answer of a row is the other's: the variances, then the lowest, then the highest.
     fn compare(self) -> impl Iterator<Item = bool> {
-        let [figures, lowest, highest] = self.rust.columns.map(Column::answers);
-        let [our_figures, our_lowest, our_highest] = self.ours.columns;
+        let [figures, lowest, highest] = self.rust.columns().map(Column::answers);
+        let [our_figures, our_lowest, our_highest] = self.ours.columns();
         our_figures.compare(figures).chain(our_lowest.compare(lowest)).chain(our_highest.compare(highest))
     }
 }
 fn rust(x: &[f64], map: Option<&[u8]>, rows: impl Iterator<Item = (usize, usize)> + Clone, lent: &mut Lent) {
-    let Lent { work, columns: [figures, lowest, highest], .. } = lent;
-    let put = |i: usize, [figure, low, high]: [Option<f64>; 3]| {
+    let Lent { work, figures, lowest, highest, .. } = lent;
+    let put = |i: usize, figure: Option<f64>, [low, high]: Extremes| {
         figures.put(i, figure);
         lowest.put(i, low);
         highest.put(i, high);
     };
-    plan_into(x, map, rows, Asked::Var { ddof: DDOF }, 1, work, put, &mut ());
+    plan_into(x, map, rows, Figure::Var { ddof: DDOF }, 1, work, put, &mut ());
 }
 
 pub fn windows(bench: &mut Bench, input: &Input) {
-    let bytes = input.bytes();
+    let bytes: Vec<u8> = input.x.iter().flat_map(|x| x.to_le_bytes()).collect();
     for size in SIZES {
         of_plan(bench, input, &bytes, &name(size), input.trailing(size));
     }

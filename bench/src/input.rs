@@ -29,10 +29,6 @@ impl Input {
         let (map, y_map) = (any(), any());
         Input { n, x, y, map, y_map }
     }
-    /// The first trace as a host call takes it.
-    pub fn bytes(&self) -> Vec<u8> {
-        self.x.iter().flat_map(|x| x.to_le_bytes()).collect()
-    }
     /// Without a map and with it, and what to call that.
     pub fn maps(&self) -> [(Option<&[u8]>, &'static str); 2] {
         [(None, "no map"), (Some(&self.map), "map")]

@@ -3,16 +3,14 @@
 //! Both are given the same and asked for the same, and their answers are compared. The Rust allocates what it answers with; our
 //! entries write to lists that are lent, made once before. Lines that end in 'allocating' are host's functions that allocate too.
 //! A plan call of ours is given the trace's bytes and decodes them, which the Rust has no need of. The Rust's arrays and maps are made once
-//! before, the count of missing places with them. For states see `states`, for windows of two traces, which the Rust lacks, `pairs`, for
-//! variance with the lowest and the highest reading, which it lacks too, `extremes`, and for skewness and kurtosis, which are two calls of
-//! it, `shapes`.
+//! before, the count of missing places with them. For states see `states`, for windows of two traces, which the Rust lacks, `pairs`, and
+//! for variance with the lowest and the highest reading, which it lacks too, `extremes`.
 mod arrays;
 mod extremes;
 mod input;
 mod measure;
 mod pairs;
 mod report;
-mod shapes;
 mod states;
 mod windows;
 
@@ -83,7 +81,6 @@ fn main() {
         windows::plans(&mut bench, &input);
         windows::fixed(&mut bench, &input);
         windows::weighted(&mut bench, &input);
-        shapes::windows(&mut bench, &input);
         extremes::windows(&mut bench, &input);
         pairs::windows(&mut bench, &input);
         arrays::whole(&mut bench, &input);

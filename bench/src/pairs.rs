@@ -20,12 +20,11 @@ struct Both {
 }
 impl Both {
     fn new(n: usize, readings: usize, work: usize) -> Self {
-        let lent = || (Lent::new(1, n, readings, work), vec![0.0; readings]);
+        let lent = || (Lent::new(n, readings, work), vec![0.0; readings]);
         Both { rust: lent(), ours: lent() }
     }
     fn compare(self) -> impl Iterator<Item = bool> {
-        let [figures, ..] = self.rust.0.columns;
-        self.ours.0.compare(figures.answers())
+        self.ours.0.figures.compare(self.rust.0.figures.answers())
     }
 }
 /// What a host in Rust does with the bytes of a trace.
@@ -41,7 +40,7 @@ fn rust(
     figure: PairFigure,
     lent: &mut Lent,
 ) {
-    let Lent { work, columns: [figures, ..], .. } = lent;
+    let Lent { work, figures, .. } = lent;
     let put = |i: usize, row: Option<f64>| figures.put(i, row);
     pairs_into(traces, maps, rows, figure, 1, work, put, &mut ());
 }

@@ -71,9 +71,7 @@ pub fn summary(bench: &Bench) -> String {
         let lines = bench.lines.iter().filter(|line| line.section == section);
         let aimed: Vec<_> = lines.filter_map(|line| line.aim.most().map(|most| (line, most))).collect();
         let points = || aimed.iter().flat_map(|(line, most)| line.points.iter().map(move |point| (*line, *most, point)));
-        // the largest of all where a section has one aim, and where it has several the farthest from its own
-        let far = |(_, most, point): &(&Line, f64, &Point)| point.ratio() / most;
-        let Some((line, most, worst)) = points().max_by(|a, b| far(a).total_cmp(&far(b))) else { continue };
+        let Some((line, most, worst)) = points().max_by(|a, b| a.2.ratio().total_cmp(&b.2.ratio())) else { continue };
         let (count, over) = (points().count(), points().filter(|(line, _, point)| above(line.aim, point.ratio())).count());
         let (ratio, at) = (worst.ratio(), size(worst.n));
         _ = writeln!(text, "| {section} | {most} | {count} | {over} | {ratio:.3} | {}, {at} |", line.name);

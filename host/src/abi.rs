@@ -62,8 +62,8 @@ unsafe extern "C" {
         highest_present: *mut u8,
         highest_present_len: usize,
     ) -> u32;
-    /// Skewness and kurtosis of a plan's windows.
-    pub fn moments_plan_skew_kurtosis(
+    /// Skewness of a plan's windows.
+    pub fn moments_plan_skew(
         trace: *const u8,
         trace_len: usize,
         readings: *mut f64,
@@ -76,19 +76,36 @@ unsafe extern "C" {
         ends: *const u32,
         ends_len: usize,
         min_periods: usize,
-        skew_bias: bool,
-        fisher: bool,
-        kurtosis_bias: bool,
+        bias: bool,
         work: *mut f64,
         work_len: usize,
-        skew: *mut f64,
-        skew_len: usize,
-        skew_present: *mut u8,
-        skew_present_len: usize,
-        kurtosis: *mut f64,
-        kurtosis_len: usize,
-        kurtosis_present: *mut u8,
-        kurtosis_present_len: usize,
+        figures: *mut f64,
+        figures_len: usize,
+        present: *mut u8,
+        present_len: usize,
+    ) -> u32;
+    /// Kurtosis of a plan's windows.
+    pub fn moments_plan_kurtosis(
+        trace: *const u8,
+        trace_len: usize,
+        readings: *mut f64,
+        readings_len: usize,
+        has_map: bool,
+        map: *const u8,
+        map_len: usize,
+        starts: *const u32,
+        starts_len: usize,
+        ends: *const u32,
+        ends_len: usize,
+        min_periods: usize,
+        fisher: bool,
+        bias: bool,
+        work: *mut f64,
+        work_len: usize,
+        figures: *mut f64,
+        figures_len: usize,
+        present: *mut u8,
+        present_len: usize,
     ) -> u32;
     /// Covariance of a plan's windows over two traces.
     pub fn moments_plan_cov(
@@ -174,8 +191,8 @@ unsafe extern "C" {
         highest_present: *mut u8,
         highest_present_len: usize,
     ) -> u32;
-    /// Skewness and kurtosis of fixed windows.
-    pub fn moments_rolling_skew_kurtosis(
+    /// Skewness of fixed windows.
+    pub fn moments_rolling_skew(
         trace: *const f64,
         trace_len: usize,
         has_map: bool,
@@ -184,19 +201,32 @@ unsafe extern "C" {
         window_size: usize,
         min_periods: usize,
         center: bool,
-        skew_bias: bool,
-        fisher: bool,
-        kurtosis_bias: bool,
+        bias: bool,
         work: *mut f64,
         work_len: usize,
-        skew: *mut f64,
-        skew_len: usize,
-        skew_present: *mut u8,
-        skew_present_len: usize,
-        kurtosis: *mut f64,
-        kurtosis_len: usize,
-        kurtosis_present: *mut u8,
-        kurtosis_present_len: usize,
+        figures: *mut f64,
+        figures_len: usize,
+        present: *mut u8,
+        present_len: usize,
+    ) -> u32;
+    /// Kurtosis of fixed windows.
+    pub fn moments_rolling_kurtosis(
+        trace: *const f64,
+        trace_len: usize,
+        has_map: bool,
+        map: *const u8,
+        map_len: usize,
+        window_size: usize,
+        min_periods: usize,
+        center: bool,
+        fisher: bool,
+        bias: bool,
+        work: *mut f64,
+        work_len: usize,
+        figures: *mut f64,
+        figures_len: usize,
+        present: *mut u8,
+        present_len: usize,
     ) -> u32;
     /// Covariance of fixed windows over two traces.
     pub fn moments_rolling_cov(

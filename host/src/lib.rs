@@ -5,9 +5,9 @@
 //!   `finalize` gives the figure. [`root`] is the square root they use.
 //! - Whole traces: [`var`], [`skew`], [`kurtosis`], [`cov`], [`pearson_corr`]. Ranges: [`skew_range`], [`kurtosis_range`].
 //! - Windows: [`plan`] for a [`Plan`] of any windows, [`rolling`] for a [`Window`] of one size, [`rolling_var_weights`] for weighted ones;
-//!   [`plan_var`] and [`rolling_var`] give the lowest and the highest reading of each window with the variance, [`plan_skew_kurtosis`]
-//!   and [`rolling_skew_kurtosis`] skewness and kurtosis in one go; over two traces [`plan_pair`] and [`rolling_pair`]. What is asked of
-//!   each window is a [`Setting`]. Those that end in `_into` take the lists to write to and allocate nothing.
+//!   [`plan_var`] and [`rolling_var`] give the lowest and the highest reading of each window with the variance; over two traces
+//!   [`plan_pair`] and [`rolling_pair`]. What is asked of each window is a [`Setting`]. Those that end in `_into` take the lists to write
+//!   to and allocate nothing.
 //!
 //! A trace is a slice. Where readings are missing, a map has a bit for each place, lowest bit first, 1 for valid, in at least as many
 //! bytes as that takes; [`trace_of`] makes both. Spare bits and the bytes behind are ignored, so the bitmap of an Arrow array, padded to
@@ -41,10 +41,9 @@ pub use moment::{
 };
 pub use refusal::{List, Refusal, Which, MOST};
 pub use rolling::{
-    plan, plan_pair, plan_pair_into, plan_skew_kurtosis, plan_skew_kurtosis_into, plan_var, plan_var_into, rolling, rolling_pair,
-    rolling_pair_into, rolling_skew_kurtosis, rolling_skew_kurtosis_into, rolling_var, rolling_var_into, rolling_var_weights,
-    rolling_var_weights_into, Answer, Column, Encoded, Figure, Kind, Lists, PairFigure, Plan, Setting, Shape, ShapeAnswer,
-    ShapeLists, SkewKurtosis, Var, VarLists, Window,
+    plan, plan_into, plan_pair, plan_pair_into, plan_var, plan_var_into, rolling, rolling_into, rolling_pair, rolling_pair_into,
+    rolling_var, rolling_var_into, rolling_var_weights, rolling_var_weights_into, Answer, Column, Encoded, Figure, Kind, Lists,
+    PairFigure, Plan, Setting, Shape, Var, VarLists, Window,
 };
 
 /// The README's example is run too.

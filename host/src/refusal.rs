@@ -42,14 +42,6 @@ pub enum List {
     Highest,
     /// A byte a row, whether there is a highest reading.
     HighestPresent,
-    /// A double a row for the skewness, where the kurtosis comes with it.
-    Skew,
-    /// A byte a row, whether there is a skewness.
-    SkewPresent,
-    /// A double a row for the kurtosis, where the skewness comes with it.
-    Kurtosis,
-    /// A byte a row, whether there is a kurtosis.
-    KurtosisPresent,
     /// A double a reading, into which a plan call decodes this trace.
     Readings(Which),
 }
@@ -276,10 +268,6 @@ impl fmt::Display for Refusal {
                     List::LowestPresent => ("the lowest readings' present bytes".into(), "row"),
                     List::Highest => ("highest readings".into(), "row"),
                     List::HighestPresent => ("the highest readings' present bytes".into(), "row"),
-                    List::Skew => ("skewness figures".into(), "row"),
-                    List::SkewPresent => ("the skewness figures' present bytes".into(), "row"),
-                    List::Kurtosis => ("kurtosis figures".into(), "row"),
-                    List::KurtosisPresent => ("the kurtosis figures' present bytes".into(), "row"),
                     List::Readings(Which::Only) => ("readings".into(), "reading"),
                     List::Readings(trace) => (format!("{trace}'s readings"), "reading"),
                 };
@@ -337,18 +325,17 @@ pub(crate) struct Given<'a> {
     pub window_size: usize,
     pub range: (usize, usize),
     pub rows: usize,
-    /// The lists that are lent for answers, in docs/ABI.md's order, each with its length.
-    pub answers: &'a [(List, usize)],
+    /// Lengths of the lists that are lent.
+    pub figures: usize,
+    pub present: usize,
+    /// Of the lowest readings and of the highest, doubles and bytes.
+    pub extremes: Option<[[usize; 2]; 2]>,
     pub work: usize,
     pub needed_work: usize,
 }
-impl<'a> Given<'a> {
+impl Given<'_> {
     pub fn trace(trace: &[f64], map: Option<&[u8]>) -> Self {
         Given { trace: GivenTrace::new(trace, map), ..Given::default() }
-    }
-    /// A call that answers so many rows, with the work and the columns of lists that it is lent.
-    pub fn lent(rows: usize, work: &[f64], columns: &'a [[(List, usize); 2]]) -> Self {
-        Given { rows, work: work.len(), answers: columns.as_flattened(), ..Given::default() }
     }
     /// 0 is acceptance; any other number is said in full.
     pub fn result(&self, number: u32) -> Result<(), Refusal> {
@@ -401,7 +388,12 @@ impl<'a> Given<'a> {
         self.traces().find(|(_, trace)| such(trace))
     }
     fn short_list(&self) -> Option<Refusal> {
-        let answers = self.answers.iter().map(|(list, length)| (*list, *length, self.rows));
+        let figures = [(List::Figures, self.figures), (List::Present, self.present)];
+        let extremes = self.extremes.map(|[[lowest, lowest_present], [highest, highest_present]]| {
+            let (lowest, highest) = ((List::Lowest, lowest), (List::Highest, highest));
+            [lowest, (List::LowestPresent, lowest_present), highest, (List::HighestPresent, highest_present)]
+        });
+        let answers = figures.into_iter().chain(extremes.into_iter().flatten()).map(|(list, length)| (list, length, self.rows));
         let decoded = self.traces().filter_map(|(which, trace)| Some((List::Readings(which), trace.decoded?, trace.readings)));
         let mut lists = answers.chain(decoded);
         let (list, length, needed) = lists.find(|(_, length, needed)| length < needed)?;

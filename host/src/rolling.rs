@@ -1,7 +1,7 @@
 //! Figures of moving windows: plans, fixed windows and weights.
 use crate::abi;
 use crate::moment::map_parts;
-use crate::refusal::{Given, GivenTrace, List, Refusal, MOST};
+use crate::refusal::{Given, GivenTrace, Refusal, MOST};
 
 /// A plan of windows, as two lists of equal length: a row's window holds the places `start` up to but not including `end`.
 ///
@@ -73,7 +73,7 @@ impl Window {
     }
 }
 
-/// What is asked of a window: of one trace [`Var`], [`SkewKurtosis`], or a [`Figure`] alone, of two [`PairFigure`].
+/// What is asked of a window: of one trace [`Var`], [`Shape`] or either as [`Figure`], of two [`PairFigure`].
 pub trait Kind {
     /// Doubles of work that a call needs for each place of its widest window.
     fn work_per_place(&self) -> usize;
@@ -91,23 +91,7 @@ impl Kind for Var {
     }
 }
 
-/// Skewness and kurtosis, which come from one state: [`plan_skew_kurtosis`] and [`rolling_skew_kurtosis`] give both.
-#[derive(Clone, Copy, Debug, PartialEq, Eq)]
-pub struct SkewKurtosis {
-    /// Whether the skewness is left biased.
-    pub skew_bias: bool,
-    /// Whether the kurtosis is less three, so that of a normal distribution it is 0.
-    pub fisher: bool,
-    /// Whether the kurtosis is left biased.
-    pub kurtosis_bias: bool,
-}
-impl Kind for SkewKurtosis {
-    fn work_per_place(&self) -> usize {
-        6
-    }
-}
-
-/// A figure of how readings lie about their mean, alone. The other one is worked out with it all the same.
+/// A figure of how readings lie about their mean.
 #[derive(Clone, Copy, Debug, PartialEq, Eq)]
 pub enum Shape {
     /// The skewness.
@@ -123,18 +107,12 @@ pub enum Shape {
         bias: bool,
     },
 }
-impl Shape {
-    /// Both figures, of which the other one may be any, as it is not looked at.
-    fn with_other(self) -> SkewKurtosis {
-        match self {
-            Shape::Skew { bias } => SkewKurtosis { skew_bias: bias, fisher: true, kurtosis_bias: true },
-            Shape::Kurtosis { fisher, bias } => SkewKurtosis { skew_bias: true, fisher, kurtosis_bias: bias },
-        }
-    }
-}
 impl Kind for Shape {
     fn work_per_place(&self) -> usize {
-        self.with_other().work_per_place()
+        match self {
+            Shape::Skew { .. } => 5,
+            Shape::Kurtosis { .. } => 6,
+        }
     }
 }
 
@@ -210,12 +188,6 @@ impl Setting<Var> {
         Setting { figure: Var { ddof }, min_periods: 1 }
     }
 }
-impl Setting<SkewKurtosis> {
-    /// Skewness and kurtosis with a minimum of 1.
-    pub fn skew_kurtosis(skew_bias: bool, fisher: bool, kurtosis_bias: bool) -> Self {
-        Setting { figure: SkewKurtosis { skew_bias, fisher, kurtosis_bias }, min_periods: 1 }
-    }
-}
 impl Setting<Shape> {
     /// Skewness with a minimum of 1.
     pub fn skew(bias: bool) -> Self {
@@ -256,7 +228,7 @@ impl<F: Kind> Setting<F> {
     ///
     /// ```
     /// assert_eq!(moments::Setting::var(1).work(96), 576);
-    /// assert_eq!(moments::Setting::skew_kurtosis(true, true, true).work(96), 576);
+    /// assert_eq!(moments::Setting::skew(true).work(96), 480);
     /// assert_eq!(moments::Setting::pearson_corr().work(96), 768);
     /// ```
     pub fn work(&self, widest: usize) -> usize {
@@ -275,17 +247,16 @@ pub struct Lists<'a> {
     /// Takes 1 for a figure that is present, and 0 for one that is missing.
     pub present: &'a mut [u8],
 }
-impl<'a> Lists<'a> {
-    fn new(work: &'a mut [f64], [Column { values, present }]: [Column<'a>; 1]) -> Self {
-        Lists { work, figures: values, present }
-    }
+impl Lists<'_> {
     /// As an entry takes them: work, figures and present bytes, each with its length.
     fn parts(&mut self) -> (*mut f64, usize, *mut f64, usize, *mut u8, usize) {
         let Lists { work, figures, present } = self;
         (work.as_mut_ptr(), work.len(), figures.as_mut_ptr(), figures.len(), present.as_mut_ptr(), present.len())
     }
-    fn lengths(&self) -> [[(List, usize); 2]; 1] {
-        [[(List::Figures, self.figures.len()), (List::Present, self.present.len())]]
+    /// What a refusal can say of them where so many rows are asked for.
+    fn given(&self, rows: usize) -> Given<'static> {
+        let Lists { work, figures, present } = self;
+        Given { rows, work: work.len(), figures: figures.len(), present: present.len(), ..Given::default() }
     }
 }
 
@@ -306,8 +277,8 @@ impl<'a> Column<'a> {
     fn parts(&mut self) -> (*mut f64, usize, *mut u8, usize) {
         (self.values.as_mut_ptr(), self.values.len(), self.present.as_mut_ptr(), self.present.len())
     }
-    fn lengths(&self, values: List, present: List) -> [(List, usize); 2] {
-        [(values, self.values.len()), (present, self.present.len())]
+    fn lengths(&self) -> [usize; 2] {
+        [self.values.len(), self.present.len()]
     }
 }
 
@@ -324,36 +295,12 @@ pub struct VarLists<'a> {
     /// Takes the highest readings.
     pub highest: Column<'a>,
 }
-impl<'a> VarLists<'a> {
-    fn new(work: &'a mut [f64], [variance, lowest, highest]: [Column<'a>; 3]) -> Self {
-        VarLists { work, variance, lowest, highest }
-    }
-    fn lengths(&self) -> [[(List, usize); 2]; 3] {
-        [
-            self.variance.lengths(List::Figures, List::Present),
-            self.lowest.lengths(List::Lowest, List::LowestPresent),
-            self.highest.lengths(List::Highest, List::HighestPresent),
-        ]
-    }
-}
-
-/// What a caller lends to a call that answers skewness and kurtosis of each row. Each list keeps what it holds where those of [`Lists`]
-/// do.
-#[derive(Debug)]
-pub struct ShapeLists<'a> {
-    /// [`Setting::work`] doubles, for the call's own use.
-    pub work: &'a mut [f64],
-    /// Takes the skewness.
-    pub skew: Column<'a>,
-    /// Takes the kurtosis.
-    pub kurtosis: Column<'a>,
-}
-impl<'a> ShapeLists<'a> {
-    fn new(work: &'a mut [f64], [skew, kurtosis]: [Column<'a>; 2]) -> Self {
-        ShapeLists { work, skew, kurtosis }
-    }
-    fn lengths(&self) -> [[(List, usize); 2]; 2] {
-        [self.skew.lengths(List::Skew, List::SkewPresent), self.kurtosis.lengths(List::Kurtosis, List::KurtosisPresent)]
+impl VarLists<'_> {
+    /// What a refusal can say of them where so many rows are asked for.
+    fn given(&self, rows: usize) -> Given<'static> {
+        let ([figures, present], work) = (self.variance.lengths(), self.work.len());
+        let extremes = Some([self.lowest.lengths(), self.highest.lengths()]);
+        Given { rows, work, figures, present, extremes, ..Given::default() }
     }
 }
 
@@ -383,28 +330,6 @@ pub struct Answer {
     pub lowest: Option<f64>,
     /// The highest finite reading of the window.
     pub highest: Option<f64>,
-}
-
-/// What [`plan_skew_kurtosis`] and [`rolling_skew_kurtosis`] give for a row. The minimum is that of both together; beyond it each is
-/// missing by its own count: left biased where there is no reading, corrected for bias the skewness of up to two readings and the
-/// kurtosis of up to three. A reading that is not finite makes both NaN, where they are present.
-///
-/// ```
-/// use moments::{rolling_skew_kurtosis, Setting, ShapeAnswer, Window};
-/// let (trace, all) = ([1.0, 2.0, 3.0, 2.0], Window::trailing(4));
-/// let unbiased = rolling_skew_kurtosis(&trace, None, all, Setting::skew_kurtosis(false, true, false))?;
-/// assert_eq!(unbiased[1], ShapeAnswer::default());                // two readings
-/// assert_eq!(unbiased[2], ShapeAnswer { skew: Some(0.0), kurtosis: None });
-/// let mixed = rolling_skew_kurtosis(&trace, None, all, Setting::skew_kurtosis(false, true, true))?;
-/// assert_eq!(mixed[1], ShapeAnswer { skew: None, kurtosis: Some(-2.0) });
-/// # Ok::<(), moments::Refusal>(())
-/// ```
-#[derive(Clone, Copy, Debug, Default, PartialEq)]
-pub struct ShapeAnswer {
-    /// The skewness.
-    pub skew: Option<f64>,
-    /// The kurtosis.
-    pub kurtosis: Option<f64>,
 }
 
 /// A trace that is given as bytes, eight a reading, little-endian, at any address, and the list into which an accepted call decodes
@@ -462,52 +387,36 @@ impl<const COLUMNS: usize> Room<COLUMNS> {
         let readings = [vec![0.0; first], vec![0.0; second]];
         Room { readings, work: vec![0.0; work], columns: std::array::from_fn(|_| Rows::new(rows)) }
     }
-    /// The columns alone, once a call has filled them: the answers can have the memory of the rest.
-    fn filled(
-        mut self,
-        call: impl FnOnce([&mut [f64]; 2], &mut [f64], [Column<'_>; COLUMNS]) -> Result<(), Refusal>,
-    ) -> Result<[Rows; COLUMNS], Refusal> {
-        let Room { readings: [first, second], work, columns } = &mut self;
-        call([first, second], work, columns.each_mut().map(Rows::lend))?;
-        Ok(self.columns)
+    /// The columns alone: the answers can have the memory of the rest.
+    fn columns(self) -> [Rows; COLUMNS] {
+        self.columns
     }
 }
-
-/// What a call of the variance has written, row by row.
-fn var_answers([variance, lowest, highest]: [Rows; 3]) -> Vec<Answer> {
-    let rows = variance.answers().zip(lowest.answers()).zip(highest.answers());
-    rows.map(|((variance, lowest), highest)| Answer { variance, lowest, highest }).collect()
+impl Room<1> {
+    fn lend(&mut self) -> ([&mut [f64]; 2], Lists<'_>) {
+        let Room { readings: [first, second], work, columns: [Rows { values, present }] } = self;
+        ([first, second], Lists { work, figures: values, present })
+    }
+    fn answers(self) -> Vec<Option<f64>> {
+        let [figures] = self.columns();
+        figures.answers().collect()
+    }
 }
-/// What a call of skewness and kurtosis has written, row by row.
-fn shape_answers([skew, kurtosis]: [Rows; 2]) -> Vec<ShapeAnswer> {
-    skew.answers().zip(kurtosis.answers()).map(|(skew, kurtosis)| ShapeAnswer { skew, kurtosis }).collect()
-}
-/// What a call of one figure has written, row by row.
-fn figure_answers([figures]: [Rows; 1]) -> Vec<Option<f64>> {
-    figures.answers().collect()
-}
-impl Setting {
-    /// The answers of a figure alone, out of the columns of the call that gives it.
-    fn alone(
-        self,
-        var: impl FnOnce(Setting<Var>) -> Result<[Rows; 3], Refusal>,
-        skew_kurtosis: impl FnOnce(Setting<SkewKurtosis>) -> Result<[Rows; 2], Refusal>,
-    ) -> Result<Vec<Option<f64>>, Refusal> {
-        let Setting { figure, min_periods } = self;
-        let column = match figure {
-            Figure::Var(figure) => {
-                let [variance, ..] = var(Setting { figure, min_periods })?;
-                variance
-            }
-            Figure::Shape(figure) => {
-                let [skew, kurtosis] = skew_kurtosis(Setting { figure: figure.with_other(), min_periods })?;
-                match figure {
-                    Shape::Skew { .. } => skew,
-                    Shape::Kurtosis { .. } => kurtosis,
-                }
-            }
-        };
-        Ok(figure_answers([column]))
+impl Room<3> {
+    /// The second list of readings is that of a second trace, which the variance has not.
+    fn lend(&mut self) -> (&mut [f64], VarLists<'_>) {
+        let Room { readings: [readings, _], work, columns } = self;
+        let [variance, lowest, highest] = columns.each_mut().map(Rows::lend);
+        (readings, VarLists { work, variance, lowest, highest })
+    }
+    fn variances(self) -> Vec<Option<f64>> {
+        let [variance, ..] = self.columns();
+        variance.answers().collect()
+    }
+    fn answers(self) -> Vec<Answer> {
+        let [variance, lowest, highest] = self.columns().map(Rows::answers);
+        let rows = variance.zip(lowest).zip(highest);
+        rows.map(|((variance, lowest), highest)| Answer { variance, lowest, highest }).collect()
     }
 }
 
@@ -517,19 +426,26 @@ fn bytes_of(trace: &[f64]) -> &[u8] {
     unsafe { std::slice::from_raw_parts(trace.as_ptr().cast(), size_of_val(trace)) }
 }
 
-/// A figure of each of a plan's windows: none where it is missing. It is that figure alone; [`plan_var`] gives all that comes with the
-/// variance, and [`plan_skew_kurtosis`] skewness and kurtosis in one go.
+/// A figure of each of a plan's windows: none where it is missing. Of the variance it is that alone; [`plan_var`] gives all.
 ///
 /// ```
 /// use moments::{plan, Plan, Setting};
 /// let rows = Plan::new(&[0, 1, 3], &[2, 3, 4]);
 /// assert_eq!(plan(&[2.0, 4.0, 6.0, 8.0], None, rows, Setting::var(1))?, [Some(2.0), Some(2.0), None]);
-/// assert_eq!(plan(&[2.0, 4.0, 6.0, 8.0], None, rows, Setting::skew(true))?[..2], [Some(0.0), Some(0.0)]);
 /// # Ok::<(), moments::Refusal>(())
 /// ```
 pub fn plan(trace: &[f64], map: Option<&[u8]>, plan: Plan<'_>, setting: impl Into<Setting>) -> Result<Vec<Option<f64>>, Refusal> {
-    let (var, shape) = (|setting| planned_var(trace, map, plan, setting), |setting| planned_shape(trace, map, plan, setting));
-    setting.into().alone(var, shape)
+    let Setting { figure, min_periods } = setting.into();
+    match figure {
+        Figure::Var(figure) => Ok(planned(trace, map, plan, Setting { figure, min_periods })?.variances()),
+        Figure::Shape(figure) => {
+            let (n, setting) = (trace.len(), Setting { figure, min_periods });
+            let mut room = Room::<1>::new(n, plan.starts.len(), [n, 0], setting.work(plan.widest().min(n)));
+            let ([readings, _], lists) = room.lend();
+            plan_into(bytes_of(trace), readings, map, plan, setting, lists)?;
+            Ok(room.answers())
+        }
+    }
 }
 
 /// The variance of each of a plan's windows, and their lowest and highest finite readings.
@@ -543,94 +459,52 @@ pub fn plan(trace: &[f64], map: Option<&[u8]>, plan: Plan<'_>, setting: impl Int
 /// # Ok::<(), moments::Refusal>(())
 /// ```
 pub fn plan_var(trace: &[f64], map: Option<&[u8]>, plan: Plan<'_>, setting: Setting<Var>) -> Result<Vec<Answer>, Refusal> {
-    planned_var(trace, map, plan, setting).map(var_answers)
+    Ok(planned(trace, map, plan, setting)?.answers())
 }
-fn planned_var(trace: &[f64], map: Option<&[u8]>, plan: Plan<'_>, setting: Setting<Var>) -> Result<[Rows; 3], Refusal> {
-    planned(trace, plan, setting, |bytes, readings, work, columns| {
-        plan_var_into(bytes, readings, map, plan, setting, VarLists::new(work, columns))
-    })
-}
-
-/// Skewness and kurtosis of each of a plan's windows, in one go.
-///
-/// ```
-/// use moments::{plan_skew_kurtosis, Plan, Setting, ShapeAnswer};
-/// let rows = Plan::new(&[0, 2, 2], &[2, 2, 5]);
-/// let answers = plan_skew_kurtosis(&[2.0, 4.0, 4.0, 4.0, 7.0], None, rows, Setting::skew_kurtosis(true, true, true))?;
-/// assert_eq!(answers[0], ShapeAnswer { skew: Some(0.0), kurtosis: Some(-2.0) });
-/// assert_eq!(answers[1], ShapeAnswer::default());                 // no reading
-/// assert!(answers[2].skew.unwrap() > 0.7);                        // one of three lies far above
-/// # Ok::<(), moments::Refusal>(())
-/// ```
-pub fn plan_skew_kurtosis(
-    trace: &[f64],
-    map: Option<&[u8]>,
-    plan: Plan<'_>,
-    setting: Setting<SkewKurtosis>,
-) -> Result<Vec<ShapeAnswer>, Refusal> {
-    planned_shape(trace, map, plan, setting).map(shape_answers)
-}
-fn planned_shape(
-    trace: &[f64],
-    map: Option<&[u8]>,
-    plan: Plan<'_>,
-    setting: Setting<SkewKurtosis>,
-) -> Result<[Rows; 2], Refusal> {
-    planned(trace, plan, setting, |bytes, readings, work, columns| {
-        plan_skew_kurtosis_into(bytes, readings, map, plan, setting, ShapeLists::new(work, columns))
-    })
-}
-/// What a plan's call on one trace writes, to lists as long as it needs them.
-fn planned<F: Kind, const COLUMNS: usize>(
-    trace: &[f64],
-    plan: Plan<'_>,
-    setting: Setting<F>,
-    call: impl FnOnce(&[u8], &mut [f64], &mut [f64], [Column<'_>; COLUMNS]) -> Result<(), Refusal>,
-) -> Result<[Rows; COLUMNS], Refusal> {
+fn planned(trace: &[f64], map: Option<&[u8]>, plan: Plan<'_>, setting: Setting<Var>) -> Result<Room<3>, Refusal> {
     let n = trace.len();
-    let room = Room::new(n, plan.starts.len(), [n, 0], setting.work(plan.widest().min(n)));
-    room.filled(|[readings, _], work, columns| call(bytes_of(trace), readings, work, columns))
+    let mut room = Room::<3>::new(n, plan.starts.len(), [n, 0], setting.work(plan.widest().min(n)));
+    let (readings, lists) = room.lend();
+    plan_var_into(bytes_of(trace), readings, map, plan, setting, lists)?;
+    Ok(room)
 }
 
-/// [`plan_skew_kurtosis`] into lists that the caller lends, of a trace that is given as bytes and decoded into `readings`: see
-/// [`Encoded`].
+/// [`plan`] of skewness or kurtosis into lists that the caller lends, of a trace that is given as bytes and decoded into `readings`: see
+/// [`Encoded`]. The variance has [`plan_var_into`].
 ///
 /// ```
-/// use moments::{plan_skew_kurtosis_into, Column, Plan, Setting, ShapeLists};
+/// use moments::{plan_into, Lists, Plan, Setting};
 /// let trace: Vec<u8> = [2.0f64, 4.0, 6.0].iter().flat_map(|x| x.to_le_bytes()).collect();
-/// let (rows, setting) = (Plan::new(&[0, 1], &[2, 3]), Setting::skew_kurtosis(true, true, false));
+/// let (rows, setting) = (Plan::new(&[0, 1], &[2, 3]), Setting::skew(true));
 /// let (mut readings, mut work) = ([0.0; 3], vec![0.0; setting.work(rows.widest())]);
-/// let ([mut skew, mut kurtosis], [mut skew_present, mut kurtosis_present]) = ([[9.0; 2]; 2], [[9; 2]; 2]);
-/// let lists = ShapeLists {
-///     work: &mut work,
-///     skew: Column::new(&mut skew, &mut skew_present),
-///     kurtosis: Column::new(&mut kurtosis, &mut kurtosis_present),
-/// };
-/// plan_skew_kurtosis_into(&trace, &mut readings, None, rows, setting, lists)?;
-/// assert_eq!((readings, skew, skew_present), ([2.0, 4.0, 6.0], [0.0, 0.0], [1, 1]));
-/// assert_eq!((kurtosis, kurtosis_present), ([0.0, 0.0], [0, 0]));  // corrected for bias, two readings have none
+/// let (mut figures, mut present) = ([9.0; 2], [9; 2]);
+/// let lists = Lists { work: &mut work, figures: &mut figures, present: &mut present };
+/// plan_into(&trace, &mut readings, None, rows, setting, lists)?;
+/// assert_eq!((readings, figures, present), ([2.0, 4.0, 6.0], [0.0, 0.0], [1, 1]));
 /// # Ok::<(), moments::Refusal>(())
 /// ```
-pub fn plan_skew_kurtosis_into(
+pub fn plan_into(
     trace: &[u8],
     readings: &mut [f64],
     map: Option<&[u8]>,
     plan: Plan<'_>,
-    setting: Setting<SkewKurtosis>,
-    mut lists: ShapeLists<'_>,
+    setting: Setting<Shape>,
+    lists: Lists<'_>,
 ) -> Result<(), Refusal> {
-    let (mut trace, lengths) = (Encoded { bytes: trace, readings, map }, lists.lengths());
-    let given = Given { trace: trace.given(), plan, ..Given::lent(plan.starts.len(), lists.work, &lengths) };
-    let ((t, tn, r, rn, has_map, m, mn), (s, sn, e, en)) = (trace.parts(), plan.parts());
-    let Setting { figure: SkewKurtosis { skew_bias, fisher, kurtosis_bias }, min_periods: min } = setting;
-    let (w, wn, (f, fl, p, pn)) = (lists.work.as_mut_ptr(), lists.work.len(), lists.skew.parts());
-    let (k, kn, q, qn) = lists.kurtosis.parts();
+    let (mut trace, mut lists) = (Encoded { bytes: trace, readings, map }, lists);
+    let given = Given { trace: trace.given(), plan, ..lists.given(plan.starts.len()) };
+    let (t, tn, r, rn, has_map, m, mn) = trace.parts();
+    let (min, (s, sn, e, en), (w, wn, f, fl, p, pn)) = (setting.min_periods, plan.parts(), lists.parts());
     // SAFETY: each pointer and length is a slice's, and the lists that are written to are lent to this call alone.
-    #[rustfmt::skip]
     let number = unsafe {
-        abi::moments_plan_skew_kurtosis(
-            t, tn, r, rn, has_map, m, mn, s, sn, e, en, min, skew_bias, fisher, kurtosis_bias, w, wn, f, fl, p, pn, k, kn, q, qn,
-        )
+        match setting.figure {
+            Shape::Skew { bias } => {
+                abi::moments_plan_skew(t, tn, r, rn, has_map, m, mn, s, sn, e, en, min, bias, w, wn, f, fl, p, pn)
+            }
+            Shape::Kurtosis { fisher, bias } => {
+                abi::moments_plan_kurtosis(t, tn, r, rn, has_map, m, mn, s, sn, e, en, min, fisher, bias, w, wn, f, fl, p, pn)
+            }
+        }
     };
     given.result_of_work(number, || setting.work(plan.widest()))
 }
@@ -663,10 +537,10 @@ pub fn plan_var_into(
     setting: Setting<Var>,
     mut lists: VarLists<'_>,
 ) -> Result<(), Refusal> {
-    let (mut trace, lengths) = (Encoded { bytes: trace, readings, map }, lists.lengths());
-    let given = Given { trace: trace.given(), plan, ..Given::lent(plan.starts.len(), lists.work, &lengths) };
-    let ((t, tn, r, rn, has_map, m, mn), (s, sn, e, en)) = (trace.parts(), plan.parts());
-    let Setting { figure: Var { ddof }, min_periods: min } = setting;
+    let mut trace = Encoded { bytes: trace, readings, map };
+    let given = Given { trace: trace.given(), plan, ..lists.given(plan.starts.len()) };
+    let (t, tn, r, rn, has_map, m, mn) = trace.parts();
+    let (Setting { figure: Var { ddof }, min_periods: min }, (s, sn, e, en)) = (setting, plan.parts());
     let (w, wn, (f, fl, p, pn)) = (lists.work.as_mut_ptr(), lists.work.len(), lists.variance.parts());
     let ((l, ln, lp, lpn), (h, hn, hp, hpn)) = (lists.lowest.parts(), lists.highest.parts());
     // SAFETY: each pointer and length is a slice's, and the lists that are written to are lent to this call alone.
@@ -701,13 +575,12 @@ pub fn plan_pair(
     setting: Setting<PairFigure>,
 ) -> Result<Vec<Option<f64>>, Refusal> {
     let [n, m] = [x.len(), y.len()];
-    let room = Room::new(n.max(m), plan.starts.len(), [n, m], setting.work(plan.widest().min(n)));
-    let columns = room.filled(|[x_readings, y_readings], work, columns| {
-        let x = Encoded { bytes: bytes_of(x), readings: x_readings, map: x_map };
-        let y = Encoded { bytes: bytes_of(y), readings: y_readings, map: y_map };
-        plan_pair_into(x, y, plan, setting, Lists::new(work, columns))
-    });
-    columns.map(figure_answers)
+    let mut room = Room::<1>::new(n.max(m), plan.starts.len(), [n, m], setting.work(plan.widest().min(n)));
+    let ([x_readings, y_readings], lists) = room.lend();
+    let x = Encoded { bytes: bytes_of(x), readings: x_readings, map: x_map };
+    let y = Encoded { bytes: bytes_of(y), readings: y_readings, map: y_map };
+    plan_pair_into(x, y, plan, setting, lists)?;
+    Ok(room.answers())
 }
 
 /// [`plan_pair`] into lists that the caller lends, of traces that are given as bytes.
@@ -733,9 +606,7 @@ pub fn plan_pair_into(
     setting: Setting<PairFigure>,
     mut lists: Lists<'_>,
 ) -> Result<(), Refusal> {
-    let lengths = lists.lengths();
-    let lent = Given::lent(plan.starts.len(), lists.work, &lengths);
-    let given = Given { trace: x.given(), pair: Some(y.given()), plan, ..lent };
+    let given = Given { trace: x.given(), pair: Some(y.given()), plan, ..lists.given(plan.starts.len()) };
     let (a, an, ar, arn, a_has, am, amn) = x.parts();
     let (b, bn, br, brn, b_has, bm, bmn) = y.parts();
     let (min, (s, sn, e, en), (w, wn, f, fl, p, pn)) = (setting.min_periods, plan.parts(), lists.parts());
@@ -754,8 +625,8 @@ pub fn plan_pair_into(
     given.result_of_work(number, || setting.work(plan.widest()))
 }
 
-/// A figure of each of a trace's windows of one size: none where it is missing. It is that figure alone; [`rolling_var`] gives all that
-/// comes with the variance, and [`rolling_skew_kurtosis`] skewness and kurtosis in one go.
+/// A figure of each of a trace's windows of one size: none where it is missing. Of the variance it is that alone; [`rolling_var`] gives
+/// all.
 ///
 /// ```
 /// use moments::{rolling, Setting, Window};
@@ -771,8 +642,16 @@ pub fn rolling(
     window: Window,
     setting: impl Into<Setting>,
 ) -> Result<Vec<Option<f64>>, Refusal> {
-    let (var, shape) = (|setting| rolled_var(trace, map, window, setting), |setting| rolled_shape(trace, map, window, setting));
-    setting.into().alone(var, shape)
+    let Setting { figure, min_periods } = setting.into();
+    match figure {
+        Figure::Var(figure) => Ok(rolled(trace, map, window, Setting { figure, min_periods })?.variances()),
+        Figure::Shape(figure) => {
+            let (n, setting) = (trace.len(), Setting { figure, min_periods });
+            let mut room = Room::<1>::new(n, n, [0; 2], setting.work(window.size.min(n)));
+            rolling_into(trace, map, window, setting, room.lend().1)?;
+            Ok(room.answers())
+        }
+    }
 }
 
 /// The variance of each of a trace's windows of one size, and their lowest and highest finite readings.
@@ -786,80 +665,44 @@ pub fn rolling(
 /// # Ok::<(), moments::Refusal>(())
 /// ```
 pub fn rolling_var(trace: &[f64], map: Option<&[u8]>, window: Window, setting: Setting<Var>) -> Result<Vec<Answer>, Refusal> {
-    rolled_var(trace, map, window, setting).map(var_answers)
+    Ok(rolled(trace, map, window, setting)?.answers())
 }
-fn rolled_var(trace: &[f64], map: Option<&[u8]>, window: Window, setting: Setting<Var>) -> Result<[Rows; 3], Refusal> {
-    rolled(trace, window, setting, |work, columns| rolling_var_into(trace, map, window, setting, VarLists::new(work, columns)))
-}
-
-/// Skewness and kurtosis of each of a trace's windows of one size, in one go.
-///
-/// ```
-/// use moments::{rolling_skew_kurtosis, Setting, ShapeAnswer, Window};
-/// let setting = Setting::skew_kurtosis(true, true, true).min_periods(2);
-/// let answers = rolling_skew_kurtosis(&[1.0, 3.0, 2.0], Some(&[0b101]), Window::centered(3), setting)?;
-/// assert_eq!(answers[0], ShapeAnswer::default());                 // below the minimum, which is that of both
-/// assert_eq!(answers[1], ShapeAnswer { skew: Some(0.0), kurtosis: Some(-2.0) });
-/// # Ok::<(), moments::Refusal>(())
-/// ```
-pub fn rolling_skew_kurtosis(
-    trace: &[f64],
-    map: Option<&[u8]>,
-    window: Window,
-    setting: Setting<SkewKurtosis>,
-) -> Result<Vec<ShapeAnswer>, Refusal> {
-    rolled_shape(trace, map, window, setting).map(shape_answers)
-}
-fn rolled_shape(trace: &[f64], map: Option<&[u8]>, window: Window, setting: Setting<SkewKurtosis>) -> Result<[Rows; 2], Refusal> {
-    rolled(trace, window, setting, |work, columns| {
-        rolling_skew_kurtosis_into(trace, map, window, setting, ShapeLists::new(work, columns))
-    })
-}
-/// What a call on fixed windows of one trace writes, to lists as long as it needs them.
-fn rolled<F: Kind, const COLUMNS: usize>(
-    trace: &[f64],
-    window: Window,
-    setting: Setting<F>,
-    call: impl FnOnce(&mut [f64], [Column<'_>; COLUMNS]) -> Result<(), Refusal>,
-) -> Result<[Rows; COLUMNS], Refusal> {
+fn rolled(trace: &[f64], map: Option<&[u8]>, window: Window, setting: Setting<Var>) -> Result<Room<3>, Refusal> {
     let n = trace.len();
-    Room::new(n, n, [0; 2], setting.work(window.size.min(n))).filled(|_, work, columns| call(work, columns))
+    let mut room = Room::<3>::new(n, n, [0; 2], setting.work(window.size.min(n)));
+    rolling_var_into(trace, map, window, setting, room.lend().1)?;
+    Ok(room)
 }
 
-/// [`rolling_skew_kurtosis`] into lists that the caller lends.
+/// [`rolling`] of skewness or kurtosis into lists that the caller lends. The variance has [`rolling_var_into`].
 ///
 /// ```
-/// use moments::{rolling_skew_kurtosis_into, Column, Setting, ShapeLists, Window};
-/// let (setting, mut work) = (Setting::skew_kurtosis(true, true, true).min_periods(2), [0.0; 12]);
-/// let ([mut skew, mut kurtosis], [mut skew_present, mut kurtosis_present]) = ([[9.0; 4]; 2], [[9; 4]; 2]);
-/// let lists = ShapeLists {
-///     work: &mut work,
-///     skew: Column::new(&mut skew, &mut skew_present),
-///     kurtosis: Column::new(&mut kurtosis, &mut kurtosis_present),
-/// };
-/// rolling_skew_kurtosis_into(&[2.0, 4.0, 8.0], None, Window::trailing(2), setting, lists)?;
-/// assert_eq!((skew, skew_present), ([0.0, 0.0, 0.0, 9.0], [0, 1, 1, 9]));
-/// assert_eq!((kurtosis, kurtosis_present), ([0.0, -2.0, -2.0, 9.0], [0, 1, 1, 9]));
+/// use moments::{rolling_into, Lists, Setting, Window};
+/// let (setting, mut figures, mut present) = (Setting::kurtosis(true, true), [9.0; 4], [9; 4]);
+/// let mut work = vec![0.0; setting.work(2)];
+/// let lists = Lists { work: &mut work, figures: &mut figures, present: &mut present };
+/// rolling_into(&[2.0, 4.0, 8.0], None, Window::trailing(2), setting.min_periods(2), lists)?;
+/// assert_eq!((figures, present), ([0.0, -2.0, -2.0, 9.0], [0, 1, 1, 9]));
 /// # Ok::<(), moments::Refusal>(())
 /// ```
-pub fn rolling_skew_kurtosis_into(
+pub fn rolling_into(
     trace: &[f64],
     map: Option<&[u8]>,
     window: Window,
-    setting: Setting<SkewKurtosis>,
-    mut lists: ShapeLists<'_>,
+    setting: Setting<Shape>,
+    lists: Lists<'_>,
 ) -> Result<(), Refusal> {
-    let (t, n, (has_map, m, mn), lengths) = (trace.as_ptr(), trace.len(), map_parts(map), lists.lengths());
-    let given = Given { trace: GivenTrace::new(trace, map), ..Given::lent(n, lists.work, &lengths) };
-    let Setting { figure: SkewKurtosis { skew_bias, fisher, kurtosis_bias }, min_periods: min } = setting;
-    let (Window { size, center }, (f, fl, p, pn), (k, kn, q, qn)) = (window, lists.skew.parts(), lists.kurtosis.parts());
-    let (w, wn) = (lists.work.as_mut_ptr(), lists.work.len());
+    let (t, n, (has_map, m, mn), mut lists) = (trace.as_ptr(), trace.len(), map_parts(map), lists);
+    let given = Given { trace: GivenTrace::new(trace, map), ..lists.given(n) };
+    let (Window { size, center }, min, (w, wn, f, fl, p, pn)) = (window, setting.min_periods, lists.parts());
     // SAFETY: each pointer and length is a slice's, and the lists that are written to are lent to this call alone.
-    #[rustfmt::skip]
     let number = unsafe {
-        abi::moments_rolling_skew_kurtosis(
-            t, n, has_map, m, mn, size, min, center, skew_bias, fisher, kurtosis_bias, w, wn, f, fl, p, pn, k, kn, q, qn,
-        )
+        match setting.figure {
+            Shape::Skew { bias } => abi::moments_rolling_skew(t, n, has_map, m, mn, size, min, center, bias, w, wn, f, fl, p, pn),
+            Shape::Kurtosis { fisher, bias } => {
+                abi::moments_rolling_kurtosis(t, n, has_map, m, mn, size, min, center, fisher, bias, w, wn, f, fl, p, pn)
+            }
+        }
     };
     given.result_of_work(number, || setting.work(size.min(n)))
 }
@@ -889,8 +732,8 @@ pub fn rolling_var_into(
     setting: Setting<Var>,
     mut lists: VarLists<'_>,
 ) -> Result<(), Refusal> {
-    let (t, n, (has_map, m, mn), lengths) = (trace.as_ptr(), trace.len(), map_parts(map), lists.lengths());
-    let given = Given { trace: GivenTrace::new(trace, map), ..Given::lent(n, lists.work, &lengths) };
+    let (t, n, (has_map, m, mn)) = (trace.as_ptr(), trace.len(), map_parts(map));
+    let given = Given { trace: GivenTrace::new(trace, map), ..lists.given(n) };
     let (Setting { figure: Var { ddof }, min_periods: min }, Window { size, center }) = (setting, window);
     let (w, wn, (f, fl, p, pn)) = (lists.work.as_mut_ptr(), lists.work.len(), lists.variance.parts());
     let ((l, ln, lp, lpn), (h, hn, hp, hpn)) = (lists.lowest.parts(), lists.highest.parts());
@@ -924,10 +767,9 @@ pub fn rolling_pair(
     setting: Setting<PairFigure>,
 ) -> Result<Vec<Option<f64>>, Refusal> {
     let n = x.len();
-    let room = Room::new(n.max(y.len()), n, [0; 2], setting.work(window.size.min(n)));
-    let columns =
-        room.filled(|_, work, columns| rolling_pair_into(x, x_map, y, y_map, window, setting, Lists::new(work, columns)));
-    columns.map(figure_answers)
+    let mut room = Room::<1>::new(n.max(y.len()), n, [0; 2], setting.work(window.size.min(n)));
+    rolling_pair_into(x, x_map, y, y_map, window, setting, room.lend().1)?;
+    Ok(room.answers())
 }
 
 /// [`rolling_pair`] into lists that the caller lends.
@@ -952,9 +794,7 @@ pub fn rolling_pair_into(
 ) -> Result<(), Refusal> {
     let (a, n, (a_has, am, amn)) = (x.as_ptr(), x.len(), map_parts(x_map));
     let (b, bn, (b_has, bm, bmn)) = (y.as_ptr(), y.len(), map_parts(y_map));
-    let lengths = lists.lengths();
-    let (trace, pair) = (GivenTrace::new(x, x_map), Some(GivenTrace::new(y, y_map)));
-    let given = Given { trace, pair, ..Given::lent(n, lists.work, &lengths) };
+    let given = Given { trace: GivenTrace::new(x, x_map), pair: Some(GivenTrace::new(y, y_map)), ..lists.given(n) };
     let (Window { size, center }, min, (w, wn, f, fl, p, pn)) = (window, setting.min_periods, lists.parts());
     // SAFETY: each pointer and length is a slice's, and the lists that are written to are lent to this call alone.
     #[rustfmt::skip]
@@ -987,10 +827,10 @@ pub fn rolling_var_weights(
     min_periods: usize,
     weights: &[f64],
 ) -> Result<Vec<Option<f64>>, Refusal> {
-    let columns = Room::new(trace.len(), trace.len(), [0; 2], 0).filled(|_, _, [Column { values, present }]| {
-        rolling_var_weights_into(trace, map, window, min_periods, weights, values, present)
-    });
-    columns.map(figure_answers)
+    let mut room = Room::<1>::new(trace.len(), trace.len(), [0; 2], 0);
+    let (_, Lists { figures, present, .. }) = room.lend();
+    rolling_var_weights_into(trace, map, window, min_periods, weights, figures, present)?;
+    Ok(room.answers())
 }
 
 /// [`rolling_var_weights`] into lists that the caller lends.
@@ -1021,8 +861,8 @@ pub fn rolling_var_weights_into(
     // SAFETY: each pointer and length is a slice's, and the lists that are written to are lent to this call alone.
     let number =
         unsafe { abi::moments_rolling_var_weights(t, n, has_map, m, mn, size, min_periods, center, w, wn, f, fl, p, pn) };
-    let answers = &[(List::Figures, fl), (List::Present, pn)];
-    Given { rows: n, answers, weights: wn, window_size: size, ..Given::trace(trace, map) }.result(number)
+    let given = Given { rows: n, figures: fl, present: pn, weights: wn, window_size: size, ..Given::trace(trace, map) };
+    given.result(number)
 }
 
 #[cfg(test)]

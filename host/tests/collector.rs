@@ -91,9 +91,6 @@ fn column(csv: &str, number: usize) -> Vec<String> {
 const VALID: usize = 6;
 const FIGURE: usize = 7;
 const MARK: usize = 8;
-/// Behind skewness or kurtosis the other one and its mark.
-const OTHER: usize = 9;
-const OTHER_MARK: usize = 10;
 const LOWEST: usize = 9;
 const HIGHEST: usize = 10;
 const HEADING: &str = "row,label,start,end,from,to,valid,figure,mark";
@@ -110,7 +107,6 @@ fn the_example_s_tables() {
             &["examples/year.csv", "--plan", "examples/weeks.csv", "--figure", "kurtosis", "--unbiased", "--minimum", "130"],
             "weeks_kurtosis.txt",
         ),
-        (&["examples/year.csv", "--plan", "examples/weeks.csv", "--figure", "skewness", "--csv"], "weeks_skewness.csv"),
         (&[FAN[0], FAN[1], "--figure", "correlation", "--plan", "examples/fan_weeks.csv"], "fan_weeks.txt"),
         (&[FAN[0], FAN[1], "--figure", "covariance", "--plan", "examples/fan_weeks.csv", "--csv"], "fan_weeks.csv"),
     ] {
@@ -124,9 +120,8 @@ fn the_example_s_tables() {
 #[test]
 fn the_readme_s_tables() {
     let readme = fs::read_to_string(host().join("../README.md")).expect("the README").replace("host/examples/", "examples/");
-    let printed = ["weeks.txt", "weeks_kurtosis.txt", "fan_weeks.txt"].map(expected);
-    let headings = ["  valid   variance    lowest  highest\n", "  valid     kurtosis      skewness\n", "  valid  correlation\n"];
-    for (heading, table) in headings.iter().zip(printed) {
+    let printed = ["weeks.txt", "fan_weeks.txt"].map(expected);
+    for (heading, table) in ["  valid   variance    lowest  highest\n", "  valid  correlation\n"].iter().zip(printed) {
         let block = readme.split("```").find(|block| block.starts_with("text\n") && block.contains(heading)).expect("a table");
         let lines =
             block.lines().skip(1).filter(|line| !line.starts_with("..") && !line.starts_with("$ ") && !line.starts_with("    "));
@@ -149,10 +144,7 @@ fn the_example_s_pictures() {
             &["--window", "168"],
             &["trailing, of 168 places", "figure, at its window's last place", "figure not finite", ">lowest to highest<"],
         ),
-        (
-            &["--window", "24", "--centered", "--figure", "kurtosis"],
-            &["Kurtosis less three, biased; skewness, biased; minimum 1", "centred, of 24 places", ">kurtosis<", ">skewness<"],
-        ),
+        (&["--window", "24", "--centered", "--figure", "kurtosis"], &["Kurtosis less three, biased", "centred, of 24 places"]),
     ];
     for (windows, texts) in windows {
         let mut args = vec!["examples/year.csv", "--svg", svg.to_str().expect("a name"), "--csv"];
@@ -229,44 +221,31 @@ fn example(name: &str) -> (String, Vec<f64>, Option<Vec<u8>>) {
     (text, trace, map)
 }
 
-/// Skewness and kurtosis, bounds and counts of fixed windows are those of the library, the one that was named first.
+/// Figures, bounds and counts of fixed windows are those of the library.
 #[test]
 fn fixed_windows_agree_with_the_library() {
     let (text, trace, map) = example("examples/year.csv");
-    let setting = moments::Setting::skew_kurtosis(true, false, false).min_periods(5);
-    let shown = |number: Option<f64>| number.map_or("-".to_string(), |number| format!("{number:?}"));
+    let setting = moments::Setting::skew(true).min_periods(5);
     for (window, args) in [
         (moments::Window::trailing(30), &["--window", "30"][..]),
         (moments::Window::centered(31), &["--window", "31", "--centered"]),
     ] {
-        let asked = |figure: &str| format!("--csv --figure {figure} --minimum 5 --pearson --unbiased-kurtosis");
-        let csv = |figure: &str| {
-            let options = asked(figure);
-            let all: Vec<&str> =
-                ["examples/year.csv"].into_iter().chain(options.split(' ')).chain(args.iter().copied()).collect();
-            String::from_utf8(run_in(host(), &all, b"").stdout).expect("UTF-8")
-        };
-        let [skewness, kurtosis] = ["skewness", "kurtosis"].map(csv);
-        let answers = moments::rolling_skew_kurtosis(&trace, map.as_deref(), window, setting).expect("figures");
-        let skews: Vec<String> = answers.iter().map(|answer| shown(answer.skew)).collect();
-        let kurtoses: Vec<String> = answers.iter().map(|answer| shown(answer.kurtosis)).collect();
-        assert_eq!([column(&skewness, FIGURE), column(&skewness, OTHER)], [skews.clone(), kurtoses.clone()]);
-        assert_eq!([column(&kurtosis, FIGURE), column(&kurtosis, OTHER)], [kurtoses, skews]);
-        assert_eq!(skewness.lines().next(), Some(&format!("{HEADING},kurtosis,kurtosis_mark")[..]));
-        assert_eq!(kurtosis.lines().next(), Some(&format!("{HEADING},skewness,skewness_mark")[..]));
-        for row in rows(&skewness) {
+        let mut all = vec!["examples/year.csv", "--csv", "--figure", "skewness", "--minimum", "5"];
+        all.extend(args);
+        let csv = String::from_utf8(run_in(host(), &all, b"").stdout).expect("UTF-8");
+        let answers = moments::rolling(&trace, map.as_deref(), window, setting).expect("figures");
+        let shown = answers.iter().map(|answer| answer.map_or("-".to_string(), |figure| format!("{figure:?}")));
+        assert_eq!(column(&csv, FIGURE), shown.collect::<Vec<_>>());
+        for row in rows(&csv) {
             let [start, end, valid] = [2, 3, VALID].map(|at| row[at].parse::<usize>().expect("a number"));
             assert_eq!(valid, (start..end).filter(|place| moments::is_valid(map.as_deref(), *place)).count(), "{row:?}");
-            for (figure, mark) in [(FIGURE, MARK), (OTHER, OTHER_MARK)] {
-                assert_eq!(row[mark] == "not finite", row[figure] == "NaN", "{row:?}");
-            }
         }
         // A plan of the same bounds has the same figures.
         let folder = Folder::with(&[("t.csv", text.as_bytes())]);
-        let plan: String = rows(&skewness).iter().map(|row| format!("{},{}\n", row[2], row[3])).collect();
+        let plan: String = rows(&csv).iter().map(|row| format!("{},{}\n", row[2], row[3])).collect();
         folder.write("p.csv", plan.as_bytes());
-        let by_plan = folder.table(&format!("t.csv --plan p.csv {}", asked("shape")));
-        assert_eq!([FIGURE, OTHER].map(|at| column(&by_plan, at)), [FIGURE, OTHER].map(|at| column(&skewness, at)));
+        let by_plan = folder.table("t.csv --plan p.csv --csv --figure skewness --minimum 5");
+        assert_eq!(column(&by_plan, FIGURE), column(&csv, FIGURE));
     }
 }
 
@@ -492,19 +471,6 @@ fn every_figure() {
     assert_eq!(figures("--figure kurtosis")[1], "-2.0");
     assert_eq!(figures("--figure kurtosis --pearson")[1], "1.0");
     assert_eq!(figures("--figure kurtosis --unbiased")[1], "-");
-    // each by its own setting, whichever is named
-    let other = |options: &str| column(&folder.table(&format!("t.csv --plan p.csv --csv {options}")), OTHER);
-    for (one, two) in [("skewness", "kurtosis"), ("kurtosis", "skewness")] {
-        for options in ["", "--unbiased", "--pearson", "--unbiased-skewness", "--unbiased-kurtosis"] {
-            assert_eq!(figures(&format!("--figure {one} {options}")), other(&format!("--figure {two} {options}")));
-        }
-    }
-    assert_eq!(figures("--figure skewness --unbiased-skewness"), figures("--figure skewness --unbiased"));
-    assert_eq!(figures("--figure skewness --unbiased-kurtosis"), figures("--figure skewness"));
-    assert_eq!(other("--figure skewness --unbiased-kurtosis"), other("--figure shape --unbiased"));
-    assert_eq!(other("--figure skewness --unbiased-skewness"), other("--figure shape"));
-    assert_ne!(figures("--figure skewness --unbiased"), figures("--figure skewness"));
-    assert_ne!(other("--figure skewness --unbiased"), other("--figure skewness"));
     assert_eq!(column(&folder.table("t.csv --window 0 --csv --minimum 0"), FIGURE), ["-"; 7]);
 }
 
@@ -556,7 +522,7 @@ fn lowest_and_highest() {
     );
     for figure in ["skewness", "kurtosis"] {
         let other = folder.table(&format!("t.csv --plan p.csv --csv --figure {figure}"));
-        assert!(other.starts_with(&format!("{HEADING},")) && !other.contains("lowest"), "{other}");
+        assert!(other.starts_with(&format!("{HEADING}\n")), "{other}");
         assert!(!folder.table(&format!("t.csv --plan p.csv --figure {figure}")).contains("lowest"));
     }
 }
@@ -672,7 +638,7 @@ fn wrong_command_lines_get_a_hint() {
     let help = folder.table("--help");
     let options =
         ["--plan", "--window", "--centered", "--weights", "--figure", "--ddof", "--unbiased", "--pearson", "--minimum", "--csv"];
-    for option in options.iter().chain(&["--unbiased-skewness, --unbiased-kurtosis\n", "--output", "--svg", "--help"]) {
+    for option in options.iter().chain(&["--output", "--svg", "--help"]) {
         assert!(help.contains(&format!("\n  {option} ")), "{option}");
     }
     assert!(help.lines().all(|line| line.chars().count() <= 120));

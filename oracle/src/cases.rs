@@ -1,11 +1,10 @@
 //! The calls on windows that `words` stores: those by hand, then random ones of every number and figure, then maps of other lengths, then
-//! what tells readings of document 02's request 4 apart, lowest and highest, then those of request 5, skewness and kurtosis in one call.
-//! Those before these were picked when each figure had a call of its own, and are picked so still.
+//! what tells readings of document 02's request 4 apart, lowest and highest.
 use crate::account::{afresh, Readings};
 use crate::extremes::roughen;
 use crate::host::{Case, Room, EASY};
 use crate::rng::Rng;
-use crate::{fixed, maps, offsets, plan, same_row, windows, Asked, Columns, Figure};
+use crate::{fixed, maps, offsets, plan, same_row, windows, Figure};
 
 const VAR: Figure = EASY[0];
 const INF: f64 = f64::INFINITY;
@@ -107,7 +106,7 @@ fn in_order(r: &mut Rng) -> Vec<(u32, Case)> {
         v.push((number, edge.clone()));
     }
     // without a map nothing is asked of what stands there
-    edge.room = Room { readings: 9, work: 54, figures: 2, present: 2, more: [2; 4] };
+    edge.room = Room { readings: 9, work: 54, figures: 2, present: 2, extremes: [2; 4] };
     edge.map = vec![1, 2, 3];
     v.push((0, edge));
     v
@@ -120,11 +119,6 @@ fn picked_for(number: u32, map: Option<&[u8]>, n: usize) -> u32 {
         _ => number,
     }
 }
-/// Whether the figure for which a call is picked has a number among its answers.
-fn tells(drawn: Figure, answers: Columns) -> bool {
-    let column = matches!(drawn, Figure::Kurt { .. }) as usize;
-    answers[column].iter().flatten().any(|x| !x.is_nan() && *x != 0.0)
-}
 /// Random calls, small, in equal parts of each figure; two thirds are accepted, most of those with a number among the answers.
 fn random(r: &mut Rng, count: usize) -> Vec<Case> {
     let numbers = [3, 4, 5, 6, 7, 12, 13, 14];
@@ -133,12 +127,12 @@ fn random(r: &mut Rng, count: usize) -> Vec<Case> {
         .map(|i| {
             let number = if i % 3 == 2 { numbers[i / 9 % 8] } else { 0 };
             let figure = kind(&EASY[i / 3 % 3]);
-            let tells = |case: &Case| i % 4 == 3 || tells(case.drawn, case.call().answers());
+            let tells = |case: &Case| i % 4 == 3 || case.call().answers().iter().flatten().any(|x| !x.is_nan() && *x != 0.0);
             loop {
                 let case = if number == 0 { Case::any(r, 10, 6) } else { Case::any(r, 5, 3) };
                 let call = case.call();
                 let picked = picked_for(call.refusal(case.room), call.map(), call.trace.len() / 8);
-                if kind(&case.drawn) == figure && picked == number && (number != 0 || tells(&case)) {
+                if kind(&case.figure) == figure && picked == number && (number != 0 || tells(&case)) {
                     return case;
                 }
             }
@@ -231,7 +225,7 @@ fn fixed_in_order(r: &mut Rng) -> Vec<(u32, windows::Case)> {
             v.push((number, Case { room, ..good.clone() }));
         }
         // the widest window is the trace where the size is more: as much work is needed, and one double less is 13
-        for (number, work) in [(0, Asked::ENTRY * 9), (13, Asked::ENTRY * 9 - 1)] {
+        for (number, work) in [(0, f.entry() * 9), (13, f.entry() * 9 - 1)] {
             v.push((number, Case { size: usize::MAX - k, room: Room { work, ..good.room }, ..good.clone() }));
         }
         // a size of 0 needs no work, and without a map nothing is asked of what stands there
@@ -351,10 +345,10 @@ fn random_windows(r: &mut Rng, count: usize, numbers: &[u32], any: fn(&mut Rng, 
         .map(|i| {
             let number = if i % 3 == 2 { numbers[i / 9 % numbers.len()] } else { 0 };
             let figure = kind(&EASY[i / 3 % 3]);
-            let tells = |case: &windows::Case| i % 4 == 3 || tells(case.drawn, case.call().answers());
+            let tells = |case: &windows::Case| i % 4 == 3 || case.call().answers().iter().flatten().any(|x| !x.is_nan() && *x != 0.0);
             loop {
                 let case = any(r, if number == 0 { 9 } else { 4 });
-                let asked = case.weights.is_some() || kind(&case.drawn) == figure;
+                let asked = case.weights.is_some() || kind(&case.figure) == figure;
                 let call = case.call();
                 let picked = picked_for(call.refusal(case.room), call.map(), call.x.len());
                 if asked && picked == number && (number != 0 || tells(&case)) {
@@ -446,10 +440,6 @@ fn showing() -> Vec<Shown> {
         (vec![3.0, -1.0, 8.0, 2.0], vec![(0, 0), (0, 2), (2, 2), (2, 4), (4, 4)]),
     ]
 }
-/// Whether rows of variance have more than one lowest and highest.
-fn shows(answers: &Columns) -> bool {
-    answers[1..].iter().flatten().flatten().count() > 3
-}
 /// Of these traces, and of random ones, plans without a map and with one that hides every third place; rows below the minimum; lists that
 /// are too short by one, each of the four; and work at and about 4, 5 and 6 doubles a place.
 pub fn extreme_cases(r: &mut Rng) -> Vec<Case> {
@@ -473,9 +463,8 @@ pub fn extreme_cases(r: &mut Rng) -> Vec<Case> {
     // no place valid, or all valid ones bad
     v.push(Case::new(VAR, 0, &x, Some(&[0]), &[(0, 4), (2, 8)]));
     v.push(Case::new(VAR, 0, &[NAN, 1.0, INF, 2.0, -INF, 3.0], Some(&[0x15]), &[(0, 2), (0, 4), (2, 6)]));
-    let good = Case::new(VAR, 1, &x, None, &[(0, 3), (2, 6)]);
-    for (number, room) in short_rooms(VAR.into(), good.room, 2, 4) {
-        let case = Case { room, ..good.clone() };
+    for (number, room) in short_rooms(Case::new(VAR, 1, &x, None, &[(0, 3), (2, 6)]).room, 2, 4) {
+        let case = Case { room, ..Case::new(VAR, 1, &x, None, &[(0, 3), (2, 6)]) };
         assert_eq!(case.call().refusal(case.room), number, "{case:?}");
         v.push(case);
     }
@@ -487,7 +476,7 @@ pub fn extreme_cases(r: &mut Rng) -> Vec<Case> {
             case.trace = x.iter().flat_map(|x| x.to_le_bytes()).collect();
             let call = case.call();
             let accepted = call.has_map == (i % 2 == 1) && call.refusal(case.room) == 0;
-            if accepted && case.asked.has_extremes() && shows(&call.answers()) {
+            if accepted && call.extremes().is_some_and(|rows| rows.iter().flatten().flatten().count() > 3) {
                 break case;
             }
         });
@@ -495,30 +484,24 @@ pub fn extreme_cases(r: &mut Rng) -> Vec<Case> {
     v
 }
 /// Lists of a call of so many rows whose widest window has so many places, each with the number that they make: one list after the other
-/// behind the first two too short by one, and several; work at and about 4, 5 and 6 doubles a place; and all longer than is needed.
-fn short_rooms(asked: Asked, good: Room, rows: usize, widest: usize) -> Vec<(u32, Room)> {
+/// too short by one, and several; work at and about 4, 5 and 6 doubles a place; and all longer than is needed.
+fn short_rooms(good: Room, rows: usize, widest: usize) -> Vec<(u32, Room)> {
     let mut v = Vec::new();
-    let lists = 2 * (asked.columns() - 1);
-    let behind = |lengths: [usize; 4]| {
-        let mut more = [0; 4];
-        more[..lists].copy_from_slice(&lengths[..lists]);
-        Room { more, ..good }
-    };
-    for k in 0..lists {
+    for k in 0..4 {
         let mut room = good;
-        room.more[k] = rows - 1;
+        room.extremes[k] = rows - 1;
         v.push((12, room));
         // 12 before 13
         v.push((12, Room { work: 0, ..room }));
-        room = behind([rows + 3; 4]);
-        room.more[k] = 0;
+        room.extremes = [rows + 3; 4];
+        room.extremes[k] = 0;
         v.push((12, room));
     }
-    v.push((12, behind([0; 4])));
+    v.push((12, Room { extremes: [0; 4], ..good }));
     for (number, work) in [(13, 4 * widest), (13, 5 * widest), (13, 6 * widest - 1), (0, 6 * widest), (0, 6 * widest + 2)] {
         v.push((number, Room { work, ..good }));
     }
-    v.push((0, Room { figures: rows + 1, present: rows + 2, ..behind([rows + 4, rows + 1, rows + 3, rows + 2]) }));
+    v.push((0, Room { figures: rows + 1, present: rows + 2, extremes: [rows + 4, rows + 1, rows + 3, rows + 2], ..good }));
     v
 }
 /// The same over fixed windows, trailing and centred.
@@ -540,90 +523,18 @@ pub fn extreme_fixed_cases(r: &mut Rng) -> Vec<windows::Case> {
             }
         }
     }
-    let good = Case::new(VAR, &x, None, 3, 1, false);
-    let short = short_rooms(VAR.into(), good.room, 8, 3).into_iter().map(|(number, room)| (number, Case { room, ..good.clone() }));
-    v.extend(numbered(short.collect()));
+    for (number, room) in short_rooms(Case::new(VAR, &x, None, 3, 1, false).room, 8, 3) {
+        let case = Case { room, ..Case::new(VAR, &x, None, 3, 1, false) };
+        assert_eq!(case.call().refusal(case.room), number, "{case:?}");
+        v.push(case);
+    }
     for i in 0..16 {
         v.push(loop {
             let mut case = Case::any(r, 9);
             roughen(r, &mut case.x);
             let call = case.call();
             let accepted = call.has_map == (i % 2 == 1) && call.refusal(case.room) == 0;
-            if accepted && case.asked.has_extremes() && shows(&call.answers()) {
-                break case;
-            }
-        });
-    }
-    v
-}
-
-// ---- skewness and kurtosis in one call ----
-/// Every way of asking for both.
-fn askings() -> impl Iterator<Item = Asked> {
-    let bit = |k: usize, at: usize| k >> at & 1 == 1;
-    (0..8).map(move |k| Asked::SkewKurtosis { skew_bias: bit(k, 0), kurtosis_bias: bit(k, 1), fisher: bit(k, 2) })
-}
-const SKEW: Figure = EASY[1];
-/// Readings, one of them not finite and the last two alike, and windows of none of them to four: biased, a figure is there from one
-/// reading on, the skewness else from three and the kurtosis from four.
-const GROWING: [f64; 8] = [1.5, 2.25, 7.0, -3.5, 4.0, NAN, 4.0, 4.0];
-const GROWN: [(usize, usize); 10] = [(0, 0), (0, 1), (0, 2), (0, 3), (0, 4), (1, 5), (2, 5), (3, 6), (4, 5), (6, 8)];
-/// Plans that tell wrong readings of request 5: either bias and fisher, at the counts where each figure goes missing; minimums about
-/// these counts, with a map and without; lists that are too short by one, each of the four; work at and about 5 and 6 doubles a place; and
-/// random calls in which but one of the two is present.
-pub fn both_cases(r: &mut Rng) -> Vec<Case> {
-    let mut v = Vec::new();
-    let new = |asked: Asked, min: usize, map: Option<&[u8]>| Case { asked, ..Case::new(SKEW, min, &GROWING, map, &GROWN) };
-    for (k, asked) in askings().enumerate() {
-        v.push(new(asked, 0, None));
-        v.push(new(asked, [1, 2, 3, 4][k % 4], None));
-        v.push(new(asked, [4, 3, 0, 1, 2][k % 5], Some(&[[0xFF, 0xDE, 0xB7][k % 3]])));
-    }
-    let asked = SKEW.into();
-    let x = [2.0, -7.0, 4.0, 9.0, -3.0, 8.0, 1.0, 6.0];
-    let good = Case::new(SKEW, 1, &x, None, &[(0, 3), (2, 6)]);
-    for (number, room) in short_rooms(asked, good.room, 2, 4) {
-        let case = Case { room, ..good.clone() };
-        assert_eq!(case.call().refusal(case.room), number, "{case:?}");
-        v.push(case);
-    }
-    for i in 0..12 {
-        v.push(loop {
-            let case = Case::any(r, 10, 6);
-            let call = case.call();
-            if call.has_map == (i % 2 == 1) && call.refusal(case.room) == 0 && parts(case.asked, call.answers()) {
-                break case;
-            }
-        });
-    }
-    v
-}
-/// Whether a row has one of the two figures alone, and a row has a number.
-fn parts(asked: Asked, answers: Columns) -> bool {
-    let [skewness, kurtosis] = &answers[..] else { return false };
-    let alone = skewness.iter().zip(kurtosis).any(|(s, k)| s.is_some() != k.is_some());
-    !asked.has_extremes() && alone && skewness.iter().chain(kurtosis).flatten().any(|x| !x.is_nan() && *x != 0.0)
-}
-/// The same over fixed windows, trailing and centred.
-pub fn both_fixed_cases(r: &mut Rng) -> Vec<windows::Case> {
-    use windows::Case;
-    let mut v = Vec::new();
-    let new = |asked: Asked, map: Option<&[u8]>, (size, min): (usize, usize), centre: bool| {
-        Case { asked, ..Case::new(SKEW, &GROWING, map, size, min, centre) }
-    };
-    for (k, asked) in askings().enumerate() {
-        v.push(new(asked, None, (4, 0), k % 2 == 0));
-        v.push(new(asked, None, [(3, 3), (4, 2), (3, 1), (5, 4)][k / 2], k % 2 == 1));
-        v.push(new(asked, Some(&[[0xFF, 0xDE, 0xB7][k % 3]]), [(4, 3), (5, 0), (3, 2), (4, 1), (4, 4)][k % 5], k % 2 == 0));
-    }
-    let (asked, good) = (SKEW.into(), Case::new(SKEW, &GROWING, None, 3, 1, false));
-    let short = short_rooms(asked, good.room, 8, 3).into_iter().map(|(number, room)| (number, Case { room, ..good.clone() }));
-    v.extend(numbered(short.collect()));
-    for i in 0..12 {
-        v.push(loop {
-            let case = Case::any(r, 9);
-            let call = case.call();
-            if call.has_map == (i % 2 == 1) && call.refusal(case.room) == 0 && parts(case.asked, call.answers()) {
+            if accepted && call.extremes().is_some_and(|rows| rows.iter().flatten().flatten().count() > 3) {
                 break case;
             }
         });

@@ -22,10 +22,6 @@ pub fn of_window(x: &[f64], map: Option<&[u8]>, (start, end): (usize, usize)) ->
 pub fn of_rows(x: &[f64], map: Option<&[u8]>, rows: impl Iterator<Item = (usize, usize)>, min: usize) -> Vec<Extremes> {
     rows.map(|(s, e)| if map.is_none() && e - s < min { [None; 2] } else { of_window(x, map, (s, e)) }).collect()
 }
-/// The column of the lowest and that of the highest.
-pub fn columns(rows: &[Extremes]) -> [Vec<Option<f64>>; 2] {
-    [0, 1].map(|side| rows.iter().map(|row| row[side]).collect())
-}
 /// By their bits: what goes out is never a NaN.
 pub fn alike(a: &[Extremes], b: &[Extremes]) -> bool {
     let bits = |row: &Extremes| row.map(|x| x.map(f64::to_bits));

@@ -1,8 +1,8 @@
 //! Document 01's host call of a plan: what it is given, what the Rust answers to it, and random calls.
 use crate::account::valid;
-use crate::extremes;
+use crate::extremes::{self, Extremes};
 use crate::rng::Rng;
-use crate::{plan, refusal, Asked, Columns, Figure};
+use crate::{plan, refusal, Figure};
 
 /// Each figure with a setting under which it is present wherever the window has some readings.
 pub const EASY: [Figure; 3] = [Figure::Var { ddof: 1 }, Figure::Skew { bias: true }, Figure::Kurt { fisher: true, bias: true }];
@@ -10,7 +10,7 @@ pub const EASY: [Figure; 3] = [Figure::Var { ddof: 1 }, Figure::Skew { bias: tru
 /// What a call is given, in our entries' order; `map` may hold anything where `has_map` is false.
 #[derive(Clone, Copy, Debug)]
 pub struct Call<'a> {
-    pub asked: Asked,
+    pub figure: Figure,
     pub trace: &'a [u8],
     pub has_map: bool,
     pub map: &'a [u8],
@@ -23,43 +23,31 @@ pub struct Call<'a> {
 pub struct Room {
     pub readings: usize,
     pub work: usize,
-    /// Of the first column.
     pub figures: usize,
     pub present: usize,
-    /// Of the lists behind these two, a column's doubles and then its bytes: of variance without weights lowest and highest, of skewness
-    /// the kurtosis, and then none.
-    pub more: [usize; 4],
+    /// Of the lists of the lowest, of its bytes, of the highest and of its bytes, which only variance without weights is lent.
+    pub extremes: [usize; 4],
 }
 impl Room {
     /// Of all lists that take answers.
     pub fn outs(&self) -> [usize; 6] {
-        let [a, b, c, d] = self.more;
+        let [a, b, c, d] = self.extremes;
         [self.figures, self.present, a, b, c, d]
     }
-    /// The lists behind the first two, which a call that asks this is lent.
-    fn behind(&mut self, asked: Asked) -> &mut [usize] {
-        &mut self.more[..2 * (asked.columns() - 1)]
-    }
-    /// All lists behind the first two as long as so many rows.
-    pub(crate) fn with_more(mut self, asked: Asked, rows: usize) -> Room {
-        self.more = [0; 4];
-        self.behind(asked).fill(rows);
-        self
-    }
-    /// Some of them longer than they were, drawn by a generator of its own: what is drawn by the other one goes on as it would without it.
-    pub(crate) fn lengthen_more(&mut self, asked: Asked, r: &Rng) {
+    /// Some of the lists of lowest and highest longer than they were, drawn by a generator of its own: what is drawn by the other one goes
+    /// on as it would without it.
+    pub(crate) fn lengthen_extremes(&mut self, r: &Rng) {
         let mut r = Rng(r.0 ^ 0x4C4F_5745_5354);
-        for list in self.behind(asked) {
+        for list in &mut self.extremes {
             if r.chance(1, 3) {
                 *list += r.below(5);
             }
         }
     }
-    /// One of them shorter than so many rows, where there are any: 12 if nothing comes before it.
-    pub fn shorten_more(&mut self, asked: Asked, r: &mut Rng, rows: usize) {
-        let lists = self.behind(asked);
-        let k = r.below(lists.len());
-        lists[k] = if r.chance(2, 3) { rows.saturating_sub(1) } else { r.below(rows + 1) };
+    /// One of these lists shorter than so many rows, where there are any: 12 if nothing comes before it.
+    pub fn shorten_extremes(&mut self, r: &mut Rng, rows: usize) {
+        let k = r.below(4);
+        self.extremes[k] = if r.chance(2, 3) { rows.saturating_sub(1) } else { r.below(rows + 1) };
     }
 }
 impl<'a> Call<'a> {
@@ -79,11 +67,11 @@ impl<'a> Call<'a> {
     }
     /// Doubles of the work slice that the plan needs.
     pub fn need(&self) -> usize {
-        Asked::ENTRY * self.widest()
+        self.figure.entry() * self.widest()
     }
     /// The output lists that the call is lent, of those of a room.
     pub fn outs<'r>(&self, outs: &'r [usize; 6]) -> &'r [usize] {
-        &outs[..2 * self.asked.columns()]
+        if self.figure.has_extremes() { outs } else { &outs[..2] }
     }
     pub fn refusal(&self, room: Room) -> u32 {
         let wide = |v: &[u32]| v.iter().map(|x| *x as usize).collect::<Vec<_>>();
@@ -94,24 +82,25 @@ impl<'a> Call<'a> {
             &wide(self.ends),
             room.readings,
             self.outs(&room.outs()),
-            Asked::ENTRY,
+            self.figure.entry(),
             room.work,
         )
     }
-    /// The Rust's answers, and the lowest and the highest where they are asked; the call must be accepted.
-    pub fn answers(&self) -> Columns {
-        let (x, map, rows) = (self.readings(), self.map(), self.rows());
-        let lows = || extremes::of_rows(&x, map, rows.iter().copied(), self.min);
-        self.asked.answers(|figure| plan(&x, map, &rows, figure, self.min), lows)
+    /// The Rust's answers; the call must be accepted.
+    pub fn answers(&self) -> Vec<Option<f64>> {
+        plan(&self.readings(), self.map(), &self.rows(), self.figure, self.min)
+    }
+    /// Of each row the lowest and the highest, where the figure has them; the call must be accepted.
+    pub fn extremes(&self) -> Option<Vec<Extremes>> {
+        let of = || extremes::of_rows(&self.readings(), self.map(), self.rows().into_iter(), self.min);
+        self.figure.has_extremes().then(of)
     }
 }
 
 /// A call that owns what it is given.
 #[derive(Clone, Debug)]
 pub struct Case {
-    pub asked: Asked,
-    /// The figure that was drawn, or that the case was made for: by it random calls are picked and their work is drawn.
-    pub drawn: Figure,
+    pub figure: Figure,
     pub trace: Vec<u8>,
     pub has_map: bool,
     pub map: Vec<u8>,
@@ -123,24 +112,25 @@ pub struct Case {
 impl Case {
     /// An accepted call, each list just as long as is needed.
     pub fn new(figure: Figure, min: usize, x: &[f64], map: Option<&[u8]>, rows: &[(usize, usize)]) -> Case {
-        let asked = figure.into();
         let mut case = Case {
-            asked,
-            drawn: figure,
+            figure,
             trace: x.iter().flat_map(|v| v.to_bits().to_le_bytes()).collect(),
             has_map: map.is_some(),
             map: map.unwrap_or(&[]).to_vec(),
             starts: rows.iter().map(|v| v.0 as u32).collect(),
             ends: rows.iter().map(|v| v.1 as u32).collect(),
             min,
-            room: Room { readings: x.len(), figures: rows.len(), present: rows.len(), ..Room::default() }.with_more(asked, rows.len()),
+            room: Room { readings: x.len(), work: 0, figures: rows.len(), present: rows.len(), extremes: [0; 4] },
         };
         case.room.work = case.call().need();
+        if figure.has_extremes() {
+            case.room.extremes = [rows.len(); 4];
+        }
         case
     }
     pub fn call(&self) -> Call<'_> {
         Call {
-            asked: self.asked,
+            figure: self.figure,
             trace: &self.trace,
             has_map: self.has_map,
             map: &self.map,
@@ -149,27 +139,29 @@ impl Case {
             min: self.min,
         }
     }
-    /// Doubles of work that the call needs more than that of its figure did before requests 4 and 5. A plan that is refused may ask for
-    /// more than there can be: its work, which is not looked at, stays as it is drawn.
+    /// Doubles of work that variance needs more than it did before request 4. A plan that is refused may ask for more than there can be:
+    /// its work, which is not looked at, stays as it is drawn.
     fn more_work(&self) -> usize {
         let widest = self.call().widest();
-        if widest <= self.trace.len() / 8 { (Asked::ENTRY - self.drawn.drawn_entry()) * widest } else { 0 }
+        if widest <= self.trace.len() / 8 { (self.figure.entry() - self.figure.drawn_entry()) * widest } else { 0 }
     }
-    /// Doubles of work that the call was lent before those requests, for whatever is drawn by it.
+    /// Doubles of work that the call was lent before request 4, for whatever is drawn by it.
     pub fn drawn_work(&self) -> usize {
         self.room.work.saturating_sub(self.more_work())
     }
     /// A random call over at most `most` readings in at most `count` rows, mostly one that is accepted. Half of them are
-    /// keen: windows of some places, and a setting and a minimum under which most figures are present. The lists behind the first two are
-    /// as long as the rows or longer.
+    /// keen: windows of some places, and a setting and a minimum under which most figures are present. The lists of lowest and highest
+    /// are as long as the rows or longer.
     pub fn any(r: &mut Rng, most: usize, count: usize) -> Case {
         let mut case = Case::drawn(r, most, count).0;
         case.room.work += case.more_work();
-        case.room = case.room.with_more(case.asked, case.starts.len());
-        case.room.lengthen_more(case.asked, r);
+        if case.figure.has_extremes() {
+            case.room.extremes = [case.starts.len(); 4];
+            case.room.lengthen_extremes(r);
+        }
         case
     }
-    /// The same with the lists of a call before requests 4 and 5, and how much its work is longer than was needed then, or shorter.
+    /// The same with the lists of a call before request 4, and how much its work is longer than was needed then, or shorter.
     pub(crate) fn drawn(r: &mut Rng, most: usize, count: usize) -> (Case, isize) {
         let keen = r.chance(1, 2);
         let n = if r.chance(1, 12) { r.below(3) } else { r.below(most + 1) };
@@ -191,7 +183,6 @@ impl Case {
             _ => r.figure(),
         };
         let mut case = Case::new(figure, min, &x, map.as_deref(), &rows);
-        case.asked = Asked::with(figure, &mut Rng(r.0 ^ 0x424F_5448));
         if map.is_none() && r.chance(1, 2) {
             // no map is lent: whatever stands there is not looked at
             case.map = (0..r.below(4)).map(|_| r.u64() as u8).collect();
@@ -214,11 +205,6 @@ impl Case {
         kinds.iter().for_each(|k| case.shorten(r, *k, need));
         let spare = case.room.work as isize - need as isize;
         (case, spare)
-    }
-    /// An accepted call over mostly finite readings, with windows of few places and of many.
-    pub fn wide(r: &mut Rng, n: usize, count: usize) -> Case {
-        let ((x, map), rows, figure, min) = (readings(r, n, true), r.swells(n, count), r.figure(), r.below(4));
-        Case { asked: Asked::with(figure, r), ..Case::new(figure, min, &x, map.as_deref(), &rows) }
     }
     /// A fault of what is given: 14, 3, 4, 5, 6 or 7, where it comes to one; a map that gets longer is none.
     fn spoil(&mut self, r: &mut Rng, kind: usize) {

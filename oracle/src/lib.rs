@@ -7,7 +7,6 @@ pub mod moment;
 pub mod rolling;
 
 pub mod account;
-pub mod both;
 pub mod cases;
 pub mod extremes;
 pub mod host;
@@ -21,11 +20,9 @@ pub mod rng;
 pub mod second;
 pub mod windows;
 
-pub use arrow::array::ArrayRef;
-use arrow::array::PrimitiveArray;
+use arrow::array::{ArrayRef, PrimitiveArray};
 use arrow::bitmap::Bitmap;
 use arrow::datatypes::ArrowDataType;
-use extremes::Extremes;
 pub use moment::{CovState, KurtosisState, PearsonState, SkewState, VarState};
 pub use moment::oracle_access as states;
 use rolling::no_nulls::{
@@ -33,10 +30,9 @@ use rolling::no_nulls::{
     VarianceMoment,
 };
 use rolling::nulls::{self, RollingAggWindowNulls};
-use rng::Rng;
 use rolling::{RollingFnParams, RollingVarParams};
 
-/// A figure of the Rust's own functions, with what its `finalize` takes.
+/// Which figure is asked, with what its `finalize` takes.
 #[derive(Clone, Copy, Debug, PartialEq)]
 pub enum Figure {
     Var { ddof: u8 },
@@ -51,72 +47,24 @@ impl Figure {
             Figure::Kurt { fisher, bias } => RollingFnParams::Kurtosis { fisher, bias },
         })
     }
-    /// Doubles of work a place by which random calls are drawn: as it was before requests 4 and 5, when each figure had a call of its own,
-    /// so that the calls that are stored stay the same.
-    pub(crate) fn drawn_entry(self) -> usize {
+    /// Doubles of work a window place (document 01; of variance document 02, request 4).
+    pub fn entry(self) -> usize {
         match self {
-            Figure::Var { .. } => 4,
+            Figure::Var { .. } => 6,
             Figure::Skew { .. } => 5,
             Figure::Kurt { .. } => 6,
         }
     }
-}
-
-/// Answers of the rows of a call, a list for each column: a figure, the lowest reading or the highest.
-pub type Columns = Vec<Vec<Option<f64>>>;
-
-/// What a call on windows of one trace asks: variance, and with it the lowest and the highest reading (document 02, request 4), or
-/// skewness and kurtosis, each biased or not (request 5).
-#[derive(Clone, Copy, Debug, PartialEq)]
-pub enum Asked {
-    Var { ddof: u8 },
-    SkewKurtosis { skew_bias: bool, fisher: bool, kurtosis_bias: bool },
-}
-impl Asked {
-    /// Doubles of work a window place, of either (requests 4 and 5).
-    pub const ENTRY: usize = 6;
-    /// The call that gives this figure; what is asked of the other one of two is drawn.
-    pub fn with(figure: Figure, r: &mut Rng) -> Asked {
-        match figure {
-            Figure::Var { ddof } => Asked::Var { ddof },
-            Figure::Skew { bias } => Asked::SkewKurtosis { skew_bias: bias, fisher: r.chance(1, 2), kurtosis_bias: r.chance(1, 2) },
-            Figure::Kurt { fisher, bias } => Asked::SkewKurtosis { skew_bias: r.chance(1, 2), fisher, kurtosis_bias: bias },
-        }
-    }
-    /// What the Rust is asked in its place: each figure by the function that had it before.
-    pub fn figures(self) -> Vec<Figure> {
-        match self {
-            Asked::Var { ddof } => vec![Figure::Var { ddof }],
-            Asked::SkewKurtosis { skew_bias, fisher, kurtosis_bias } => {
-                vec![Figure::Skew { bias: skew_bias }, Figure::Kurt { fisher, bias: kurtosis_bias }]
-            }
-        }
-    }
     /// Whether the call also gives the lowest and the highest reading.
     pub fn has_extremes(self) -> bool {
-        matches!(self, Asked::Var { .. })
+        matches!(self, Figure::Var { .. })
     }
-    /// Columns of answers, each two lists, of doubles and of bytes.
-    pub fn columns(self) -> usize {
-        if self.has_extremes() { 3 } else { 2 }
-    }
-    /// The call's answers: those of the Rust, by figure, and the lowest and the highest.
-    pub fn answers(self, rust: impl Fn(Figure) -> Vec<Option<f64>>, lows: impl FnOnce() -> Vec<Extremes>) -> Columns {
-        let mut columns: Columns = self.figures().into_iter().map(rust).collect();
-        if self.has_extremes() {
-            columns.extend(extremes::columns(&lows()));
-        }
-        columns
-    }
-}
-/// The call that gives this figure. Of skewness and kurtosis the other one is biased where this one is not, so that calls that are made
-/// for either are not the same.
-impl From<Figure> for Asked {
-    fn from(figure: Figure) -> Asked {
-        match figure {
-            Figure::Var { ddof } => Asked::Var { ddof },
-            Figure::Skew { bias } => Asked::SkewKurtosis { skew_bias: bias, fisher: bias, kurtosis_bias: !bias },
-            Figure::Kurt { fisher, bias } => Asked::SkewKurtosis { skew_bias: !bias, fisher, kurtosis_bias: bias },
+    /// Doubles of work a place by which random calls are drawn: as it was before request 4, so that the calls that are stored stay the
+    /// same.
+    pub(crate) fn drawn_entry(self) -> usize {
+        match self {
+            Figure::Var { .. } => 4,
+            _ => self.entry(),
         }
     }
 }

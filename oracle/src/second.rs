@@ -3,7 +3,7 @@
 use crate::host::{Call, Room};
 use crate::{pairs, windows};
 #[cfg(feature = "host")]
-use crate::PairFigure;
+use crate::{Figure, PairFigure};
 
 /// What a call answers.
 #[derive(Debug)]
@@ -20,14 +20,19 @@ impl Answer {
         }
     }
 }
-/// The lists that take a column of answers, doubles and bytes.
-pub type Column<'a> = (&'a mut [f64], &'a mut [u8]);
-/// The columns that take the answers of a call on one trace: variance, lowest and highest, or skewness and kurtosis, or with weights the
-/// variance alone. Those that a call has not are of no places.
-pub type Outputs<'a> = [Column<'a>; 3];
-fn room([first, second, third]: &Outputs, readings: usize, work: usize) -> Room {
-    let more = [second.0.len(), second.1.len(), third.0.len(), third.1.len()];
-    Room { readings, work, figures: first.0.len(), present: first.1.len(), more }
+/// The lists that take the answers of a call on one trace. Those of the lowest and of the highest are lent to variance without weights
+/// alone.
+pub struct Outputs<'a> {
+    pub figures: &'a mut [f64],
+    pub present: &'a mut [u8],
+    pub lowest: (&'a mut [f64], &'a mut [u8]),
+    pub highest: (&'a mut [f64], &'a mut [u8]),
+}
+impl Outputs<'_> {
+    fn room(&self, readings: usize, work: usize) -> Room {
+        let extremes = [self.lowest.0.len(), self.lowest.1.len(), self.highest.0.len(), self.highest.1.len()];
+        Room { readings, work, figures: self.figures.len(), present: self.present.len(), extremes }
+    }
 }
 /// call, readings out, work, answers
 pub type PlanFn = fn(&Call, &mut [f64], &mut [f64], Outputs) -> Answer;
@@ -46,7 +51,8 @@ pub struct Impl {
 
 /// A demonstration: the work-slice model of src/model.rs, which has no weights.
 pub fn demo() -> Impl {
-    fn put((outv, outp): &mut Column, i: usize, r: Option<f64>) {
+    use crate::extremes::Extremes;
+    fn put(outv: &mut [f64], outp: &mut [u8], i: usize, r: Option<f64>) {
         // a NaN that arithmetic made has the bits FFF8... on x86: document 01 wants 7FF8...
         outv[i] = match r {
             None => 0.0,
@@ -55,24 +61,31 @@ pub fn demo() -> Impl {
         };
         outp[i] = r.is_some() as u8;
     }
-    /// Puts a row into as many columns.
-    fn put_all(mut outs: Outputs<'_>, columns: usize) -> impl FnMut(usize, [Option<f64>; 3]) + '_ {
-        move |i, row| outs[..columns].iter_mut().zip(row).for_each(|(column, answer)| put(column, i, answer))
+    fn put_all(outs: &mut Outputs, extremes: bool, i: usize, figure: Option<f64>, [lowest, highest]: Extremes) {
+        put(outs.figures, outs.present, i, figure);
+        if extremes {
+            put(outs.lowest.0, outs.lowest.1, i, lowest);
+            put(outs.highest.0, outs.highest.1, i, highest);
+        }
     }
-    fn plan(c: &Call, readings: &mut [f64], work: &mut [f64], outs: Outputs) -> Answer {
-        let number = c.refusal(room(&outs, readings.len(), work.len()));
+    fn plan(c: &Call, readings: &mut [f64], work: &mut [f64], mut outs: Outputs) -> Answer {
+        let number = c.refusal(outs.room(readings.len(), work.len()));
         if number == 0 {
-            let x = c.readings();
+            let (x, given) = (c.readings(), c.figure.has_extremes());
             readings[..x.len()].copy_from_slice(&x);
             let rows = c.starts.iter().zip(c.ends).map(|(a, b)| (*a as usize, *b as usize));
-            crate::model::plan_into(&x, c.map(), rows, c.asked, c.min, work, put_all(outs, c.asked.columns()), &mut ());
+            let put = |i: usize, figure: Option<f64>, extremes: Extremes| put_all(&mut outs, given, i, figure, extremes);
+            crate::model::plan_into(&x, c.map(), rows, c.figure, c.min, work, put, &mut ());
         }
         Answer::Number(number)
     }
-    fn fixed(c: &windows::Call, work: &mut [f64], outs: Outputs) -> Answer {
-        let number = c.refusal(room(&outs, 0, work.len()));
+    fn fixed(c: &windows::Call, work: &mut [f64], mut outs: Outputs) -> Answer {
+        let number = c.refusal(outs.room(0, work.len()));
         if number == 0 {
-            crate::model::plan_into(c.x, c.map(), c.bounds(), c.asked, c.min, work, put_all(outs, c.columns()), &mut ());
+            let (n, given) = (c.x.len(), c.has_extremes());
+            let rows = (0..n).map(|i| crate::offsets(i, c.size, n, c.centre));
+            let put = |i: usize, figure: Option<f64>, extremes: Extremes| put_all(&mut outs, given, i, figure, extremes);
+            crate::model::plan_into(c.x, c.map(), rows, c.figure, c.min, work, put, &mut ());
         }
         Answer::Number(number)
     }
@@ -83,8 +96,8 @@ pub fn demo() -> Impl {
             if c.decodes() {
                 readings.into_iter().zip([&x, &y]).for_each(|(list, x)| list[..x.len()].copy_from_slice(x));
             }
-            let (maps, rows, mut column) = ([c.x.map(), c.y.map()], c.rows().into_iter(), (figures, present));
-            crate::model::pairs_into([&x, &y], maps, rows, c.figure, c.min, work, |i, r| put(&mut column, i, r), &mut ());
+            let (maps, rows) = ([c.x.map(), c.y.map()], c.rows().into_iter());
+            crate::model::pairs_into([&x, &y], maps, rows, c.figure, c.min, work, |i, r| put(figures, present, i, r), &mut ());
         }
         Answer::Number(number)
     }
@@ -100,6 +113,16 @@ pub fn second() -> Option<Impl> {
     Some(Impl { plan: ours::plan, fixed: ours::windows, weighted: Some(ours::windows), pairs: ours::pairs })
 }
 
+/// A figure and a minimum as ../host has them.
+#[cfg(feature = "host")]
+pub fn setting(figure: Figure, min: usize) -> moments::Setting {
+    use moments::Setting;
+    match figure {
+        Figure::Var { ddof } => Setting::var(ddof).min_periods(min).into(),
+        Figure::Skew { bias } => Setting::skew(bias).min_periods(min).into(),
+        Figure::Kurt { fisher, bias } => Setting::kurtosis(fisher, bias).min_periods(min).into(),
+    }
+}
 #[cfg(feature = "host")]
 pub fn pair_setting(figure: PairFigure, min: usize) -> moments::Setting<moments::PairFigure> {
     let setting = match figure {
@@ -111,12 +134,12 @@ pub fn pair_setting(figure: PairFigure, min: usize) -> moments::Setting<moments:
 
 #[cfg(feature = "host")]
 mod ours {
-    use super::{pair_setting, Answer, Column, Outputs};
+    use super::{pair_setting, setting, Answer, Outputs};
     use crate::host::Call;
     use crate::pairs::{self, Windows};
-    use crate::{windows, Asked, PairFigure};
-    use moments::{abi, plan_pair_into, plan_skew_kurtosis_into, plan_var_into, rolling_pair_into, rolling_skew_kurtosis_into};
-    use moments::{rolling_var_into, rolling_var_weights_into, Encoded, Lists, Plan, Refusal, Setting, ShapeLists, VarLists, Window};
+    use crate::{windows, Figure, PairFigure};
+    use moments::{abi, plan_into, plan_pair_into, plan_var_into, rolling_into, rolling_pair_into, rolling_var_into};
+    use moments::{rolling_var_weights_into, Column, Encoded, Lists, Plan, Refusal, Setting, VarLists, Window};
 
     fn answer(result: Result<(), Refusal>) -> Answer {
         let Err(refusal) = result else { return Answer::Words { number: 0, row: None } };
@@ -130,31 +153,24 @@ mod ours {
         Answer::Words { number: refusal.number(), row: refusal.row().map(|row| (row, said)) }
     }
 
-    fn column((values, present): Column<'_>) -> moments::Column<'_> {
-        moments::Column::new(values, present)
-    }
     /// The lists of variance as ../host has them.
-    fn var_lists<'a>(work: &'a mut [f64], outs: Outputs<'a>) -> VarLists<'a> {
-        let [variance, lowest, highest] = outs.map(column);
+    fn lists<'a>(work: &'a mut [f64], outs: Outputs<'a>) -> VarLists<'a> {
+        let Outputs { figures, present, lowest, highest } = outs;
+        let [variance, lowest, highest] = [(figures, present), lowest, highest].map(|(values, present)| Column::new(values, present));
         VarLists { work, variance, lowest, highest }
-    }
-    /// Those of skewness and kurtosis.
-    fn shape_lists<'a>(work: &'a mut [f64], outs: Outputs<'a>) -> ShapeLists<'a> {
-        let [skew, kurtosis, _] = outs.map(column);
-        ShapeLists { work, skew, kurtosis }
     }
 
     #[rustfmt::skip]
     pub fn plan(c: &Call, readings: &mut [f64], work: &mut [f64], outs: Outputs) -> Answer {
         if c.has_map || c.map.is_empty() {
-            let plan = Plan::new(c.starts, c.ends);
-            return answer(match c.asked {
-                Asked::Var { ddof } => {
-                    plan_var_into(c.trace, readings, c.map(), plan, Setting::var(ddof).min_periods(c.min), var_lists(work, outs))
+            let (plan, Setting { figure, min_periods }) = (Plan::new(c.starts, c.ends), setting(c.figure, c.min));
+            return answer(match figure {
+                moments::Figure::Var(figure) => {
+                    plan_var_into(c.trace, readings, c.map(), plan, Setting { figure, min_periods }, lists(work, outs))
                 }
-                Asked::SkewKurtosis { skew_bias, fisher, kurtosis_bias } => {
-                    let setting = Setting::skew_kurtosis(skew_bias, fisher, kurtosis_bias).min_periods(c.min);
-                    plan_skew_kurtosis_into(c.trace, readings, c.map(), plan, setting, shape_lists(work, outs))
+                moments::Figure::Shape(figure) => {
+                    let lists = Lists { work, figures: outs.figures, present: outs.present };
+                    plan_into(c.trace, readings, c.map(), plan, Setting { figure, min_periods }, lists)
                 }
             });
         }
@@ -163,58 +179,62 @@ mod ours {
         let (mp, mn) = (c.map.as_ptr(), c.map.len());
         let (sp, sn, ep, en, min) = (c.starts.as_ptr(), c.starts.len(), c.ends.as_ptr(), c.ends.len(), c.min);
         let (wp, wn) = (work.as_mut_ptr(), work.len());
-        let [(vp, vn, pp, pn), (lv, lvn, lp, lpn), (hv, hvn, hp, hpn)] = outs.map(parts);
+        let (vp, vn, pp, pn) = parts((outs.figures, outs.present));
+        let ((lv, lvn, lp, lpn), (hv, hvn, hp, hpn)) = (parts(outs.lowest), parts(outs.highest));
         // SAFETY: each pointer and length is a slice's, and the lists that are written to are lent to this call alone.
         Answer::Number(unsafe {
-            match c.asked {
-                Asked::Var { ddof } => abi::moments_plan_var(
+            match c.figure {
+                Figure::Var { ddof } => abi::moments_plan_var(
                     t, tn, rd, rn, false, mp, mn, sp, sn, ep, en, min, ddof, wp, wn, vp, vn, pp, pn,
                     lv, lvn, lp, lpn, hv, hvn, hp, hpn,
                 ),
-                Asked::SkewKurtosis { skew_bias, fisher, kurtosis_bias } => abi::moments_plan_skew_kurtosis(
-                    t, tn, rd, rn, false, mp, mn, sp, sn, ep, en, min, skew_bias, fisher, kurtosis_bias,
-                    wp, wn, vp, vn, pp, pn, lv, lvn, lp, lpn,
+                Figure::Skew { bias } => abi::moments_plan_skew(
+                    t, tn, rd, rn, false, mp, mn, sp, sn, ep, en, min, bias, wp, wn, vp, vn, pp, pn,
+                ),
+                Figure::Kurt { fisher, bias } => abi::moments_plan_kurtosis(
+                    t, tn, rd, rn, false, mp, mn, sp, sn, ep, en, min, fisher, bias, wp, wn, vp, vn, pp, pn,
                 ),
             }
         })
     }
     /// As an entry takes them.
-    fn parts((values, present): Column) -> (*mut f64, usize, *mut u8, usize) {
+    fn parts((values, present): (&mut [f64], &mut [u8])) -> (*mut f64, usize, *mut u8, usize) {
         (values.as_mut_ptr(), values.len(), present.as_mut_ptr(), present.len())
     }
 
     #[rustfmt::skip]
     pub fn windows(c: &windows::Call, work: &mut [f64], outs: Outputs) -> Answer {
         if c.has_map || c.map.is_empty() {
-            let window = Window { size: c.size, center: c.centre };
-            return answer(match (c.weights, c.asked) {
-                (Some(weights), _) => {
-                    let [(figures, present), ..] = outs;
-                    rolling_var_weights_into(c.x, c.map(), window, c.min, weights, figures, present)
+            let (window, Setting { figure, min_periods }) = (Window { size: c.size, center: c.centre }, setting(c.figure, c.min));
+            return answer(match (c.weights, figure) {
+                (Some(weights), _) => rolling_var_weights_into(c.x, c.map(), window, c.min, weights, outs.figures, outs.present),
+                (_, moments::Figure::Var(figure)) => {
+                    rolling_var_into(c.x, c.map(), window, Setting { figure, min_periods }, lists(work, outs))
                 }
-                (_, Asked::Var { ddof }) => {
-                    rolling_var_into(c.x, c.map(), window, Setting::var(ddof).min_periods(c.min), var_lists(work, outs))
-                }
-                (_, Asked::SkewKurtosis { skew_bias, fisher, kurtosis_bias }) => {
-                    let setting = Setting::skew_kurtosis(skew_bias, fisher, kurtosis_bias).min_periods(c.min);
-                    rolling_skew_kurtosis_into(c.x, c.map(), window, setting, shape_lists(work, outs))
+                (_, moments::Figure::Shape(figure)) => {
+                    let lists = Lists { work, figures: outs.figures, present: outs.present };
+                    rolling_into(c.x, c.map(), window, Setting { figure, min_periods }, lists)
                 }
             });
         }
         let (t, n, mp, mn, size, min, centre) = (c.x.as_ptr(), c.x.len(), c.map.as_ptr(), c.map.len(), c.size, c.min, c.centre);
         let (wp, wn) = (work.as_mut_ptr(), work.len());
-        let [(vp, vn, pp, pn), (lv, lvn, lp, lpn), (hv, hvn, hp, hpn)] = outs.map(parts);
+        let (vp, vn, pp, pn) = parts((outs.figures, outs.present));
+        let ((lv, lvn, lp, lpn), (hv, hvn, hp, hpn)) = (parts(outs.lowest), parts(outs.highest));
         // SAFETY: as above.
         Answer::Number(unsafe {
-            match (c.weights, c.asked) {
+            match (c.weights, c.figure) {
                 (Some(w), _) => abi::moments_rolling_var_weights(
                     t, n, false, mp, mn, size, min, centre, w.as_ptr(), w.len(), vp, vn, pp, pn,
                 ),
-                (_, Asked::Var { ddof }) => abi::moments_rolling_var(
+                (_, Figure::Var { ddof }) => abi::moments_rolling_var(
                     t, n, false, mp, mn, size, min, centre, ddof, wp, wn, vp, vn, pp, pn, lv, lvn, lp, lpn, hv, hvn, hp, hpn,
                 ),
-                (_, Asked::SkewKurtosis { skew_bias, fisher, kurtosis_bias }) => abi::moments_rolling_skew_kurtosis(
-                    t, n, false, mp, mn, size, min, centre, skew_bias, fisher, kurtosis_bias, wp, wn, vp, vn, pp, pn, lv, lvn, lp, lpn,
+                (_, Figure::Skew { bias }) => abi::moments_rolling_skew(
+                    t, n, false, mp, mn, size, min, centre, bias, wp, wn, vp, vn, pp, pn,
+                ),
+                (_, Figure::Kurt { fisher, bias }) => abi::moments_rolling_kurtosis(
+                    t, n, false, mp, mn, size, min, centre, fisher, bias, wp, wn, vp, vn, pp, pn,
                 ),
             }
         })

@@ -1,14 +1,14 @@
 //! A call with fixed windows, of a figure or with weights: what it is given, what the Rust answers to it, and random calls.
-use crate::extremes;
+use crate::extremes::{self, Extremes};
 use crate::host::{readings, Room, EASY};
 use crate::rng::Rng;
-use crate::{fixed, offsets, refusal, weighted, Asked, Columns, Figure};
+use crate::{fixed, offsets, refusal, weighted, Figure};
 
 /// What a call is given; `map` may hold anything where `has_map` is false. With weights it is the weighted variance that is
-/// asked, and `asked` is not looked at.
+/// asked, and `figure` is not looked at.
 #[derive(Clone, Copy, Debug)]
 pub struct Call<'a> {
-    pub asked: Asked,
+    pub figure: Figure,
     pub weights: Option<&'a [f64]>,
     pub x: &'a [f64],
     pub has_map: bool,
@@ -24,48 +24,46 @@ impl<'a> Call<'a> {
     /// Doubles of the work slice that the call needs; with weights none is lent.
     pub fn need(&self) -> usize {
         match self.weights {
-            None => Asked::ENTRY * self.size.min(self.x.len()),
+            None => self.figure.entry() * self.size.min(self.x.len()),
             Some(_) => 0,
         }
     }
-    /// Columns of answers; with weights there is one.
-    pub fn columns(&self) -> usize {
-        if self.weights.is_none() { self.asked.columns() } else { 1 }
+    /// Whether the call also gives the lowest and the highest reading.
+    pub fn has_extremes(&self) -> bool {
+        self.weights.is_none() && self.figure.has_extremes()
     }
     /// The output lists that the call is lent, of those of a room.
     pub fn outs<'r>(&self, outs: &'r [usize; 6]) -> &'r [usize] {
-        &outs[..2 * self.columns()]
+        if self.has_extremes() { outs } else { &outs[..2] }
     }
     pub fn refusal(&self, room: Room) -> u32 {
         let (n, map, outs) = (self.x.len(), self.map().map(<[u8]>::len), room.outs());
         match self.weights {
-            None => refusal::fixed(n, map, self.size, self.outs(&outs), Asked::ENTRY, room.work),
+            None => refusal::fixed(n, map, self.size, self.outs(&outs), self.figure.entry(), room.work),
             Some(w) => refusal::weighted(n, map, self.size, w, self.outs(&outs)),
         }
     }
-    /// Each row's window.
-    pub fn bounds(&self) -> impl Iterator<Item = (usize, usize)> + Clone {
-        let (n, size, centre) = (self.x.len(), self.size, self.centre);
-        (0..n).map(move |i| offsets(i, size, n, centre))
+    /// Of each row the lowest and the highest, where the call gives them; it must be accepted.
+    pub fn extremes(&self) -> Option<Vec<Extremes>> {
+        let n = self.x.len();
+        let rows = (0..n).map(|i| offsets(i, self.size, n, self.centre));
+        self.has_extremes().then(|| extremes::of_rows(self.x, self.map(), rows, self.min))
     }
-    /// The Rust's answers, and the lowest and the highest where they are asked; the call must be accepted.
-    pub fn answers(&self) -> Columns {
-        let Call { x, size, min, centre, .. } = *self;
-        if let Some(w) = self.weights {
-            return vec![weighted(x, size, min, centre, w).unwrap()];
+    /// The Rust's answers; the call must be accepted.
+    pub fn answers(&self) -> Vec<Option<f64>> {
+        match self.weights {
+            // the Rust panics on an empty trace with a trailing window; document 01: no rows
+            None if self.x.is_empty() => vec![],
+            None => fixed(self.x, self.map(), self.size, self.min, self.centre, self.figure),
+            Some(w) => weighted(self.x, self.size, self.min, self.centre, w).unwrap(),
         }
-        // the Rust panics on an empty trace with a trailing window; document 01: no rows
-        let rust = |figure: Figure| if x.is_empty() { vec![] } else { fixed(x, self.map(), size, min, centre, figure) };
-        self.asked.answers(rust, || extremes::of_rows(x, self.map(), self.bounds(), min))
     }
 }
 
 /// A call that owns what it is given.
 #[derive(Clone, Debug)]
 pub struct Case {
-    pub asked: Asked,
-    /// The figure that was drawn, or that the case was made for: by it random calls are picked and their work is drawn.
-    pub drawn: Figure,
+    pub figure: Figure,
     pub weights: Option<Vec<f64>>,
     pub x: Vec<f64>,
     pub has_map: bool,
@@ -78,10 +76,8 @@ pub struct Case {
 impl Case {
     /// An accepted call of a figure, each list just as long as is needed.
     pub fn new(figure: Figure, x: &[f64], map: Option<&[u8]>, size: usize, min: usize, centre: bool) -> Case {
-        let asked = figure.into();
         let mut case = Case {
-            asked,
-            drawn: figure,
+            figure,
             weights: None,
             x: x.to_vec(),
             has_map: map.is_some(),
@@ -89,9 +85,12 @@ impl Case {
             size,
             min,
             centre,
-            room: Room { figures: x.len(), present: x.len(), ..Room::default() }.with_more(asked, x.len()),
+            room: Room { figures: x.len(), present: x.len(), ..Room::default() },
         };
         case.room.work = case.call().need();
+        if figure.has_extremes() {
+            case.room.extremes = [x.len(); 4];
+        }
         case
     }
     /// A call with weights, one for each place of the window.
@@ -101,7 +100,7 @@ impl Case {
     }
     pub fn call(&self) -> Call<'_> {
         Call {
-            asked: self.asked,
+            figure: self.figure,
             weights: self.weights.as_deref(),
             x: &self.x,
             has_map: self.has_map,
@@ -111,26 +110,28 @@ impl Case {
             centre: self.centre,
         }
     }
-    /// Doubles of work that the call needs more than that of its figure did before requests 4 and 5.
+    /// Doubles of work that variance needs more than it did before request 4.
     fn more_work(&self) -> usize {
         let places = self.size.min(self.x.len());
-        if self.weights.is_none() { (Asked::ENTRY - self.drawn.drawn_entry()) * places } else { 0 }
+        if self.weights.is_none() { (self.figure.entry() - self.figure.drawn_entry()) * places } else { 0 }
     }
-    /// Doubles of work that the call was lent before those requests, for whatever is drawn by it.
+    /// Doubles of work that the call was lent before request 4, for whatever is drawn by it.
     pub fn drawn_work(&self) -> usize {
         self.room.work.saturating_sub(self.more_work())
     }
     /// A random call of a figure over at most `most` readings, mostly one that is accepted. Half of them are keen: readings
-    /// that are mostly finite, and a setting and a minimum under which most figures are present. The lists behind the first two are as
+    /// that are mostly finite, and a setting and a minimum under which most figures are present. The lists of lowest and highest are as
     /// long as the rows or longer.
     pub fn any(r: &mut Rng, most: usize) -> Case {
         let mut case = Case::drawn(r, most).0;
         case.room.work += case.more_work();
-        case.room = case.room.with_more(case.asked, case.x.len());
-        case.room.lengthen_more(case.asked, r);
+        if case.figure.has_extremes() {
+            case.room.extremes = [case.x.len(); 4];
+            case.room.lengthen_extremes(r);
+        }
         case
     }
-    /// The same with the lists of a call before requests 4 and 5, and how much its work is longer than was needed then, or shorter.
+    /// The same with the lists of a call before request 4, and how much its work is longer than was needed then, or shorter.
     pub(crate) fn drawn(r: &mut Rng, most: usize) -> (Case, isize) {
         let (keen, n) = (r.chance(1, 2), any_length(r, most));
         let (x, map) = readings(r, n, keen);
@@ -155,9 +156,8 @@ impl Case {
         };
         let centre = r.chance(1, 2);
         let mut case = Case::new(figure, &x, map.as_deref(), size, min, centre);
-        case.asked = Asked::with(figure, &mut Rng(r.0 ^ 0x424F_5448));
         let need = figure.drawn_entry() * size.min(n);
-        case.room = Room { work: need, more: [0; 4], ..case.room };
+        case.room = Room { work: need, extremes: [0; 4], ..case.room };
         let case = case.faulty(r, &[0, 4, 5, 6]);
         let spare = case.room.work as isize - need as isize;
         (case, spare)
@@ -202,7 +202,7 @@ impl Case {
     /// A fault: 3, 8, 9, 10, 12, 12 or 13, where it comes to one; a map that gets longer is none but with weights.
     fn spoil(&mut self, r: &mut Rng, kind: usize) {
         let n = self.x.len();
-        let need = self.drawn.drawn_entry() * self.size.min(n);
+        let need = self.figure.drawn_entry() * self.size.min(n);
         let short = |r: &mut Rng, need: usize| if r.chance(2, 3) { need.saturating_sub(1) } else { r.below(need + 1) };
         match (kind, &mut self.weights) {
             (0, _) if !self.has_map => (self.has_map, self.map) = (true, vec![0xFF; n.div_ceil(8) + 1]),

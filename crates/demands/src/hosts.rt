@@ -1,8 +1,8 @@
 // Plan calls of a host: one, of which all three demands speak, and two of the same plan, setting and figure, of which the third
 // and the law of maps speak; and those of two traces, x and y, of which the statement for pairs of traces speaks in place of demands
 // 2 and 3. Of two such calls the second has the traces u and v. Of a variance its lowest and highest reading are spoken of too.
-ghost use Rattle.rolling.specs.Moments.{Variance, SkewnessKurtosis, Covariance, Correlation};
-ghost use Rattle.rolling.specs.Calls.{querying, lending, lending_two, lending_three};
+ghost use Rattle.rolling.specs.Moments.{Variance, Skewness, Kurtosis, Covariance, Correlation};
+ghost use Rattle.rolling.specs.Calls.{querying, lending, lending_three};
 ghost use Rattle.moments.specs.HostCall.{hosting, decoding, hosting_pair, decoding_pair};
 ghost use Rattle.demands.specs.Meets.{MeetsHost, MeetTwoHosts};
 
@@ -118,7 +118,7 @@ pub fn two_plans_var(
     Numbers { first, second }
 }
 
-pub fn plan_skew_kurtosis(
+pub fn plan_skew(
     trace: &[u8],
     readings: &mut [f64],
     has_map: bool,
@@ -126,19 +126,15 @@ pub fn plan_skew_kurtosis(
     starts: &[u32],
     ends: &[u32],
     min_periods: usize,
-    skew_bias: bool,
-    fisher: bool,
-    kurtosis_bias: bool,
+    bias: bool,
     work: &mut [f64],
-    skew: &mut [f64],
-    skew_present: &mut [u8],
-    kurtosis: &mut [f64],
-    kurtosis_present: &mut [u8],
+    figures: &mut [f64],
+    present: &mut [u8],
 ) -> u32
-    ensures { MeetsHost (querying starts ends min_periods (SkewnessKurtosis skew_bias fisher kurtosis_bias))
-        (hosting trace has_map map) (decoding readings) (lending_two work skew skew_present kurtosis kurtosis_present) result }
+    ensures { MeetsHost (querying starts ends min_periods (Skewness bias)) (hosting trace has_map map) (decoding readings)
+        (lending work figures present) result }
 {
-    moments::moments_plan_skew_kurtosis(
+    moments::moments_plan_skew(
         trace,
         readings,
         has_map,
@@ -146,18 +142,14 @@ pub fn plan_skew_kurtosis(
         starts,
         ends,
         min_periods,
-        skew_bias,
-        fisher,
-        kurtosis_bias,
+        bias,
         work,
-        skew,
-        skew_present,
-        kurtosis,
-        kurtosis_present,
+        figures,
+        present,
     )
 }
 
-pub fn two_plans_skew_kurtosis(
+pub fn two_plans_skew(
     x: &[u8],
     x_readings: &mut [f64],
     x_has_map: bool,
@@ -169,27 +161,19 @@ pub fn two_plans_skew_kurtosis(
     starts: &[u32],
     ends: &[u32],
     min_periods: usize,
-    skew_bias: bool,
-    fisher: bool,
-    kurtosis_bias: bool,
+    bias: bool,
     x_work: &mut [f64],
-    x_skew: &mut [f64],
-    x_skew_present: &mut [u8],
-    x_kurtosis: &mut [f64],
-    x_kurtosis_present: &mut [u8],
+    x_figures: &mut [f64],
+    x_present: &mut [u8],
     y_work: &mut [f64],
-    y_skew: &mut [f64],
-    y_skew_present: &mut [u8],
-    y_kurtosis: &mut [f64],
-    y_kurtosis_present: &mut [u8],
+    y_figures: &mut [f64],
+    y_present: &mut [u8],
 ) -> Numbers
-    ensures { MeetTwoHosts (querying starts ends min_periods (SkewnessKurtosis skew_bias fisher kurtosis_bias))
+    ensures { MeetTwoHosts (querying starts ends min_periods (Skewness bias))
         (hosting x x_has_map x_map) (hosting y y_has_map y_map) (decoding x_readings) (decoding y_readings)
-        (lending_two x_work x_skew x_skew_present x_kurtosis x_kurtosis_present)
-        (lending_two y_work y_skew y_skew_present y_kurtosis y_kurtosis_present)
-        result.first result.second }
+        (lending x_work x_figures x_present) (lending y_work y_figures y_present) result.first result.second }
 {
-    let first = moments::moments_plan_skew_kurtosis(
+    let first = moments::moments_plan_skew(
         x,
         x_readings,
         x_has_map,
@@ -197,16 +181,12 @@ pub fn two_plans_skew_kurtosis(
         starts,
         ends,
         min_periods,
-        skew_bias,
-        fisher,
-        kurtosis_bias,
+        bias,
         x_work,
-        x_skew,
-        x_skew_present,
-        x_kurtosis,
-        x_kurtosis_present,
+        x_figures,
+        x_present,
     );
-    let second = moments::moments_plan_skew_kurtosis(
+    let second = moments::moments_plan_skew(
         y,
         y_readings,
         y_has_map,
@@ -214,14 +194,99 @@ pub fn two_plans_skew_kurtosis(
         starts,
         ends,
         min_periods,
-        skew_bias,
-        fisher,
-        kurtosis_bias,
+        bias,
         y_work,
-        y_skew,
-        y_skew_present,
-        y_kurtosis,
-        y_kurtosis_present,
+        y_figures,
+        y_present,
+    );
+    Numbers { first, second }
+}
+
+pub fn plan_kurtosis(
+    trace: &[u8],
+    readings: &mut [f64],
+    has_map: bool,
+    map: &[u8],
+    starts: &[u32],
+    ends: &[u32],
+    min_periods: usize,
+    fisher: bool,
+    bias: bool,
+    work: &mut [f64],
+    figures: &mut [f64],
+    present: &mut [u8],
+) -> u32
+    ensures { MeetsHost (querying starts ends min_periods (Kurtosis fisher bias)) (hosting trace has_map map) (decoding readings)
+        (lending work figures present) result }
+{
+    moments::moments_plan_kurtosis(
+        trace,
+        readings,
+        has_map,
+        map,
+        starts,
+        ends,
+        min_periods,
+        fisher,
+        bias,
+        work,
+        figures,
+        present,
+    )
+}
+
+pub fn two_plans_kurtosis(
+    x: &[u8],
+    x_readings: &mut [f64],
+    x_has_map: bool,
+    x_map: &[u8],
+    y: &[u8],
+    y_readings: &mut [f64],
+    y_has_map: bool,
+    y_map: &[u8],
+    starts: &[u32],
+    ends: &[u32],
+    min_periods: usize,
+    fisher: bool,
+    bias: bool,
+    x_work: &mut [f64],
+    x_figures: &mut [f64],
+    x_present: &mut [u8],
+    y_work: &mut [f64],
+    y_figures: &mut [f64],
+    y_present: &mut [u8],
+) -> Numbers
+    ensures { MeetTwoHosts (querying starts ends min_periods (Kurtosis fisher bias))
+        (hosting x x_has_map x_map) (hosting y y_has_map y_map) (decoding x_readings) (decoding y_readings)
+        (lending x_work x_figures x_present) (lending y_work y_figures y_present) result.first result.second }
+{
+    let first = moments::moments_plan_kurtosis(
+        x,
+        x_readings,
+        x_has_map,
+        x_map,
+        starts,
+        ends,
+        min_periods,
+        fisher,
+        bias,
+        x_work,
+        x_figures,
+        x_present,
+    );
+    let second = moments::moments_plan_kurtosis(
+        y,
+        y_readings,
+        y_has_map,
+        y_map,
+        starts,
+        ends,
+        min_periods,
+        fisher,
+        bias,
+        y_work,
+        y_figures,
+        y_present,
     );
     Numbers { first, second }
 }

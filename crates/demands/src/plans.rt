@@ -1,8 +1,8 @@
 // Plan calls with the trace as doubles, which a program in Rattle makes: as a host's, with nothing to decode.
 ghost use Rattle.trace.specs.Trace.{tracing};
 ghost use Rattle.window.specs.Pairs.{pairing};
-ghost use Rattle.rolling.specs.Moments.{Variance, SkewnessKurtosis, Covariance, Correlation};
-ghost use Rattle.rolling.specs.Calls.{querying, lending, lending_two, lending_three};
+ghost use Rattle.rolling.specs.Moments.{Variance, Skewness, Kurtosis, Covariance, Correlation};
+ghost use Rattle.rolling.specs.Calls.{querying, lending, lending_three};
 ghost use Rattle.demands.specs.Meets.{MeetsPlan, MeetTwoPlans};
 
 use crate::Numbers;
@@ -111,44 +111,36 @@ pub fn two_plans_var(
     Numbers { first, second }
 }
 
-pub fn plan_skew_kurtosis(
+pub fn plan_skew(
     trace: &[f64],
     has_map: bool,
     map: &[u8],
     starts: &[u32],
     ends: &[u32],
     min_periods: usize,
-    skew_bias: bool,
-    fisher: bool,
-    kurtosis_bias: bool,
+    bias: bool,
     work: &mut [f64],
-    skew: &mut [f64],
-    skew_present: &mut [u8],
-    kurtosis: &mut [f64],
-    kurtosis_present: &mut [u8],
+    figures: &mut [f64],
+    present: &mut [u8],
 ) -> u32
-    ensures { MeetsPlan (querying starts ends min_periods (SkewnessKurtosis skew_bias fisher kurtosis_bias))
-        (tracing trace has_map map) (lending_two work skew skew_present kurtosis kurtosis_present) result }
+    ensures { MeetsPlan (querying starts ends min_periods (Skewness bias)) (tracing trace has_map map)
+        (lending work figures present) result }
 {
-    rolling::plan_skew_kurtosis(
+    rolling::plan_skew(
         trace,
         has_map,
         map,
         starts,
         ends,
         min_periods,
-        skew_bias,
-        fisher,
-        kurtosis_bias,
+        bias,
         work,
-        skew,
-        skew_present,
-        kurtosis,
-        kurtosis_present,
+        figures,
+        present,
     )
 }
 
-pub fn two_plans_skew_kurtosis(
+pub fn two_plans_skew(
     x: &[f64],
     x_has_map: bool,
     x_map: &[u8],
@@ -158,57 +150,124 @@ pub fn two_plans_skew_kurtosis(
     starts: &[u32],
     ends: &[u32],
     min_periods: usize,
-    skew_bias: bool,
-    fisher: bool,
-    kurtosis_bias: bool,
+    bias: bool,
     x_work: &mut [f64],
-    x_skew: &mut [f64],
-    x_skew_present: &mut [u8],
-    x_kurtosis: &mut [f64],
-    x_kurtosis_present: &mut [u8],
+    x_figures: &mut [f64],
+    x_present: &mut [u8],
     y_work: &mut [f64],
-    y_skew: &mut [f64],
-    y_skew_present: &mut [u8],
-    y_kurtosis: &mut [f64],
-    y_kurtosis_present: &mut [u8],
+    y_figures: &mut [f64],
+    y_present: &mut [u8],
 ) -> Numbers
-    ensures { MeetTwoPlans (querying starts ends min_periods (SkewnessKurtosis skew_bias fisher kurtosis_bias))
+    ensures { MeetTwoPlans (querying starts ends min_periods (Skewness bias))
         (tracing x x_has_map x_map) (tracing y y_has_map y_map)
-        (lending_two x_work x_skew x_skew_present x_kurtosis x_kurtosis_present)
-        (lending_two y_work y_skew y_skew_present y_kurtosis y_kurtosis_present)
-        result.first result.second }
+        (lending x_work x_figures x_present) (lending y_work y_figures y_present) result.first result.second }
 {
-    let first = rolling::plan_skew_kurtosis(
+    let first = rolling::plan_skew(
         x,
         x_has_map,
         x_map,
         starts,
         ends,
         min_periods,
-        skew_bias,
-        fisher,
-        kurtosis_bias,
+        bias,
         x_work,
-        x_skew,
-        x_skew_present,
-        x_kurtosis,
-        x_kurtosis_present,
+        x_figures,
+        x_present,
     );
-    let second = rolling::plan_skew_kurtosis(
+    let second = rolling::plan_skew(
         y,
         y_has_map,
         y_map,
         starts,
         ends,
         min_periods,
-        skew_bias,
-        fisher,
-        kurtosis_bias,
+        bias,
         y_work,
-        y_skew,
-        y_skew_present,
-        y_kurtosis,
-        y_kurtosis_present,
+        y_figures,
+        y_present,
+    );
+    Numbers { first, second }
+}
+
+pub fn plan_kurtosis(
+    trace: &[f64],
+    has_map: bool,
+    map: &[u8],
+    starts: &[u32],
+    ends: &[u32],
+    min_periods: usize,
+    fisher: bool,
+    bias: bool,
+    work: &mut [f64],
+    figures: &mut [f64],
+    present: &mut [u8],
+) -> u32
+    ensures { MeetsPlan (querying starts ends min_periods (Kurtosis fisher bias)) (tracing trace has_map map)
+        (lending work figures present) result }
+{
+    rolling::plan_kurtosis(
+        trace,
+        has_map,
+        map,
+        starts,
+        ends,
+        min_periods,
+        fisher,
+        bias,
+        work,
+        figures,
+        present,
+    )
+}
+
+pub fn two_plans_kurtosis(
+    x: &[f64],
+    x_has_map: bool,
+    x_map: &[u8],
+    y: &[f64],
+    y_has_map: bool,
+    y_map: &[u8],
+    starts: &[u32],
+    ends: &[u32],
+    min_periods: usize,
+    fisher: bool,
+    bias: bool,
+    x_work: &mut [f64],
+    x_figures: &mut [f64],
+    x_present: &mut [u8],
+    y_work: &mut [f64],
+    y_figures: &mut [f64],
+    y_present: &mut [u8],
+) -> Numbers
+    ensures { MeetTwoPlans (querying starts ends min_periods (Kurtosis fisher bias))
+        (tracing x x_has_map x_map) (tracing y y_has_map y_map)
+        (lending x_work x_figures x_present) (lending y_work y_figures y_present) result.first result.second }
+{
+    let first = rolling::plan_kurtosis(
+        x,
+        x_has_map,
+        x_map,
+        starts,
+        ends,
+        min_periods,
+        fisher,
+        bias,
+        x_work,
+        x_figures,
+        x_present,
+    );
+    let second = rolling::plan_kurtosis(
+        y,
+        y_has_map,
+        y_map,
+        starts,
+        ends,
+        min_periods,
+        fisher,
+        bias,
+        y_work,
+        y_figures,
+        y_present,
     );
     Numbers { first, second }
 }

@@ -5,8 +5,8 @@
 ghost use Rattle.trace.specs.Slices.{entering};
 ghost use Rattle.trace.specs.Trace.{tracing};
 ghost use Rattle.window.specs.Pairs.{pairing};
-ghost use Rattle.rolling.specs.Moments.{Variance, SkewnessKurtosis, Covariance, Correlation};
-ghost use Rattle.rolling.specs.Calls.{lending, lending_two, lending_three};
+ghost use Rattle.rolling.specs.Moments.{Variance, Skewness, Kurtosis, Covariance, Correlation};
+ghost use Rattle.rolling.specs.Calls.{lending, lending_three};
 ghost use Rattle.weighted.specs.Weights.{lending_column};
 ghost use Rattle.demands.specs.Meets.{MeetsFixed, MeetTwoFixed, MeetsWeights, MeetTwoWeights, MeetsStep};
 
@@ -124,44 +124,36 @@ pub fn two_rolling_var(
     Numbers { first, second }
 }
 
-pub fn rolling_skew_kurtosis(
+pub fn rolling_skew(
     trace: &[f64],
     has_map: bool,
     map: &[u8],
     window_size: usize,
     min_periods: usize,
     center: bool,
-    skew_bias: bool,
-    fisher: bool,
-    kurtosis_bias: bool,
+    bias: bool,
     work: &mut [f64],
-    skew: &mut [f64],
-    skew_present: &mut [u8],
-    kurtosis: &mut [f64],
-    kurtosis_present: &mut [u8],
+    figures: &mut [f64],
+    present: &mut [u8],
 ) -> u32
-    ensures { MeetsFixed center window_size min_periods (SkewnessKurtosis skew_bias fisher kurtosis_bias)
-        (tracing trace has_map map) (lending_two work skew skew_present kurtosis kurtosis_present) result }
+    ensures { MeetsFixed center window_size min_periods (Skewness bias) (tracing trace has_map map)
+        (lending work figures present) result }
 {
-    moments::moments_rolling_skew_kurtosis(
+    moments::moments_rolling_skew(
         trace,
         has_map,
         map,
         window_size,
         min_periods,
         center,
-        skew_bias,
-        fisher,
-        kurtosis_bias,
+        bias,
         work,
-        skew,
-        skew_present,
-        kurtosis,
-        kurtosis_present,
+        figures,
+        present,
     )
 }
 
-pub fn two_rolling_skew_kurtosis(
+pub fn two_rolling_skew(
     x: &[f64],
     x_has_map: bool,
     x_map: &[u8],
@@ -171,57 +163,124 @@ pub fn two_rolling_skew_kurtosis(
     window_size: usize,
     min_periods: usize,
     center: bool,
-    skew_bias: bool,
-    fisher: bool,
-    kurtosis_bias: bool,
+    bias: bool,
     x_work: &mut [f64],
-    x_skew: &mut [f64],
-    x_skew_present: &mut [u8],
-    x_kurtosis: &mut [f64],
-    x_kurtosis_present: &mut [u8],
+    x_figures: &mut [f64],
+    x_present: &mut [u8],
     y_work: &mut [f64],
-    y_skew: &mut [f64],
-    y_skew_present: &mut [u8],
-    y_kurtosis: &mut [f64],
-    y_kurtosis_present: &mut [u8],
+    y_figures: &mut [f64],
+    y_present: &mut [u8],
 ) -> Numbers
-    ensures { MeetTwoFixed center window_size min_periods (SkewnessKurtosis skew_bias fisher kurtosis_bias)
+    ensures { MeetTwoFixed center window_size min_periods (Skewness bias)
         (tracing x x_has_map x_map) (tracing y y_has_map y_map)
-        (lending_two x_work x_skew x_skew_present x_kurtosis x_kurtosis_present)
-        (lending_two y_work y_skew y_skew_present y_kurtosis y_kurtosis_present)
-        result.first result.second }
+        (lending x_work x_figures x_present) (lending y_work y_figures y_present) result.first result.second }
 {
-    let first = moments::moments_rolling_skew_kurtosis(
+    let first = moments::moments_rolling_skew(
         x,
         x_has_map,
         x_map,
         window_size,
         min_periods,
         center,
-        skew_bias,
-        fisher,
-        kurtosis_bias,
+        bias,
         x_work,
-        x_skew,
-        x_skew_present,
-        x_kurtosis,
-        x_kurtosis_present,
+        x_figures,
+        x_present,
     );
-    let second = moments::moments_rolling_skew_kurtosis(
+    let second = moments::moments_rolling_skew(
         y,
         y_has_map,
         y_map,
         window_size,
         min_periods,
         center,
-        skew_bias,
-        fisher,
-        kurtosis_bias,
+        bias,
         y_work,
-        y_skew,
-        y_skew_present,
-        y_kurtosis,
-        y_kurtosis_present,
+        y_figures,
+        y_present,
+    );
+    Numbers { first, second }
+}
+
+pub fn rolling_kurtosis(
+    trace: &[f64],
+    has_map: bool,
+    map: &[u8],
+    window_size: usize,
+    min_periods: usize,
+    center: bool,
+    fisher: bool,
+    bias: bool,
+    work: &mut [f64],
+    figures: &mut [f64],
+    present: &mut [u8],
+) -> u32
+    ensures { MeetsFixed center window_size min_periods (Kurtosis fisher bias) (tracing trace has_map map)
+        (lending work figures present) result }
+{
+    moments::moments_rolling_kurtosis(
+        trace,
+        has_map,
+        map,
+        window_size,
+        min_periods,
+        center,
+        fisher,
+        bias,
+        work,
+        figures,
+        present,
+    )
+}
+
+pub fn two_rolling_kurtosis(
+    x: &[f64],
+    x_has_map: bool,
+    x_map: &[u8],
+    y: &[f64],
+    y_has_map: bool,
+    y_map: &[u8],
+    window_size: usize,
+    min_periods: usize,
+    center: bool,
+    fisher: bool,
+    bias: bool,
+    x_work: &mut [f64],
+    x_figures: &mut [f64],
+    x_present: &mut [u8],
+    y_work: &mut [f64],
+    y_figures: &mut [f64],
+    y_present: &mut [u8],
+) -> Numbers
+    ensures { MeetTwoFixed center window_size min_periods (Kurtosis fisher bias)
+        (tracing x x_has_map x_map) (tracing y y_has_map y_map)
+        (lending x_work x_figures x_present) (lending y_work y_figures y_present) result.first result.second }
+{
+    let first = moments::moments_rolling_kurtosis(
+        x,
+        x_has_map,
+        x_map,
+        window_size,
+        min_periods,
+        center,
+        fisher,
+        bias,
+        x_work,
+        x_figures,
+        x_present,
+    );
+    let second = moments::moments_rolling_kurtosis(
+        y,
+        y_has_map,
+        y_map,
+        window_size,
+        min_periods,
+        center,
+        fisher,
+        bias,
+        y_work,
+        y_figures,
+        y_present,
     );
     Numbers { first, second }
 }

@@ -1,5 +1,5 @@
 -- Of a state whose weight is the float of a count: where each figure is missing, in terms of the count; and a variance is
--- missing, NaN or at least zero. A skewness that is handed its correction is the skewness. Assumes nothing.
+-- missing, NaN or at least zero. Assumes nothing.
 use Rattle.std.proofs.Common.{◌≡◌, ℕ, ◌^◌, ◌<◌, ◌≤◌, Bool, true, false, cond, T, eqb, leb, refl, ap, ◌∙◌, arith}
 use lib.Ieee.{Float, le, of_bits, of_int}
 use Rattle.float.specs.Operators.{◌⊖◌, ◌⊗◌, ◌⊘◌, two64, three64, of_nat64}
@@ -12,7 +12,6 @@ use Rattle.moment.specs.declared.Figure.TheVariants.{Missing, Present}
 use Rattle.moment.specs.Var.{not_negative, var_finalize, not_below_zero}
 use Rattle.moment.specs.Cov.{cov_finalize}
 use Rattle.moment.specs.Skew.{skew_biased, skew_correction, skew_finalize}
-use Rattle.moment.specs.Code.Corrected.{skew_finalize_with}
 use Rattle.moment.specs.Kurtosis.{kurtosis_biased, kurtosis_unbiased, less_three, kurtosis_finalize}
 use Rattle.moment.proofs.Weights.{at_zero, at_most_ddof}
 
@@ -71,10 +70,3 @@ var_not_below_zero s ddof = by (le s.weight (of_nat64 ddof)) (s.dp ⊘ (s.weight
     by : (t : Bool) (v : Float) → T (not_below_zero (cond t Missing (Present (not_negative v))))
     by true v = tt
     by false v = nan_or_at_least_zero v
-
--- ---- a biased skewness has no correction, an unbiased one that of its weight
-pub skew_corrected : (s : SkewState) (bias : Bool) (factor : Float) → (bias ≡ false → factor ≡ skew_correction s.weight)
-    → skew_finalize_with s bias factor ≡ skew_finalize s bias
-unfolding skew_finalize skew_finalize_with
-skew_corrected s true factor e = refl
-skew_corrected s false factor e = rw (e refl)

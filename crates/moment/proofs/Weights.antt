@@ -14,8 +14,8 @@ use Rattle.moment.specs.declared.kurtosis_state.KurtosisState.{KurtosisState}
 use Rattle.moment.specs.Var.{var_empty, var_clear, var_inserted, var_insert, var_merged, var_merge, var_combine}
 use Rattle.moment.specs.Cov.{cov_insert, cov_merge, cov_combine}
 use Rattle.moment.specs.Pearson.{pearson_insert, pearson_merge, pearson_combine}
-use Rattle.moment.specs.Skew.{skew_clear, skew_insert, skew_merge, skew_combine}
-use Rattle.moment.specs.Kurtosis.{kurtosis_clear, kurtosis_inserted, kurtosis_insert, kurtosis_merged, kurtosis_merge, kurtosis_combine}
+use Rattle.moment.specs.Skew.{skew_clear, skew_inserted, skew_insert, skew_merged, skew_merge, skew_combine}
+use Rattle.moment.specs.Kurtosis.{kurtosis_clear, kurtosis_insert, kurtosis_merge, kurtosis_combine}
 
 -- ---- a weight that is the float of a count, compared
 -- it is zero exactly where the count is
@@ -151,11 +151,9 @@ skew_raises s x = skew_cleared _
 pub skew_inserts_count : InsertsCount skew_weight skew_insert
 skew_inserts_count = inserts-count skew_weight skew_insert (raising skew_weight skew_insert skew_raises)
 
-pub kurtosis_raises : (s : KurtosisState) (x : Float) → (kurtosis_insert s x).weight ≡ s.weight ⊕ one64
-kurtosis_raises s x = kurtosis_cleared _
-
 pub kurtosis_inserts_count : InsertsCount kurtosis_weight kurtosis_insert
-kurtosis_inserts_count = inserts-count kurtosis_weight kurtosis_insert (raising kurtosis_weight kurtosis_insert kurtosis_raises)
+kurtosis_inserts_count =
+    inserts-count kurtosis_weight kurtosis_insert (raising kurtosis_weight kurtosis_insert (λ s x. kurtosis_cleared _))
 
 pub cov_inserts_count : InsertsCount cov_weight (λ s (p : Float × Float). cov_insert s p.0 p.1)
 cov_inserts_count =
@@ -197,10 +195,9 @@ pub var_inserted_lem : (s : VarState) (x : Float) (n : ℕ) → n < 2 ^ 53 → s
 unfolding var_clear
 var_inserted_lem s x n h e = uncleared var_weight (var_inserted s x) _ (n + 1) (omega arith) (omega arith) (raised s.weight n h e)
 
-pub kurtosis_inserted_lem : (s : KurtosisState) (x : Float) (n : ℕ) → n < 2 ^ 53 → s.weight ≡ of_nat64 n → kurtosis_inserted s x ≡ kurtosis_insert s x
-unfolding kurtosis_clear
-kurtosis_inserted_lem s x n h e =
-    uncleared kurtosis_weight (kurtosis_inserted s x) _ (n + 1) (omega arith) (omega arith) (raised s.weight n h e)
+pub skew_inserted_lem : (s : SkewState) (x : Float) (n : ℕ) → n < 2 ^ 53 → s.weight ≡ of_nat64 n → skew_inserted s x ≡ skew_insert s x
+unfolding skew_clear
+skew_inserted_lem s x n h e = uncleared skew_weight (skew_inserted s x) _ (n + 1) (omega arith) (omega arith) (raised s.weight n h e)
 
 pub var_by_counts : (s o : VarState) (a b : ℕ) → a + b ≤ 2 ^ 53 → s.weight ≡ of_nat64 a → o.weight ≡ of_nat64 b → var_combine s o ≡ cond (eqb b 0) s (var_merged s o)
 unfolding var_combine var_clear
@@ -212,13 +209,11 @@ var_by_counts s o a b h p q = rw (at_zero o.weight b (omega arith) q) (go (eqb b
         let n = eqb-false b 0 e in
         sym (uncleared var_weight (var_merged s o) _ (a + b) (omega arith) h (merged var_weight s o (var_merged s o) a b (omega arith) (omega arith) p q refl))
 
-pub kurtosis_by_counts : (s o : KurtosisState) (a b : ℕ) → a ≤ 2 ^ 53 → b ≤ 2 ^ 53 → s.weight ≡ of_nat64 a → o.weight ≡ of_nat64 b
-    → kurtosis_combine s o ≡ cond (eqb b 0) s (cond (eqb a 0) o (kurtosis_merge s o))
-unfolding kurtosis_combine
-kurtosis_by_counts s o a b h k p q = rw (at_zero o.weight b k q, at_zero s.weight a h p)
+pub skew_by_counts : (s o : SkewState) (a b : ℕ) → a ≤ 2 ^ 53 → b ≤ 2 ^ 53 → s.weight ≡ of_nat64 a → o.weight ≡ of_nat64 b
+    → skew_combine s o ≡ cond (eqb b 0) s (cond (eqb a 0) o (skew_merge s o))
+unfolding skew_combine
+skew_by_counts s o a b h k p q = rw (at_zero o.weight b k q, at_zero s.weight a h p)
 
-pub kurtosis_merged_lem : (s o : KurtosisState) (a b : ℕ) → a ≤ 2 ^ 53 → b ≤ 2 ^ 53 → a + b ≤ 2 ^ 53 → 0 < a + b → s.weight ≡ of_nat64 a
-    → o.weight ≡ of_nat64 b → kurtosis_merged s o ≡ kurtosis_merge s o
-unfolding kurtosis_clear
-kurtosis_merged_lem s o a b h k l m p q =
-    uncleared kurtosis_weight (kurtosis_merged s o) _ (a + b) m l (merged kurtosis_weight s o (kurtosis_merged s o) a b h k p q refl)
+pub skew_merged_lem : (s o : SkewState) (a b : ℕ) → a ≤ 2 ^ 53 → b ≤ 2 ^ 53 → a + b ≤ 2 ^ 53 → 0 < a + b → s.weight ≡ of_nat64 a → o.weight ≡ of_nat64 b → skew_merged s o ≡ skew_merge s o
+unfolding skew_clear
+skew_merged_lem s o a b h k l m p q = uncleared skew_weight (skew_merged s o) _ (a + b) m l (merged skew_weight s o (skew_merged s o) a b h k p q refl)

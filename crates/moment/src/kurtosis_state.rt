@@ -1,13 +1,12 @@
 // Kurtosis: the source's `KurtosisState`.
 ghost use Rattle.std.specs.Prelude.{◌≡◌, ◌+◌, ◌^◌, ◌<◌, length};
 ghost use Rattle.float.specs.Operators.{zero64};
-ghost use Rattle.moment.specs.Kurtosis.{kurtosis_empty, kurtosis_about, kurtosis_new, kurtosis_inserted, kurtosis_insert};
-ghost use Rattle.moment.specs.Kurtosis.{kurtosis_merged, kurtosis_combine, skew_part, kurtosis_biased, kurtosis_unbiased, less_three};
-ghost use Rattle.moment.specs.Kurtosis.{kurtosis_finalize};
+ghost use Rattle.moment.specs.Kurtosis.{kurtosis_empty, kurtosis_about, kurtosis_new, kurtosis_insert, kurtosis_merge};
+ghost use Rattle.moment.specs.Kurtosis.{kurtosis_combine, kurtosis_biased, kurtosis_unbiased, less_three, kurtosis_finalize};
 ghost use Rattle.moment.specs.Code.Parts.{valid_part};
 ghost use Rattle.moment.specs.Arrays.{kurtosis_range};
 
-use crate::{Figure, KurtosisAnswer, SkewState, is_zero, sums};
+use crate::{Figure, KurtosisAnswer, is_zero, sums};
 
 #[repr(C)]
 #[derive(Drop)]
@@ -138,11 +137,13 @@ impl KurtosisState {
         }
     }
 
-    // `insert_one` before its `clear_zero_weight_nan`, which changes nothing where the weight counts readings.
-    pub fn inserted(self, x: f64) -> Self
-        ensures { result ≡ kurtosis_inserted self x }
+    pub fn insert_one(self, x: f64) -> Self
+        ensures { result ≡ kurtosis_insert self x }
     {
         let new_weight = self.weight + 1.0;
+        if new_weight == 0.0 {
+            return KurtosisState::zero_weight(new_weight);
+        }
         let delta_mean = x - self.mean;
         let delta_mean_weight = delta_mean / new_weight;
         let new_mean = self.mean + delta_mean_weight;
@@ -165,21 +166,14 @@ impl KurtosisState {
         }
     }
 
-    pub fn insert_one(self, x: f64) -> Self
-        ensures { result ≡ kurtosis_insert self x }
+    // `combine` after its tests of weights.
+    fn merged(self, other: KurtosisState) -> Self
+        ensures { result ≡ kurtosis_merge self other }
     {
-        let new_weight = self.weight + 1.0;
+        let new_weight = self.weight + other.weight;
         if new_weight == 0.0 {
             return KurtosisState::zero_weight(new_weight);
         }
-        self.inserted(x)
-    }
-
-    // `combine` of two weights that are not zero, before its `clear_zero_weight_nan`.
-    pub fn merged(self, other: KurtosisState) -> Self
-        ensures { result ≡ kurtosis_merged self other }
-    {
-        let new_weight = self.weight + other.weight;
         let delta_mean = other.mean - self.mean;
         let delta_mean_weight = delta_mean / new_weight;
         let new_mean = self.mean + other.weight * delta_mean_weight;
@@ -220,23 +214,7 @@ impl KurtosisState {
         if self.weight == 0.0 {
             return other;
         }
-        let new_weight = self.weight + other.weight;
-        if new_weight == 0.0 {
-            return KurtosisState::zero_weight(new_weight);
-        }
         self.merged(other)
-    }
-
-    // The skewness state of the same readings: every member but the last.
-    pub fn skew_part(self) -> SkewState
-        ensures { result ≡ skew_part self }
-    {
-        SkewState {
-            weight: self.weight,
-            mean: self.mean,
-            m2: self.m2,
-            m3: self.m3,
-        }
     }
 
     fn biased(self) -> f64

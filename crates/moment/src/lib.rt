@@ -32,7 +32,7 @@ pub enum Figure {
 }
 
 // The source's is_zero: whether m2, already divided by the weight, is negligible beside the mean.
-pub(crate) fn is_zero(m2: f64, mean: f64) -> bool
+pub fn is_zero(m2: f64, mean: f64) -> bool
     ensures { result ≡ is_zero m2 mean }
 {
     m2 <= EPSILON * mean * (EPSILON * mean)

@@ -3,7 +3,6 @@ ghost use Rattle.std.specs.Prelude.{◌≡◌, ◌+◌, ◌^◌, ◌<◌, length
 ghost use Rattle.float.specs.Operators.{zero64};
 ghost use Rattle.moment.specs.Skew.{skew_empty, skew_about, skew_new, skew_inserted, skew_insert};
 ghost use Rattle.moment.specs.Skew.{skew_merged, skew_combine, skew_biased, skew_correction, skew_finalize};
-ghost use Rattle.moment.specs.Code.Corrected.{skew_finalize_with};
 ghost use Rattle.moment.specs.Code.Parts.{valid_part};
 ghost use Rattle.moment.specs.Arrays.{skew_range};
 
@@ -128,7 +127,7 @@ impl SkewState {
     }
 
     // `insert_one` before its `clear_zero_weight_nan`, which changes nothing where the weight counts readings.
-    fn inserted(self, x: f64) -> Self
+    pub fn inserted(self, x: f64) -> Self
         ensures { result ≡ skew_inserted self x }
     {
         let new_weight = self.weight + 1.0;
@@ -158,7 +157,7 @@ impl SkewState {
     }
 
     // `combine` of two weights that are not zero, before its `clear_zero_weight_nan`.
-    fn merged(self, other: SkewState) -> Self
+    pub fn merged(self, other: SkewState) -> Self
         ensures { result ≡ skew_merged self other }
     {
         let new_weight = self.weight + other.weight;
@@ -215,9 +214,8 @@ impl SkewState {
         root::root(n * (n - 1.0)) / (n - 2.0)
     }
 
-    // `finalize` with the correction of an unbiased estimate in hand: windows of one count share it.
-    pub fn finalize_with(self, bias: bool, factor: f64) -> Figure
-        ensures { result ≡ skew_finalize_with self bias factor }
+    pub fn finalize(self, bias: bool) -> Figure
+        ensures { result ≡ skew_finalize self bias }
     {
         let biased_est = self.biased();
         if bias {
@@ -229,16 +227,7 @@ impl SkewState {
         if self.weight <= 2.0 {
             return Figure::Missing;
         }
-        Figure::Present(factor * biased_est)
-    }
-
-    pub fn finalize(self, bias: bool) -> Figure
-        ensures { result ≡ skew_finalize self bias }
-    {
-        if bias {
-            return self.finalize_with(bias, 0.0);
-        }
-        self.finalize_with(bias, SkewState::correction(self.weight))
+        Figure::Present(SkewState::correction(self.weight) * biased_est)
     }
 
     // One unchunked state of the valid readings of a range. The range is lent as a part that starts in the trace's middle.

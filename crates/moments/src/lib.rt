@@ -15,8 +15,8 @@ ghost use Rattle.moment.specs.Arrays.{kurtosis_answer, kurtosis_range, kurtosis_
 ghost use Rattle.trace.specs.Slices.{entering, leaving};
 ghost use Rattle.trace.specs.Trace.{tracing};
 ghost use Rattle.window.specs.Pairs.{pairing};
-ghost use Rattle.rolling.specs.Moments.{Variance, SkewnessKurtosis, Covariance, Correlation};
-ghost use Rattle.rolling.specs.Calls.{querying, lending, lending_two, lending_three};
+ghost use Rattle.rolling.specs.Moments.{Variance, Skewness, Kurtosis, Covariance, Correlation};
+ghost use Rattle.rolling.specs.Calls.{querying, lending, lending_three};
 ghost use Rattle.rolling.specs.Fixed.{CallsFixed};
 ghost use Rattle.weighted.specs.Weights.{CallsWeights, lending_column};
 ghost use Rattle.moments.specs.HostCall.{hosting, decoding, hosting_pair, decoding_pair, CallsBytes};
@@ -26,7 +26,7 @@ use moment::{
     CovAnswer, CovState, Figure, KurtosisAnswer, KurtosisState, PearsonAnswer, PearsonState,
     SkewAnswer, SkewState, VarAnswer, VarState,
 };
-use rolling::{CovMoment, PearsonMoment, SkewKurtosisMoment, VarianceMoment};
+use rolling::{CovMoment, KurtosisMoment, PearsonMoment, SkewMoment, VarianceMoment};
 
 // Plans: the trace as little-endian bytes, decoded into `readings`; 0, or the number of the first refusal and every list as it
 // was. Nothing is decoded before every number is known, and the plan call then checks once more: one pass without branches.
@@ -96,7 +96,7 @@ pub extern "C" fn moments_plan_var(
 }
 
 #[unsafe(no_mangle)]
-pub extern "C" fn moments_plan_skew_kurtosis(
+pub extern "C" fn moments_plan_skew(
     trace: &[u8],
     readings: &mut [f64],
     has_map: bool,
@@ -104,18 +104,13 @@ pub extern "C" fn moments_plan_skew_kurtosis(
     starts: &[u32],
     ends: &[u32],
     min_periods: usize,
-    skew_bias: bool,
-    fisher: bool,
-    kurtosis_bias: bool,
+    bias: bool,
     work: &mut [f64],
-    skew: &mut [f64],
-    skew_present: &mut [u8],
-    kurtosis: &mut [f64],
-    kurtosis_present: &mut [u8],
+    figures: &mut [f64],
+    present: &mut [u8],
 ) -> u32
-    ensures { CallsBytes (querying starts ends min_periods (SkewnessKurtosis skew_bias fisher kurtosis_bias))
-        (hosting trace has_map map) (decoding readings)
-        (lending_two work skew skew_present kurtosis kurtosis_present) result }
+    ensures { CallsBytes (querying starts ends min_periods (Skewness bias)) (hosting trace has_map map)
+        (decoding readings) (lending work figures present) result }
 {
     if trace.len() % 8 != 0 {
         return 14;
@@ -127,37 +122,80 @@ pub extern "C" fn moments_plan_skew_kurtosis(
         ends,
         n,
         readings.len() < n,
-        SkewKurtosisMoment::shortest(
-            skew.len(),
-            skew_present.len(),
-            kurtosis.len(),
-            kurtosis_present.len(),
-        ),
-        SkewKurtosisMoment::PLACE,
+        plan::shorter(figures.len(), present.len()),
+        SkewMoment::PLACE,
         work.len(),
     );
     if checked.number != 0 {
         return checked.number;
     }
     float::decode(trace, readings);
-    rolling::plan_skew_kurtosis(
+    rolling::plan_skew(
         &readings[..n],
         has_map,
         map,
         starts,
         ends,
         min_periods,
-        skew_bias,
-        fisher,
-        kurtosis_bias,
+        bias,
         work,
-        skew,
-        skew_present,
-        kurtosis,
-        kurtosis_present,
+        figures,
+        present,
     )
 }
 
+#[unsafe(no_mangle)]
+pub extern "C" fn moments_plan_kurtosis(
+    trace: &[u8],
+    readings: &mut [f64],
+    has_map: bool,
+    map: &[u8],
+    starts: &[u32],
+    ends: &[u32],
+    min_periods: usize,
+    fisher: bool,
+    bias: bool,
+    work: &mut [f64],
+    figures: &mut [f64],
+    present: &mut [u8],
+) -> u32
+    ensures { CallsBytes (querying starts ends min_periods (Kurtosis fisher bias)) (hosting trace has_map map)
+        (decoding readings) (lending work figures present) result }
+{
+    if trace.len() % 8 != 0 {
+        return 14;
+    }
+    let n = trace.len() / 8;
+    let checked = plan::plan_refusal(
+        trace::array_refusal(n, has_map, map),
+        starts,
+        ends,
+        n,
+        readings.len() < n,
+        plan::shorter(figures.len(), present.len()),
+        KurtosisMoment::PLACE,
+        work.len(),
+    );
+    if checked.number != 0 {
+        return checked.number;
+    }
+    float::decode(trace, readings);
+    rolling::plan_kurtosis(
+        &readings[..n],
+        has_map,
+        map,
+        starts,
+        ends,
+        min_periods,
+        fisher,
+        bias,
+        work,
+        figures,
+        present,
+    )
+}
+
+// Two traces as bytes, each decoded into its own list; the numbers go by their order, not trace by trace.
 #[unsafe(no_mangle)]
 pub extern "C" fn moments_plan_cov(
     x: &[u8],
@@ -320,40 +358,64 @@ pub extern "C" fn moments_rolling_var(
 }
 
 #[unsafe(no_mangle)]
-pub extern "C" fn moments_rolling_skew_kurtosis(
+pub extern "C" fn moments_rolling_skew(
     trace: &[f64],
     has_map: bool,
     map: &[u8],
     window_size: usize,
     min_periods: usize,
     center: bool,
-    skew_bias: bool,
-    fisher: bool,
-    kurtosis_bias: bool,
+    bias: bool,
     work: &mut [f64],
-    skew: &mut [f64],
-    skew_present: &mut [u8],
-    kurtosis: &mut [f64],
-    kurtosis_present: &mut [u8],
+    figures: &mut [f64],
+    present: &mut [u8],
 ) -> u32
-    ensures { CallsFixed center window_size min_periods (SkewnessKurtosis skew_bias fisher kurtosis_bias)
-        (tracing trace has_map map) (lending_two work skew skew_present kurtosis kurtosis_present) result }
+    ensures { CallsFixed center window_size min_periods (Skewness bias) (tracing trace has_map map)
+        (lending work figures present) result }
 {
-    rolling::rolling_skew_kurtosis(
+    rolling::rolling_skew(
         trace,
         has_map,
         map,
         window_size,
         min_periods,
         center,
-        skew_bias,
-        fisher,
-        kurtosis_bias,
+        bias,
         work,
-        skew,
-        skew_present,
-        kurtosis,
-        kurtosis_present,
+        figures,
+        present,
+    )
+}
+
+#[unsafe(no_mangle)]
+pub extern "C" fn moments_rolling_kurtosis(
+    trace: &[f64],
+    has_map: bool,
+    map: &[u8],
+    window_size: usize,
+    min_periods: usize,
+    center: bool,
+    fisher: bool,
+    bias: bool,
+    work: &mut [f64],
+    figures: &mut [f64],
+    present: &mut [u8],
+) -> u32
+    ensures { CallsFixed center window_size min_periods (Kurtosis fisher bias) (tracing trace has_map map)
+        (lending work figures present) result }
+{
+    rolling::rolling_kurtosis(
+        trace,
+        has_map,
+        map,
+        window_size,
+        min_periods,
+        center,
+        fisher,
+        bias,
+        work,
+        figures,
+        present,
     )
 }
 

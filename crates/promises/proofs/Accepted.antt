@@ -17,7 +17,7 @@ use Rattle.plan.proofs.Checks.{taken}
 use Rattle.window.specs.Given.{Given, places_of, given_refusal}
 use Rattle.window.specs.Outputs.{Column, Lent, answers_in, counts_in, answers_at, counts_at, shortest_output}
 use Rattle.window.proofs.Outputs.{answered_at, numbered_at}
-use Rattle.rolling.specs.Moments.{Statistic, Variance, SkewnessKurtosis, Covariance, Correlation, kind_of, estimators_of, work_width}
+use Rattle.rolling.specs.Moments.{Statistic, Variance, Skewness, Kurtosis, Covariance, Correlation, kind_of, finals_of, work_width}
 use Rattle.rolling.specs.Calls.{Query, query, GivenTo, figures_of, yields, tallies, refusal_of, Left}
 use Rattle.weighted.specs.Weights.{weighted_at, CalledWeights}
 use Rattle.moments.specs.HostCall.{decoded_of, short_lists}
@@ -42,17 +42,17 @@ map_long t e h =
 
 -- the figures stand first
 figures_first : (a : Statistic) (t : Given (kind_of a)) (min_periods : ℕ) (p : Plan) (k : ℕ)
-    → take (length (estimators_of a)) (answers_at (yields (query p min_periods a) t) k) ≡ answers_at (figures_of (query p min_periods a) t) k
+    → take (length (finals_of a)) (answers_at (yields (query p min_periods a) t) k) ≡ answers_at (figures_of (query p min_periods a) t) k
 figures_first (Variance ddof) t min_periods p k = refl
-figures_first (SkewnessKurtosis skew_bias fisher kurtosis_bias) t min_periods p k = refl
+figures_first (Skewness bias) t min_periods p k = refl
+figures_first (Kurtosis fisher bias) t min_periods p k = refl
 figures_first (Covariance ddof) t min_periods p k = refl
 figures_first Correlation t min_periods p k = refl
 
 known_of : (q : Query) (t : GivenTo q) (l₀ l : Lent) (short : Bool) → Left q t l₀ l 0 → refusal_of q t short l₀ ≡ 0 → Known q t l
 known_of q t l₀ l short w e =
     let kind = kind_of q.statistic in
-    let a = taken (given_refusal kind t) q.plan (places_of kind t) short (shortest_output l₀.outputs) (work_width q.statistic)
-    (length l₀.work) e in
+    let a = taken (given_refusal kind t) q.plan (places_of kind t) short (shortest_output l₀.outputs) (work_width q.statistic) (length l₀.work) e in
     let answers : (k : ℕ) → k < rows q.plan → answers_in l.outputs.answers k ≡ answers_at (yields q t) k = λ k h.
     ap (λ x. answers_in x k) w.written.answers_are
     ∙ answered_at (rows q.plan) k (yields q t) l₀.outputs.answers h w.fits.answers in
@@ -62,17 +62,14 @@ known_of q t l₀ l short w e =
       plan = a.plan;
       answers = answers;
       figures = λ k h.
-          ap (take (length (estimators_of q.statistic))) (answers k h) ∙ figures_first q.statistic t q.min_periods q.plan k;
-      counts = λ k h.
-          ap (λ x. counts_in x k) w.written.counts_are
-          ∙ numbered_at (rows q.plan) k (tallies q t) l₀.outputs.counts h w.fits.counts;
+          ap (take (length (finals_of q.statistic))) (answers k h) ∙ figures_first q.statistic t q.min_periods q.plan k;
+      counts = λ k h. ap (λ x. counts_in x k) w.written.counts_are ∙ numbered_at (rows q.plan) k (tallies q t) l₀.outputs.counts h w.fits.counts;
     }
 
 pub known : (q : Query) (t : GivenTo q) (l : Lent) → AcceptedCall q t l → Known q t l
 known q t l (plan_call {l₀ = l₀} c) = known_of q t l₀ l false c.left (sym c.number_is)
 known q t l (host_call {h = h} {r₀ = r₀} {l₀ = l₀} c) =
-    known_of q (decoded_of (kind_of q.statistic) h) l₀ l (short_lists (kind_of q.statistic) h r₀) c.left
-    (none_of _ _ (sym c.number_is)).1
+    known_of q (decoded_of (kind_of q.statistic) h) l₀ l (short_lists (kind_of q.statistic) h r₀) c.left (none_of _ _ (sym c.number_is)).1
 known q t l (fixed_call {l₀ = l₀} c) = known_of q t l₀ l false c.plan_call.left (sym c.plan_call.number_is)
 
 -- a weighted call's lists hold every row's answer

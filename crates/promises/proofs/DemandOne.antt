@@ -31,7 +31,7 @@ use Rattle.window.specs.Given.{Kind, Readings, Pairs, Given, series_of, places_o
 use Rattle.window.specs.Outputs.{Column, Outputs, Lent, answer_lengths, count_lengths, shortest, shortest_of, shortest_output, column_after}
 use Rattle.window.specs.Outputs.{kept}
 use Rattle.window.proofs.Outputs.{unfilled, column-is, answered_refused, numbered_refused}
-use Rattle.rolling.specs.Moments.{Statistic, Variance, SkewnessKurtosis, Covariance, Correlation, kind_of, work_width}
+use Rattle.rolling.specs.Moments.{Statistic, Variance, Skewness, Kurtosis, Covariance, Correlation, kind_of, moment_of, finals_of, work_width}
 use Rattle.rolling.specs.Calls.{Query, query, GivenTo, yields, tallies, Left, Called}
 use Rattle.rolling.specs.Fixed.{fixed_query, CalledFixed}
 use Rattle.weighted.specs.Weights.{weighted_at, weights_refusal, CalledWeights}
@@ -241,7 +241,8 @@ module _ (n : ℕ) where
 some_figure : (a : Statistic) (t : Given (kind_of a)) (min_periods : ℕ) (p : Plan)
     → 0 < length (yields (query p min_periods a) t)
 some_figure (Variance ddof) t min_periods p = omega arith
-some_figure (SkewnessKurtosis skew_bias fisher kurtosis_bias) t min_periods p = omega arith
+some_figure (Skewness bias) t min_periods p = omega arith
+some_figure (Kurtosis fisher bias) t min_periods p = omega arith
 some_figure (Covariance ddof) t min_periods p = omega arith
 some_figure Correlation t min_periods p = omega arith
 

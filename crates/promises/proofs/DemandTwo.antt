@@ -17,7 +17,7 @@ use Rattle.trace.specs.Trace.{Trace}
 use Rattle.trace.specs.Refusals.{trace_refusal}
 use Rattle.moment.specs.Var.{var_clear, var_combine, var_finalize}
 use Rattle.moment.specs.Skew.{skew_new, skew_clear, skew_combine, skew_biased, skew_finalize}
-use Rattle.moment.specs.Kurtosis.{kurtosis_new, kurtosis_clear, kurtosis_combine, kurtosis_finalize}
+use Rattle.moment.specs.Kurtosis.{kurtosis_new, kurtosis_clear, kurtosis_combine}
 use Rattle.moment.specs.Arrays.{var_whole, cov_whole, pearson_whole, skew_whole, kurtosis_whole}
 use Rattle.moment.specs.declared.Figure.{Figure}
 use Rattle.moment.proofs.Weights.{at_zero}
@@ -29,8 +29,8 @@ use Rattle.window.specs.Window.{Moment}
 use Rattle.window.specs.Given.{Readings, Given, series_of, places_of, given_refusal}
 use Rattle.window.specs.Outputs.{Column, Lent, Answer, of_figure, answers_in, answers_at}
 use Rattle.window.proofs.Outputs.{◌then◌}
-use Rattle.rolling.specs.Moments.{Statistic, Variance, SkewnessKurtosis, Covariance, Correlation, variance, skewness, kurtosis}
-use Rattle.rolling.specs.Moments.{kind_of, Estimator, estimators_of}
+use Rattle.rolling.specs.Moments.{Statistic, Variance, Skewness, Kurtosis, Covariance, Correlation, variance, skewness, kurtosis}
+use Rattle.rolling.specs.Moments.{kind_of, moment_of, finals_of}
 use Rattle.rolling.specs.Calls.{Query, GivenTo, figures_by}
 use Rattle.rolling.specs.Fixed.{fixed_query, CalledFixed}
 use Rattle.rolling.proofs.Calls.{few_places}
@@ -116,77 +116,64 @@ ranges =
 
 -- ---- the rows of a driver over our moments
 -- one for each figure
-abbrev rows_by : ((M : Moment Float) → (M.State → Figure) → ℕ → Figure) → List (Estimator Float) → List (ℕ → Figure)
-rows_by row [] = []
-rows_by row (e ∷ es) = row e.moment e.final ∷ rows_by row es
+abbrev rows_by : (M : Moment Float) → ((M.State → Figure) → ℕ → Figure) → List (M.State → Figure) → List (ℕ → Figure)
+rows_by M row [] = []
+rows_by M row (final ∷ finals) = row final ∷ rows_by M row finals
 
--- moments that merge no empty state
-abbrev AllNeutral : List (Estimator Float) → Type 0
-AllNeutral [] = Unit {0}
-AllNeutral (e ∷ es) = Neutral e.moment × AllNeutral es
-
-module _ (rust : Rust) (t : Trace) (accepted : trace_refusal t ≡ 0) (min_periods : ℕ) where
+module _ (rust : Rust) (M : Moment Float) (neutral : Neutral M) (t : Trace) (accepted : trace_refusal t ≡ 0) (min_periods : ℕ) where
   few : length t.readings ≤ 16777216
   few = few_places Readings t accepted
 
   -- of a plan that is in order
   module _ (widest : ℕ) (p : Plan) (plan : Planned (length t.readings) widest p) (k : ℕ) (h : k < rows p) where
-    rows_same : (es : List (Estimator Float)) → AllNeutral es → answers_at (figures_by es (series_of Readings t) min_periods p) k
-        ≡ answers_at (rows_by (λ M f. plan_row M rust f t min_periods p) es) k
-    rows_same [] neutral = refl
-    rows_same (e ∷ es) neutral =
-        ap of_figure
-        (sym (plan_row_lem e.moment rust neutral.0 e.final t min_periods widest p plan few (map_long t accepted) k h))
-        then rows_same es neutral.1
+    rows_same : (finals : List (M.State → Figure)) →
+        answers_at (figures_by M finals (series_of Readings t) min_periods p) k ≡ answers_at
+        (rows_by M (λ f. plan_row M rust f t min_periods p) finals) k
+    rows_same [] = refl
+    rows_same (final ∷ finals) =
+        ap of_figure (sym (plan_row_lem M rust neutral final t min_periods widest p plan few (map_long t accepted) k h)) then rows_same finals
 
   -- of fixed windows
-  fixed_same : (center : Bool) (size : ℕ) → size < 2 ^ 64 → (k : ℕ) → k < length t.readings → (es : List (Estimator Float))
-      → answers_at (rows_by (λ M f. plan_row M rust f t min_periods (bounds center size (length t.readings))) es) k
-      ≡ answers_at (rows_by (λ M f. fixed_row M rust f t min_periods center size) es) k
+  fixed_same : (center : Bool) (size : ℕ) → size < 2 ^ 64 → (k : ℕ) → k < length t.readings → (finals : List (M.State → Figure)) →
+      answers_at (rows_by M (λ f. plan_row M rust f t min_periods (bounds center size (length t.readings))) finals) k
+      ≡ answers_at (rows_by M (λ f. fixed_row M rust f t min_periods center size) finals) k
   fixed_same center size fits k h [] = refl
-  fixed_same center size fits k h (e ∷ es) =
-      ap of_figure (fixed_row_lem e.moment rust e.final t min_periods center size k fits few h) then fixed_same center size fits k h es
+  fixed_same center size fits k h (final ∷ finals) =
+      ap of_figure (fixed_row_lem M rust final t min_periods center size k fits few h) then fixed_same center size fits k h finals
 
 -- ---- the source's moments are ours, so a driver gives the same rows over both
 module _ (row : (M : Moment Float) → (M.State → Figure) → ℕ → Figure) where
-  variance_row : (ddof : ℕ) → row variance_moment (λ s. VarState-finalize s ddof) ≡ row variance (λ s. var_finalize s ddof)
+  variance-rows : (ddof : ℕ) → (row variance_moment (λ s. VarState-finalize s ddof) ∷ [])
+      ≡ rows_by variance (row variance) (finals_of (Variance ddof))
   unfolding VarState-insert_one VarState-combine VarState-clear_zero_weight_nan VarState-finalize var_clear var_combine var_finalize
-  variance_row ddof = refl
+  variance-rows ddof = refl
 
-  skewness_row : (bias : Bool) → row skew_moment (λ s. SkewState-finalize s bias) ≡ row skewness (λ s. skew_finalize s bias)
+  skewness-rows : (bias : Bool) → (row skew_moment (λ s. SkewState-finalize s bias) ∷ [])
+      ≡ rows_by skewness (row skewness) (finals_of (Skewness bias))
   unfolding SkewState-insert_one SkewState-combine SkewState-clear_zero_weight_nan SkewState-finalize skew_clear skew_combine skew_biased
       skew_finalize
-  skewness_row bias = refl
+  skewness-rows bias = refl
 
-  kurtosis-row : (fisher bias : Bool)
-      → row kurtosis_moment (λ s. KurtosisState-finalize s fisher bias) ≡ row kurtosis (λ s. kurtosis_finalize s fisher bias)
+  kurtosis-rows : (fisher bias : Bool)
+      → (row kurtosis_moment (λ s. KurtosisState-finalize s fisher bias) ∷ []) ≡ rows_by kurtosis (row kurtosis)
+      (finals_of (Kurtosis fisher bias))
   unfolding KurtosisState-insert_one KurtosisState-combine KurtosisState-clear_zero_weight_nan kurtosis_clear kurtosis_combine
-  kurtosis-row fisher bias = λ i. row kurtosis (λ s. kurtosis_finalize_lem s fisher bias i)
-
-  -- the rows of a call
-  variance-rows : (ddof : ℕ) → (row variance_moment (λ s. VarState-finalize s ddof) ∷ []) ≡ rows_by row (estimators_of (Variance ddof))
-  variance-rows ddof = λ i. variance_row ddof i ∷ []
-
-  both-rows : (skew_bias fisher kurtosis_bias : Bool)
-      → (row skew_moment (λ s. SkewState-finalize s skew_bias) ∷ row kurtosis_moment (λ s. KurtosisState-finalize s fisher kurtosis_bias) ∷ [])
-      ≡ rows_by row (estimators_of (SkewnessKurtosis skew_bias fisher kurtosis_bias))
-  both-rows skew_bias fisher kurtosis_bias = λ i. skewness_row skew_bias i ∷ kurtosis-row fisher kurtosis_bias i ∷ []
+  kurtosis-rows fisher bias = λ i. row kurtosis (λ s. kurtosis_finalize_lem s fisher bias i) ∷ []
 
 -- ---- by what is asked
--- row k of lists of rows
-abbrev at : ℕ → List (ℕ → Figure) → List Answer
-at k l = answers_at l k
-
 sourced : (rust : Rust) (a : Statistic) (one : OfOneTrace a) (t : Given (kind_of a)) → given_refusal (kind_of a) t ≡ 0
     → (min_periods widest : ℕ) (p : Plan) → Planned (places_of (kind_of a) t) widest p
-    → (k : ℕ) → k < rows p → answers_at (figures_by (estimators_of a) (series_of (kind_of a) t) min_periods p) k
+    → (k : ℕ) → k < rows p → answers_at (figures_by (moment_of a) (finals_of a) (series_of (kind_of a) t) min_periods p) k
     ≡ answers_at (source_rows rust a one t min_periods p) k
 sourced rust (Variance ddof) one t g m w p o k h =
-    rows_same rust t g m w p o k h (estimators_of (Variance ddof)) (var_neutral, tt)
-    ∙ sym (ap (at k) (variance-rows (λ M f. plan_row M rust f t m p) ddof))
-sourced rust (SkewnessKurtosis skew_bias fisher kurtosis_bias) one t g m w p o k h =
-    rows_same rust t g m w p o k h (estimators_of (SkewnessKurtosis skew_bias fisher kurtosis_bias)) (skew_neutral, (kurtosis_neutral, tt))
-    ∙ sym (ap (at k) (both-rows (λ M f. plan_row M rust f t m p) skew_bias fisher kurtosis_bias))
+    rows_same rust variance var_neutral t g m w p o k h (finals_of (Variance ddof))
+    ∙ ap (λ (l : List (ℕ → Figure)). answers_at l k) (sym (variance-rows (λ M f. plan_row M rust f t m p) ddof))
+sourced rust (Skewness bias) one t g m w p o k h =
+    rows_same rust skewness skew_neutral t g m w p o k h (finals_of (Skewness bias))
+    ∙ ap (λ (l : List (ℕ → Figure)). answers_at l k) (sym (skewness-rows (λ M f. plan_row M rust f t m p) bias))
+sourced rust (Kurtosis fisher bias) one t g m w p o k h =
+    rows_same rust kurtosis kurtosis_neutral t g m w p o k h (finals_of (Kurtosis fisher bias))
+    ∙ ap (λ (l : List (ℕ → Figure)). answers_at l k) (sym (kurtosis-rows (λ M f. plan_row M rust f t m p) fisher bias))
 sourced rust (Covariance ddof) one t g m w p o k h = absurd one
 sourced rust Correlation one t g m w p o k h = absurd one
 
@@ -198,17 +185,24 @@ module _ (rust : Rust) (min_periods : ℕ) (center : Bool) (size : ℕ) (fits : 
   abbrev by_size : Trace → (M : Moment Float) → (M.State → Figure) → ℕ → Figure
   by_size t M final = fixed_row M rust final t min_periods center size
 
+  abbrev at : ℕ → List (ℕ → Figure) → List Answer
+  at k l = answers_at l k
+
   fixed-sourced : (a : Statistic) (one : OfOneTrace a) (t : Given (kind_of a)) → given_refusal (kind_of a) t ≡ 0 → (k : ℕ)
       → k < places_of (kind_of a) t → answers_at (source_rows rust a one t min_periods (bounds center size (places_of (kind_of a) t))) k
       ≡ answers_at (source_fixed_rows rust a one t min_periods center size) k
   fixed-sourced (Variance ddof) one t g k h =
       ap (at k) (variance-rows (by_plan t) ddof)
-      ∙ fixed_same rust t g min_periods center size fits k h (estimators_of (Variance ddof))
+      ∙ fixed_same rust variance var_neutral t g min_periods center size fits k h (finals_of (Variance ddof))
       ∙ sym (ap (at k) (variance-rows (by_size t) ddof))
-  fixed-sourced (SkewnessKurtosis skew_bias fisher kurtosis_bias) one t g k h =
-      ap (at k) (both-rows (by_plan t) skew_bias fisher kurtosis_bias)
-      ∙ fixed_same rust t g min_periods center size fits k h (estimators_of (SkewnessKurtosis skew_bias fisher kurtosis_bias))
-      ∙ sym (ap (at k) (both-rows (by_size t) skew_bias fisher kurtosis_bias))
+  fixed-sourced (Skewness bias) one t g k h =
+      ap (at k) (skewness-rows (by_plan t) bias)
+      ∙ fixed_same rust skewness skew_neutral t g min_periods center size fits k h (finals_of (Skewness bias))
+      ∙ sym (ap (at k) (skewness-rows (by_size t) bias))
+  fixed-sourced (Kurtosis fisher bias) one t g k h =
+      ap (at k) (kurtosis-rows (by_plan t) fisher bias)
+      ∙ fixed_same rust kurtosis kurtosis_neutral t g min_periods center size fits k h (finals_of (Kurtosis fisher bias))
+      ∙ sym (ap (at k) (kurtosis-rows (by_size t) fisher bias))
   fixed-sourced (Covariance ddof) one t g k h = absurd one
   fixed-sourced Correlation one t g k h = absurd one
 

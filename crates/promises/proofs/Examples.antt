@@ -20,7 +20,6 @@ use Rattle.moment.specs.declared.kurtosis_state.KurtosisState.{KurtosisState}
 use Rattle.moment.specs.declared.Figure.{Figure}
 use Rattle.plan.specs.Plan.{Plan, plan_of}
 use Rattle.window.specs.Window.{Moment}
-use Rattle.rolling.specs.Moments.{SkewnessKurtosis}
 use Rattle.promises.specs.Rust.{some_rust, bitmap_of}
 use Rattle.promises.specs.SourceStates.{is_empty, VarState-default, VarState-new, VarState-clear_zero_weight_nan, VarState-insert_one}
 use Rattle.promises.specs.SourceStates.{VarState-combine, VarState-finalize}
@@ -39,8 +38,7 @@ use Rattle.promises.specs.SourceRows.{Array, head_set, tail_set, create_validity
 use Rattle.promises.specs.SourceFixed.{offset_fn, fixed_row}
 use Rattle.promises.specs.SourceWeights.{weights_start, compute_var_weights, weighted_row, rolling_var_weights}
 use Rattle.promises.specs.Calls.{var_list, skew_list, kurtosis_list, cov_list, pearson_list}
-use Rattle.promises.specs.DemandTwo.{source_var, source_cov, source_skew_range, source_kurtosis_range, variance_moment, source_rows}
-use Rattle.promises.specs.DemandTwo.{source_fixed_rows}
+use Rattle.promises.specs.DemandTwo.{source_var, source_cov, source_skew_range, source_kurtosis_range, variance_moment}
 use Rattle.promises.specs.Table.{every, same, gives, infinite_mean}
 
 -- ---- comparisons
@@ -582,36 +580,6 @@ pub fixed_examples :
 unfolding every of_bits to_bits of_int add sub mul div eq lt le VarState-clear_zero_weight_nan VarState-insert_one VarState-combine
     VarState-finalize valid_at offset_fn rolling_no_nulls rolling_nulls
 fixed_examples = tt
-
--- ---- skewness and kurtosis of one call
--- row k of both lists: each byte and double
-abbrev both_give : List (ℕ → Figure) → ℕ → ℕ → Float → ℕ → Float → Bool
-both_give [] k a x b y = false
-both_give (f ∷ []) k a x b y = false
-both_give (f ∷ g ∷ fs) k a x b y = gives (f k) a x && gives (g k) b y
-
--- 2, 4, 9 in one row, skewness biased and kurtosis not: 3 readings have no unbiased kurtosis
-pub both_examples :
-    Hold
-    (both_give (source_rows some_rust (SkewnessKurtosis true false false) tt (whole (2 ∷ 4 ∷ 9 ∷ [])) 1 (plan_of (0 ∷ []) (3 ∷ []))) 0 1
-    (of_bits binary64 0x3_fDE19_e4_eE5_d704_f) 0 zero64
-    ∷ [])
-unfolding every of_bits to_bits of_int add sub mul div eq lt le root SkewState-clear_zero_weight_nan SkewState-insert_one SkewState-combine
-    SkewState-finalize KurtosisState-clear_zero_weight_nan KurtosisState-insert_one KurtosisState-combine KurtosisState-finalize valid_at
-    rolling_no_nulls rolling_nulls
-both_examples = tt
-
--- the last row of a trailing window 3, with a map, skewness unbiased and kurtosis biased, less three (`fisher`)
-pub fixed_both_examples :
-    Hold
-    (both_give
-    (source_fixed_rows some_rust (SkewnessKurtosis false true true) tt (trace_of (reals (2 ∷ 4 ∷ 9 ∷ [])) true (7 ∷ [])) 1 false 3) 2 1
-    (of_bits binary64 0x3_fF26_eE092_b45_dD6) 1 (of_bits binary64 0x_bFF7_fFFFFFFFFFFF)
-    ∷ [])
-unfolding every of_bits to_bits of_int add sub mul div eq lt le root SkewState-clear_zero_weight_nan SkewState-insert_one SkewState-combine
-    SkewState-finalize KurtosisState-clear_zero_weight_nan KurtosisState-insert_one KurtosisState-combine KurtosisState-finalize valid_at
-    offset_fn rolling_no_nulls rolling_nulls
-fixed_both_examples = tt
 
 -- ---- SourceWeights
 -- where the weights of window 3 start, for row idx of places start up to start + win_len

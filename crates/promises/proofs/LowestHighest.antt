@@ -22,7 +22,7 @@ use Rattle.window.specs.Extremes.{finite_at, finite_readings, lower, higher, fur
 use Rattle.window.specs.Given.{Given}
 use Rattle.window.specs.Outputs.{Lent, of_figure}
 use Rattle.window.proofs.Extremes.{Extreme, entry_place, place-entry, not-limit, fold-extreme, both, first_of, second-of}
-use Rattle.rolling.specs.Moments.{Statistic, Variance, SkewnessKurtosis, Covariance, Correlation, kind_of, estimators_of}
+use Rattle.rolling.specs.Moments.{Statistic, Variance, Skewness, Kurtosis, Covariance, Correlation, kind_of, finals_of}
 use Rattle.rolling.specs.Calls.{query}
 use Rattle.promises.specs.Calls.{AcceptedCall}
 use Rattle.promises.specs.LowestHighest.{FiniteIn, Short, IsExtreme, ExtremeRow, WhereExtremes, LowestHighest}
@@ -128,7 +128,8 @@ by_figure (Variance ddof) t p min_periods l c k h =
       lowest_is = extreme-row t (row_start p k) (row_end p k) lower (inf false) lower_orders min_periods;
       highest_is = extreme-row t (row_start p k) (row_end p k) higher (inf true) higher_orders min_periods;
     }
-by_figure (SkewnessKurtosis skew_bias fisher kurtosis_bias) t p min_periods l c k h = tt
+by_figure (Skewness bias) t p min_periods l c k h = tt
+by_figure (Kurtosis fisher bias) t p min_periods l c k h = tt
 by_figure (Covariance ddof) t p min_periods l c k h = tt
 by_figure Correlation t p min_periods l c k h = tt
 
@@ -136,7 +137,6 @@ pub lowest_highest : LowestHighest
 lowest_highest =
     record {
       one = λ q t l c k h. by_figure q.statistic t q.plan q.min_periods l c k h;
-      two = λ q t t' l l' alike c c' k h g.
-          ap (drop (length (estimators_of q.statistic))) (alike_answers q t t' l l' alike c c' k h g);
+      two = λ q t t' l l' alike c c' k h g. ap (drop (length (finals_of q.statistic))) (alike_answers q t t' l l' alike c c' k h g);
       unsigned = plain_double;
     }

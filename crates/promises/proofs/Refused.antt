@@ -149,7 +149,7 @@ pub host_refused : CalledBytes (variance_by p7 1) nine_bytes (table (λ i. one64
 unfolding table refusal ◌or_else◌ wrong_map plan_refusal filled kept
 host_refused = record { number_is = refl; readings_are = refl; left = leaves refl refl refl refl refl }
 
--- window 2 over 1, 3 with a work slice of 11 doubles: 13
+-- window 2 over 1, 3 with a work slice of 7 doubles: 13
 pub fixed_refused : CalledFixed false 2 1 (Variance 1) trace13 (var_lent 11) (var_lent 11) 13
 unfolding table refusal ◌or_else◌ wrong_map plan_refusal bounds fixed_refusal filled kept
 fixed_refused =

@@ -27,7 +27,7 @@ use Rattle.window.proofs.Places.{count-all}
 use Rattle.window.proofs.Pairs.{unmapped_both}
 use Rattle.window.proofs.Extremes.{first_of}
 use Rattle.window.proofs.Outputs.{◌then◌}
-use Rattle.rolling.specs.Moments.{Statistic, Variance, SkewnessKurtosis, Covariance, Correlation, kind_of, Estimator}
+use Rattle.rolling.specs.Moments.{Statistic, Variance, Skewness, Kurtosis, Covariance, Correlation, kind_of}
 use Rattle.rolling.specs.Calls.{figures_by, extremes_by}
 use Rattle.promises.proofs.Accounts.{entries-same, account-same, figure_same, lies, meets, row-account}
 
@@ -46,8 +46,7 @@ guarded : (v a b : Bool) → (v ≡ true → a ≡ b) → (v && not a) ≡ (v &&
 guarded v a b g = guards v v (not a) (not b) refl (λ e. ap not (g e))
 
 nonfinite_same : (kind : Kind) (t t' : Given kind) (i : ℕ) → (series_of kind t).places.valid i ≡ (series_of kind t').places.valid i
-    → ((series_of kind t).places.valid i ≡ true → SameAt kind t t' i)
-    → (series_of kind t).places.nonfinite i ≡ (series_of kind t').places.nonfinite i
+    → ((series_of kind t).places.valid i ≡ true → SameAt kind t t' i) → (series_of kind t).places.nonfinite i ≡ (series_of kind t').places.nonfinite i
 unfolding nonfinite_at nonfinite_pair
 nonfinite_same Readings t t' i v e = rw (← v) (guarded ((series_of Readings t).places.valid i) _ _ (λ x. ap finite (e x)))
 nonfinite_same Pairs t t' i v e =
@@ -64,13 +63,12 @@ all_valid Pairs t e i = unmapped_both t.x.mapped t.y.mapped t.x.map t.y.map e i
 pub counted_is : (kind : Kind) (t : Given kind) (s e : ℕ) → counted (series_of kind t).places s e ≡ valid_count (series_of kind t).places s e
 counted_is kind t s e = go (series_of kind t).places.mapped refl
   where
-    go : (m : Bool) → (series_of kind t).places.mapped ≡ m
-        → cond m (valid_count (series_of kind t).places s e) (e - s) ≡ valid_count (series_of kind t).places s e
+    go : (m : Bool) → (series_of kind t).places.mapped ≡ m → cond m (valid_count (series_of kind t).places s e) (e - s) ≡ valid_count (series_of kind t).places s e
     go true x = refl
     go false x = sym (count-all (series_of kind t).places.valid (λ i. i) (all_valid kind t x) s e)
 
-module _ (kind : Kind) (M : Moment (Entry kind)) (final : M.State → Figure) (t t' : Given kind) (min_periods n widest : ℕ) (p : Plan)
-    (plan : Planned n widest p) (places : (i : ℕ) → i < n → (series_of kind t).places.valid i ≡ (series_of kind t').places.valid i) where
+module _ (kind : Kind) (M : Moment (Entry kind)) (final : M.State → Figure) (t t' : Given kind) (min_periods n widest : ℕ) (p : Plan) (plan : Planned n widest p)
+    (places : (i : ℕ) → i < n → (series_of kind t).places.valid i ≡ (series_of kind t').places.valid i) where
   abbrev u : Series (Entry kind)
   u = series_of kind t
 
@@ -83,8 +81,7 @@ module _ (kind : Kind) (M : Moment (Entry kind)) (final : M.State → Figure) (t
   abbrev SameMoves : ℕ → Type 0
   SameMoves k = (j : ℕ) → j < k → moves_at u j ≡ moves_at u' j
 
-  module _ (k : ℕ) (h : k < rows p) (m : SameMoves k)
-      (g : (i : ℕ) → row_start p k ≤ i → i < row_end p k → u.places.valid i ≡ true → SameAt kind t t' i) where
+  module _ (k : ℕ) (h : k < rows p) (m : SameMoves k) (g : (i : ℕ) → row_start p k ≤ i → i < row_end p k → u.places.valid i ≡ true → SameAt kind t t' i) where
     abbrev S : ℕ
     S = row_start p k
 
@@ -107,8 +104,7 @@ module _ (kind : Kind) (M : Moment (Entry kind)) (final : M.State → Figure) (t
     nonfinite-count : nonfinite_count u.places S E ≡ nonfinite_count u'.places S E
     nonfinite-count =
         ap length
-        (entries-same u.places.nonfinite u'.places.nonfinite (λ i. i) (λ i. i) S E
-        (λ i x l. nonfinite_same kind t t' i (valid-in i x l) (g i x l)) (λ i x l b. refl))
+        (entries-same u.places.nonfinite u'.places.nonfinite (λ i. i) (λ i. i) S E (λ i x l. nonfinite_same kind t t' i (valid-in i x l) (g i x l)) (λ i x l b. refl))
 
     abbrev A : Account
     A = account_at u.places.valid u.places.mapped min_periods p (suc k)
@@ -126,8 +122,8 @@ module _ (kind : Kind) (M : Moment (Entry kind)) (final : M.State → Figure) (t
 
     accounts : leb min_periods (counted u.places S E) ≡ true → A ≡ account_at u'.places.valid u'.places.mapped min_periods p (suc k)
     accounts e =
-        account-same u.places.valid u'.places.valid u.places.mapped u'.places.mapped min_periods n widest p plan places
-        (suc k) h (row-moves e)
+        account-same u.places.valid u'.places.valid u.places.mapped u'.places.mapped min_periods n widest p plan places (suc k) h
+        (row-moves e)
 
     pub yields-same : answer_at M final u min_periods p k ≡ answer_at M final u' min_periods p k
     unfolding answer_at answer_of
@@ -148,17 +144,15 @@ module _ (kind : Kind) (M : Moment (Entry kind)) (final : M.State → Figure) (t
         go false e = refl
 
 -- every figure of the list at once
-pub figures_same : (kind : Kind) (es : List (Estimator (Entry kind))) (t t' : Given kind) (min_periods n widest : ℕ) (p : Plan)
-    → Planned n widest p → ((i : ℕ) → i < n → (series_of kind t).places.valid i ≡ (series_of kind t').places.valid i)
-    → (k : ℕ) → k < rows p
-    → ((j : ℕ) → j < k → moves (series_of kind t).places.mapped min_periods j (row_start p j) (row_end p j)
-    ≡ moves (series_of kind t').places.mapped min_periods j (row_start p j) (row_end p j))
+pub figures_same : (kind : Kind) (M : Moment (Entry kind)) (finals : List (M.State → Figure)) (t t' : Given kind) (min_periods n widest : ℕ) (p : Plan) → Planned n widest p
+    → ((i : ℕ) → i < n → (series_of kind t).places.valid i ≡ (series_of kind t').places.valid i) → (k : ℕ) → k < rows p
+    → ((j : ℕ) → j < k → moves (series_of kind t).places.mapped min_periods j (row_start p j) (row_end p j) ≡ moves (series_of kind t').places.mapped min_periods j (row_start p j) (row_end p j))
     → ((i : ℕ) → row_start p k ≤ i → i < row_end p k → (series_of kind t).places.valid i ≡ true → SameAt kind t t' i)
-    → answers_at (figures_by es (series_of kind t) min_periods p) k ≡ answers_at (figures_by es (series_of kind t') min_periods p) k
-figures_same kind [] t t' min_periods n widest p plan places k h m g = refl
-figures_same kind (e ∷ es) t t' min_periods n widest p plan places k h m g =
-    ap of_figure (yields-same kind e.moment e.final t t' min_periods n widest p plan places k h m g)
-    then figures_same kind es t t' min_periods n widest p plan places k h m g
+    → answers_at (figures_by M finals (series_of kind t) min_periods p) k ≡ answers_at (figures_by M finals (series_of kind t') min_periods p) k
+figures_same kind M [] t t' min_periods n widest p plan places k h m g = refl
+figures_same kind M (final ∷ finals) t t' min_periods n widest p plan places k h m g =
+    ap of_figure (yields-same kind M final t t' min_periods n widest p plan places k h m g)
+    then figures_same kind M finals t t' min_periods n widest p plan places k h m g
 
 -- the lowest and highest reading, which the places of the row's window tell alone
 pub extremes_same : (a : Statistic) (t t' : Given (kind_of a)) (min_periods : ℕ) (p : Plan) (k : ℕ)
@@ -179,7 +173,8 @@ extremes_same (Variance ddof) t t' min_periods p k m v g =
 
     same : (beyond : Float → Float → Bool) → extreme_at beyond t min_periods p k ≡ extreme_at beyond t' min_periods p k
     same beyond = λ j. cond (short_row (m j) min_periods (row_start p k) (row_end p k)) Missing (extreme beyond (readings j))
-extremes_same (SkewnessKurtosis skew_bias fisher kurtosis_bias) t t' min_periods p k m v g = refl
+extremes_same (Skewness bias) t t' min_periods p k m v g = refl
+extremes_same (Kurtosis fisher bias) t t' min_periods p k m v g = refl
 extremes_same (Covariance ddof) t t' min_periods p k m v g = refl
 extremes_same Correlation t t' min_periods p k m v g = refl
 

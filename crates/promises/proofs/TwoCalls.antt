@@ -13,7 +13,7 @@ use Rattle.plan.specs.Plan.{rows, row_start, row_end}
 use Rattle.window.specs.Given.{series_of, places_of}
 use Rattle.window.specs.Rows.{moves}
 use Rattle.window.specs.Outputs.{Lent, answers_in, counts_in}
-use Rattle.rolling.specs.Moments.{Statistic, kind_of, estimators_of}
+use Rattle.rolling.specs.Moments.{Statistic, kind_of, moment_of, finals_of}
 use Rattle.rolling.specs.Calls.{Query, GivenTo, figures_of, extremes_by}
 use Rattle.promises.specs.Calls.{figures_in, AcceptedCall}
 use Rattle.promises.specs.DemandThree.{Alike, Agree, SameAnswers}
@@ -82,8 +82,8 @@ same_moves_same_row q t t' l l' c c' places k h m g =
     let kind = kind_of q.statistic in
     record {
       figures = a.figures k h
-          ∙ figures_same kind (estimators_of q.statistic) t t' q.min_periods (places_of kind t) a.widest q.plan a.plan places
-          k h m g
+          ∙ figures_same kind (moment_of q.statistic) (finals_of q.statistic) t t' q.min_periods (places_of kind t) a.widest
+          q.plan a.plan places k h m g
           ∙ sym (a'.figures k h);
       counts = a.counts k h ∙ sym (a'.counts k h);
     }
@@ -97,8 +97,8 @@ alike_answers q t t' l l' alike c c' k h g =
     let a = known q t l c in
     let a' = known q t' l' c' in
     let kind = kind_of q.statistic in
-    let f = figures_same kind (estimators_of q.statistic) t t' q.min_periods (places_of kind t) a.widest q.plan a.plan
-    alike.places k h (both_or_neither q t t' k alike.mapped) g in
+    let f = figures_same kind (moment_of q.statistic) (finals_of q.statistic) t t' q.min_periods (places_of kind t) a.widest
+    q.plan a.plan alike.places k h (both_or_neither q t t' k alike.mapped) g in
     let e = extremes_same q.statistic t t' q.min_periods q.plan k alike.mapped
     (λ i x l. let w = a.plan.row k h in alike.places i (omega arith)) g in
     a.answers k h
@@ -111,4 +111,4 @@ alike_answers q t t' l l' alike c c' k h g =
 pub alike_same : (q : Query) (t t' : GivenTo q) (l l' : Lent) → Alike (kind_of q.statistic) t t' → AcceptedCall q t l
     → AcceptedCall q t' l' → SameAnswers q t t' l l'
 alike_same q t t' l l' alike c c' k h g =
-    ap (take (length (estimators_of q.statistic))) (alike_answers q t t' l l' alike c c' k h g)
+    ap (take (length (finals_of q.statistic))) (alike_answers q t t' l l' alike c c' k h g)

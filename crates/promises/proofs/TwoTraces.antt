@@ -23,8 +23,8 @@ use Rattle.plan.specs.Code.Accepted.{Planned}
 use Rattle.window.specs.Window.{Moment, rising, falling}
 use Rattle.window.specs.Given.{Pairs, Given, series_of, places_of, given_refusal}
 use Rattle.window.specs.Outputs.{Lent, answers_in, answers_at}
-use Rattle.rolling.specs.Moments.{Statistic, Variance, SkewnessKurtosis, Covariance, Correlation, kind_of}
-use Rattle.rolling.specs.Moments.{pair_moment, covariance, correlation, correlation_finalize, estimator}
+use Rattle.rolling.specs.Moments.{Statistic, Variance, Skewness, Kurtosis, Covariance, Correlation, kind_of}
+use Rattle.rolling.specs.Moments.{pair_moment, covariance, correlation, correlation_finalize}
 use Rattle.rolling.specs.Calls.{query, figures_by}
 use Rattle.rolling.proofs.Calls.{few_places}
 use Rattle.promises.specs.Calls.{AcceptedCall}
@@ -42,8 +42,7 @@ module _ {S : Type 0} (weight : S → Float) (empty : S) (new : List (Float × F
       → weight (combine (rising (pair_moment empty new combine) empty xs) (falling (pair_moment empty new combine) ys))
       ≡ of_nat64 (length xs + length ys)
   pairs-count =
-      parts-count weight (pair_moment empty new combine).insert (combining weight combine (λ p. new (p ∷ [])) adds one) combine adds empty
-      none
+      parts-count weight (pair_moment empty new combine).insert (combining weight combine (λ p. new (p ∷ [])) adds one) combine adds empty none
 
 cov_one : (p : Float × Float) → cov_weight (cov_new (p ∷ [])) ≡ of_nat64 1
 unfolding cov_new
@@ -80,7 +79,7 @@ correlation_by_weight =
 -- ---- the statement
 figure_in : (M : Moment (Float × Float)) (final : M.State → Figure) (few : ℕ) → ByWeight M final few → (t : Given Pairs)
     → given_refusal Pairs t ≡ 0 → (p : Plan) (min_periods widest : ℕ) → Planned (places_of Pairs t) widest p → (l : Lent) (k : ℕ) → k < rows p
-    → answers_in l.outputs.answers k ≡ answers_at (figures_by (estimator M final ∷ []) (series_of Pairs t) min_periods p) k
+    → answers_in l.outputs.answers k ≡ answers_at (figures_by M (final ∷ []) (series_of Pairs t) min_periods p) k
     → PairFigureIn t p min_periods few k l
 figure_in M final few by t g p min_periods widest plan l k h stands =
     record {
@@ -94,7 +93,8 @@ where_pairs : (a : Statistic) → IsSetting a → (t : Given (kind_of a)) (p : P
     → AcceptedCall (query p min_periods a) t l
     → (k : ℕ) → k < rows p → WherePairs a t p min_periods k l
 where_pairs (Variance ddof) set t p min_periods l c k h = tt
-where_pairs (SkewnessKurtosis skew_bias fisher kurtosis_bias) set t p min_periods l c k h = tt
+where_pairs (Skewness bias) set t p min_periods l c k h = tt
+where_pairs (Kurtosis fisher bias) set t p min_periods l c k h = tt
 where_pairs (Covariance ddof) byte t p min_periods l c k h =
     let a = known (query p min_periods (Covariance ddof)) t l c in
     figure_in covariance (λ s. cov_finalize s ddof) ddof (cov_by_weight ddof byte) t a.given_is p min_periods a.widest a.plan l k h

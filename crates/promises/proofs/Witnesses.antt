@@ -30,7 +30,7 @@ use Rattle.window.specs.Rows.{answer_at}
 use Rattle.window.specs.Extremes.{lower, higher, extreme, extreme_of, extreme_at}
 use Rattle.window.specs.Outputs.{Column, Lent, column, outputs_of, filled, kept, column_after, answered, numbered, Answer, answers_in}
 use Rattle.window.specs.Outputs.{answers_at}
-use Rattle.rolling.specs.Moments.{Variance, SkewnessKurtosis, work_width}
+use Rattle.rolling.specs.Moments.{Variance, Skewness, Kurtosis, work_width}
 use Rattle.rolling.specs.Calls.{Query, query, GivenTo, figures_of, yields, tallies, Left, Called}
 use Rattle.rolling.specs.Fixed.{fixed_query, CalledFixed}
 use Rattle.weighted.specs.Weights.{weighted_at, weights_refusal, CalledWeights}
@@ -59,14 +59,6 @@ four_lent work = lent work four_column
 -- what is left of such lists
 abbrev pub four_left : ℕ → List Float → List ℕ → Lent
 four_left work figures present = lent work (column figures present)
-
--- the lists of a skewness and a kurtosis
-abbrev pub two_lent : ℕ → Lent
-two_lent work = record { outputs = outputs_of (four_column ∷ four_column ∷ []) []; work = table (λ i. zero64) work }
-
--- what is left of such lists
-abbrev pub two_left : ℕ → Column → Column → Lent
-two_left work skewness kurtosis = record { outputs = outputs_of (skewness ∷ kurtosis ∷ []) []; work = table (λ i. zero64) work }
 
 -- the lists of a variance, its lowest and its highest reading, each as c
 abbrev pub var_lent_of : ℕ → Column → Lent
@@ -115,7 +107,7 @@ unfolding table refusal ◌or_else◌ wrong_map plan_refusal filled kept of_bits
 p7_accepted = record { number_is = refl; left = leaves refl refl refl refl refl }
 
 -- P8's readings as bytes: NaN, 4, 6
-abbrev pub bytes8 : List ℕ
+abbrev bytes8 : List ℕ
 bytes8 =
     0 ∷ 0 ∷ 0 ∷ 0 ∷ 0 ∷ 0 ∷ 0x_f8 ∷ 0x7_f ∷ 0 ∷ 0 ∷ 0 ∷ 0 ∷ 0 ∷ 0 ∷ 0x10 ∷ 0x40 ∷ 0 ∷ 0 ∷ 0 ∷ 0 ∷ 0 ∷ 0 ∷ 0x18 ∷ 0x40 ∷ []
 
@@ -150,7 +142,7 @@ trailing_accepted =
     record { number_is = refl; plan_call = record { number_is = refl; left = leaves refl refl refl refl refl } }
 
 -- trailing window 3 over 2, 4, 9
-abbrev pub trace249 : Trace
+abbrev trace249 : Trace
 trace249 = trace_of (of_nat64 2 ∷ of_nat64 4 ∷ of_nat64 9 ∷ []) false []
 
 abbrev left249 : Lent
@@ -162,23 +154,28 @@ unfolding table refusal ◌or_else◌ wrong_map plan_refusal bounds fixed_refusa
 trailing3_accepted =
     record { number_is = refl; plan_call = record { number_is = refl; left = leaves refl refl refl refl refl } }
 
--- 0, 0, 0, 0, 5 in one row: skewness 1.5, kurtosis 3.25; more such calls are in proofs/SkewKurtosisWitnesses
+-- 0, 0, 0, 0, 5 in one row: skewness 1.5, kurtosis 3.25
 abbrev trace5 : Trace
 trace5 = trace_of (of_nat64 0 ∷ of_nat64 0 ∷ of_nat64 0 ∷ of_nat64 0 ∷ of_nat64 5 ∷ []) false []
 
 abbrev p5 : Plan
 p5 = plan_of (0 ∷ []) (5 ∷ [])
 
-abbrev left5 : Lent
-left5 =
-    two_left 30 (column (of_bits binary64 0x3_fF8000000000000 ∷ one64 ∷ one64 ∷ one64 ∷ []) (1 ∷ 7 ∷ 7 ∷ 7 ∷ []))
-    (column (of_bits binary64 0x400_a000000000000 ∷ one64 ∷ one64 ∷ one64 ∷ []) (1 ∷ 7 ∷ 7 ∷ 7 ∷ []))
+abbrev skew_left : Lent
+skew_left = four_left 25 (of_bits binary64 0x3_fF8000000000000 ∷ one64 ∷ one64 ∷ one64 ∷ []) (1 ∷ 7 ∷ 7 ∷ 7 ∷ [])
 
-pub skewness_kurtosis_accepted : Called (query p5 1 (SkewnessKurtosis true false true)) trace5 (two_lent 30) left5 0
+abbrev kurtosis_left : Lent
+kurtosis_left = four_left 30 (of_bits binary64 0x400_a000000000000 ∷ one64 ∷ one64 ∷ one64 ∷ []) (1 ∷ 7 ∷ 7 ∷ 7 ∷ [])
+
+pub skewness_accepted : Called (query p5 1 (Skewness true)) trace5 (four_lent 25) skew_left 0
 unfolding table refusal ◌or_else◌ wrong_map plan_refusal filled kept of_bits of_int add sub mul div eq lt le root skew_clear skew_combine
-    skew_biased skew_finalize kurtosis_clear kurtosis_combine kurtosis_biased kurtosis_finalize entries_from split_after figure_of inserted_at
-    nonfinite_at answer_at valid_at
-skewness_kurtosis_accepted = record { number_is = refl; left = leaves refl refl refl refl refl }
+    skew_biased skew_finalize entries_from split_after figure_of inserted_at nonfinite_at answer_at valid_at extreme extreme_of
+skewness_accepted = record { number_is = refl; left = leaves refl refl refl refl refl }
+
+pub kurtosis_accepted : Called (query p5 1 (Kurtosis false true)) trace5 (four_lent 30) kurtosis_left 0
+unfolding table refusal ◌or_else◌ wrong_map plan_refusal filled kept of_bits of_int add sub mul div eq lt le kurtosis_clear kurtosis_combine
+    kurtosis_biased kurtosis_finalize entries_from split_after figure_of inserted_at nonfinite_at answer_at valid_at extreme extreme_of
+kurtosis_accepted = record { number_is = refl; left = leaves refl refl refl refl refl }
 
 -- an `AcceptedCall` by each entry and for each figure
 pub plan_call_lem : AcceptedCall (variance_by p7 1) trace7 p7_left
@@ -193,8 +190,11 @@ pub trailing_call : AcceptedCall (query (plan_of (0 ∷ 0 ∷ 0 ∷ []) (1 ∷ 2
 unfolding table bounds
 trailing_call = fixed_call trailing3_accepted
 
-pub skewness_kurtosis_call : AcceptedCall (query p5 1 (SkewnessKurtosis true false true)) trace5 left5
-skewness_kurtosis_call = plan_call skewness_kurtosis_accepted
+pub skewness_call : AcceptedCall (query p5 1 (Skewness true)) trace5 skew_left
+skewness_call = plan_call skewness_accepted
+
+pub kurtosis_call : AcceptedCall (query p5 1 (Kurtosis false true)) trace5 kurtosis_left
+kurtosis_call = plan_call kurtosis_accepted
 
 -- "Centred window 4, n = 5: row 0 (0,2), row 2 (0,4), row 4 (2,5)."
 pub centred : bounds true 4 5 ≡ plan_of (0 ∷ 0 ∷ 0 ∷ 1 ∷ 2 ∷ []) (2 ∷ 3 ∷ 4 ∷ 5 ∷ 5 ∷ [])
@@ -220,8 +220,8 @@ pub plan_rows : RowsEqual some_rust (variance_by p7 1) tt trace7 p7_left
 plan_rows = demand_two.plans some_rust _ tt _ _ plan_call_lem
 
 -- `fixed` and `weights`, whose window size is a `usize`
-pub fixed_rows_lem : FixedRowsEqual some_rust false 3 1 (Variance 1) tt trace249 left249
-fixed_rows_lem = demand_two.fixed some_rust false 3 1 (Variance 1) tt trace249 _ left249 (lit≤ tt) trailing3_accepted
+pub fixed_rows : FixedRowsEqual some_rust false 3 1 (Variance 1) tt trace249 left249
+fixed_rows = demand_two.fixed some_rust false 3 1 (Variance 1) tt trace249 _ left249 (lit≤ tt) trailing3_accepted
 
 pub weights_rows : WeightedRowsEqual some_rust false 2 1 (one64 ∷ one64 ∷ []) trace13 weights11_left
 weights_rows = demand_two.weights some_rust false 2 1 _ trace13 _ _ (lit≤ tt) weights11_accepted

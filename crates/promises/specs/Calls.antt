@@ -13,7 +13,7 @@ use Rattle.moment.specs.Arrays.{skew_answer, skew_range, skew_number, skew_membe
 use Rattle.moment.specs.Arrays.{kurtosis_members, range_readings}
 use Rattle.window.specs.Given.{Given}
 use Rattle.window.specs.Outputs.{Lent, Answer, answers_in}
-use Rattle.rolling.specs.Moments.{Statistic, Variance, SkewnessKurtosis, Covariance, Correlation, kind_of, estimators_of}
+use Rattle.rolling.specs.Moments.{Statistic, Variance, Skewness, Kurtosis, Covariance, Correlation, kind_of, finals_of}
 use Rattle.rolling.specs.Calls.{Query, GivenTo, Called}
 use Rattle.rolling.specs.Fixed.{fixed_query, CalledFixed}
 use Rattle.moments.specs.HostCall.{Host, decoded_of, ReadingLists, CalledBytes}
@@ -81,33 +81,35 @@ abbrev pub pearson_list : PearsonState → List Float
 pearson_list s = s.weight ∷ s.mean_x ∷ s.mean_y ∷ s.dp_xx ∷ s.dp_xy ∷ s.dp_yy ∷ []
 
 -- ---- windows
--- "be it variance, skewness or kurtosis": the figures of one trace, of which document 01 speaks, and whose rows the Rust has. Document 02,
--- request 5: the last two are given by one call
+-- "be it variance, skewness or kurtosis": the figures of one trace, of which document 01 speaks, and whose rows the Rust has
 abbrev pub OfOneTrace : Statistic → Type 0
 OfOneTrace (Variance ddof) = Unit {0}
-OfOneTrace (SkewnessKurtosis skew_bias fisher kurtosis_bias) = Unit {0}
+OfOneTrace (Skewness bias) = Unit {0}
+OfOneTrace (Kurtosis fisher bias) = Unit {0}
 OfOneTrace (Covariance ddof) = ⊥
 OfOneTrace Correlation = ⊥
 
 -- Document 02, request 2: "rolling covariance and rolling correlation of two traces". The Rust has these of whole arrays only.
 abbrev pub OfTwoTraces : Statistic → Type 0
 OfTwoTraces (Variance ddof) = ⊥
-OfTwoTraces (SkewnessKurtosis skew_bias fisher kurtosis_bias) = ⊥
+OfTwoTraces (Skewness bias) = ⊥
+OfTwoTraces (Kurtosis fisher bias) = ⊥
 OfTwoTraces (Covariance ddof) = Unit {0}
 OfTwoTraces Correlation = Unit {0}
 
 -- row k's answers of the figures, which stand first in the lists; behind a variance stand its lowest and highest reading
 abbrev pub figures_in : Statistic → Lent → ℕ → List Answer
-figures_in a l k = take (length (estimators_of a)) (answers_in l.outputs.answers k)
+figures_in a l k = take (length (finals_of a)) (answers_in l.outputs.answers k)
 
 -- row k's answers behind them: of a variance the lowest and highest reading, of other figures none
 abbrev pub extremes_in : Statistic → Lent → ℕ → List Answer
-extremes_in a l k = drop (length (estimators_of a)) (answers_in l.outputs.answers k)
+extremes_in a l k = drop (length (finals_of a)) (answers_in l.outputs.answers k)
 
 -- An accepted call without weights, its number 0, on what is given with a plan and a setting q, that leaves the lists l: a plan call, a
 -- host call or a call with fixed windows, whatever the lists held before. Answers that are equal here and no NaN have the same bits.
--- NaN is one value here: that its bits are 7FF8000000000000 is carried by the code, for `row::write` of `rolling` stores the constant
--- 0.0 / 0.0, which the compiler folds to them, and is seen by the oracle's `fuzz`, which compares bits.
+-- NaN is one value here: that its bits are 7FF8000000000000 is carried by the code, for `row::write` of `rolling`, and for skewness
+-- `float::canonical`, store the constant 0.0 / 0.0, which the compiler folds to them, and is seen by the oracle's `fuzz`, which compares
+-- bits.
 pub data AcceptedCall : (q : Query) → GivenTo q → Lent → Type 0 where
   plan_call : {q : Query} {t : GivenTo q} {l₀ l : Lent} → Called q t l₀ l 0 → AcceptedCall q t l
   host_call : {q : Query} {h : Host (kind_of q.statistic)} {r₀ r : ReadingLists (kind_of q.statistic)} {l₀ l : Lent}

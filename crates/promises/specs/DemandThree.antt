@@ -3,9 +3,9 @@
 -- traces hold elsewhere, and whatever the work slices and output lists held before, at every row in whose window both traces hold the same
 -- bits at every valid place, both answers have the same bits. In every accepted call without weights for one of these figures, each row's
 -- answer is the one that document 01's split account yields. There variance is missing exactly when the row's valid count is at most ddof
--- or below the minimum. Otherwise it is NaN if a valid reading in the row's window isn't finite, else NaN or at least zero." A call for
--- skewness or kurtosis gives both (document 02, request 5), and of such a call this is said of both lists. Assumes nothing.
-use Rattle.std.specs.Prelude.{ℕ, ◌≤◌, ◌<◌, ◌≡◌, Bool, true, false, List, ◌∷◌, ◌⊎◌, ◌↔◌, take, drop}
+-- or below the minimum. Otherwise it is NaN if a valid reading in the row's window isn't finite, else NaN or at least zero." Assumes
+-- nothing.
+use Rattle.std.specs.Prelude.{ℕ, ◌≤◌, ◌<◌, ◌≡◌, true, false, List, ◌∷◌, ◌⊎◌, ◌↔◌}
 use Rattle.std.specs.Float.{nan}
 use Rattle.std.specs.Float.Ieee.{is_nan, le}
 use Rattle.std.specs.Float.Ieee.Scale.{finite}
@@ -16,8 +16,8 @@ use Rattle.window.specs.Places.{valid_count}
 use Rattle.window.specs.Readings.{reading_of}
 use Rattle.window.specs.Given.{Kind, Readings, Pairs, Given, series_of, places_of, SameAt}
 use Rattle.window.specs.Outputs.{Lent, Answer, answers_in, answers_at}
-use Rattle.rolling.specs.Moments.{Statistic, Variance, SkewnessKurtosis, Covariance, Correlation, kind_of}
-use Rattle.rolling.specs.Calls.{Query, query, GivenTo, figures_of}
+use Rattle.rolling.specs.Moments.{Statistic, Variance, Skewness, Kurtosis, Covariance, Correlation, kind_of}
+use Rattle.rolling.specs.Calls.{Query, GivenTo, figures_of}
 use Rattle.promises.specs.Calls.{OfOneTrace, figures_in, AcceptedCall}
 
 -- "Two traces of equal length that miss the same places, both by a map or both without one": of the places of the traces, so that maps of
@@ -37,21 +37,6 @@ abbrev pub SameAnswers : (q : Query) (t t' : GivenTo q) → Lent → Lent → Ty
 SameAnswers q t t' l l' =
     (k : ℕ) → k < rows q.plan → Agree (kind_of q.statistic) t t' (row_start q.plan k) (row_end q.plan k)
     → figures_in q.statistic l k ≡ figures_in q.statistic l' k
-
--- the same, of the figure whose lists stand behind those of j others
-abbrev pub SameFigure : ℕ → Plan → (t t' : Trace) → Lent → Lent → Type 0
-SameFigure j p t t' l l' =
-    (k : ℕ) → k < rows p → Agree Readings t t' (row_start p k) (row_end p k)
-    → take 1 (drop j (answers_in l.outputs.answers k)) ≡ take 1 (drop j (answers_in l'.outputs.answers k))
-
--- "the same setting and the same figure": where a call gives both, the setting of each is its own, and that of the other may differ
-pub record EachSetting : Type 0 where
-  pub skewness : (p : Plan) (min_periods : ℕ) (skew_bias fisher kurtosis_bias fisher' kurtosis_bias' : Bool) (t t' : Trace) (l l' : Lent)
-      → Alike Readings t t' → AcceptedCall (query p min_periods (SkewnessKurtosis skew_bias fisher kurtosis_bias)) t l
-      → AcceptedCall (query p min_periods (SkewnessKurtosis skew_bias fisher' kurtosis_bias')) t' l' → SameFigure 0 p t t' l l'
-  pub kurtosis : (p : Plan) (min_periods : ℕ) (skew_bias skew_bias' fisher kurtosis_bias : Bool) (t t' : Trace) (l l' : Lent)
-      → Alike Readings t t' → AcceptedCall (query p min_periods (SkewnessKurtosis skew_bias fisher kurtosis_bias)) t l
-      → AcceptedCall (query p min_periods (SkewnessKurtosis skew_bias' fisher kurtosis_bias)) t' l' → SameFigure 1 p t t' l l'
 
 -- "the row's valid count is at most ddof or below the minimum"
 abbrev pub TooFew : (kind : Kind) → Given kind → ℕ → ℕ → ℕ → ℕ → Type 0
@@ -92,14 +77,16 @@ VarianceIn t p min_periods ddof k l = FirstAnswer (VarianceRow t (row_start p k)
 -- "A setting is .. what the figure's `finalize` takes beside the state (ddof; ..). ddof is a byte."
 abbrev pub IsSetting : Statistic → Type 0
 IsSetting (Variance ddof) = ddof < 256
-IsSetting (SkewnessKurtosis skew_bias fisher kurtosis_bias) = Unit {0}
+IsSetting (Skewness bias) = Unit {0}
+IsSetting (Kurtosis fisher bias) = Unit {0}
 IsSetting (Covariance ddof) = ddof < 256
 IsSetting Correlation = Unit {0}
 
 -- what is said of a variance, by what is asked
 abbrev pub WhereVariance : (a : Statistic) → Given (kind_of a) → Plan → ℕ → ℕ → Lent → Type 0
 WhereVariance (Variance ddof) t p min_periods k l = VarianceIn t p min_periods ddof k l
-WhereVariance (SkewnessKurtosis skew_bias fisher kurtosis_bias) t p min_periods k l = Unit {0}
+WhereVariance (Skewness bias) t p min_periods k l = Unit {0}
+WhereVariance (Kurtosis fisher bias) t p min_periods k l = Unit {0}
 WhereVariance (Covariance ddof) t p min_periods k l = Unit {0}
 WhereVariance Correlation t p min_periods k l = Unit {0}
 
@@ -119,8 +106,6 @@ pub record DemandThree : Type 0 where
   -- of two calls
   pub two : (q : Query) → OfOneTrace q.statistic → (t t' : GivenTo q) (l l' : Lent) → Alike (kind_of q.statistic) t t'
       → AcceptedCall q t l → AcceptedCall q t' l' → SameAnswers q t t' l l'
-  -- of two calls for skewness and kurtosis, of each figure by its own setting
-  pub each : EachSetting
   -- of every call by itself
   pub one : (q : Query) → OfOneTrace q.statistic → (t : GivenTo q) (l : Lent) → IsSetting q.statistic → AcceptedCall q t l
       → (k : ℕ) → k < rows q.plan → Yielded q t l k

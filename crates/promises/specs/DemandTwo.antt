@@ -23,7 +23,7 @@ use Rattle.plan.specs.Plan.{Plan, rows}
 use Rattle.window.specs.Window.{Moment}
 use Rattle.window.specs.Given.{Given, places_of}
 use Rattle.window.specs.Outputs.{Column, Lent, of_figure, answers_in, answers_at}
-use Rattle.rolling.specs.Moments.{Statistic, Variance, SkewnessKurtosis, Covariance, Correlation, kind_of}
+use Rattle.rolling.specs.Moments.{Statistic, Variance, Skewness, Kurtosis, Covariance, Correlation, kind_of}
 use Rattle.rolling.specs.Calls.{Query, GivenTo}
 use Rattle.rolling.specs.Fixed.{CalledFixed}
 use Rattle.weighted.specs.Weights.{CalledWeights}
@@ -120,26 +120,24 @@ abbrev pub kurtosis_moment : Moment Float
 kurtosis_moment =
     record { State = KurtosisState; empty = KurtosisState-default; insert = KurtosisState-insert_one; combine = KurtosisState-combine }
 
--- The rows of the Rust's `rolling_apply_agg_window`, driven with the plan's rows: 003 with a map, 002 without one. Document 02, request 5:
--- "Each figure is held against the Rust function that had it before", skewness by `SkewMoment` and kurtosis by `KurtosisMoment`. The
--- Rust has no window of two traces, so there are no rows of one here.
+-- The rows of the Rust's `rolling_apply_agg_window`, driven with the plan's rows: 003 with a map, 002 without one. It has no window of two
+-- traces, so there are no rows of one here.
 abbrev pub source_rows : Rust → (a : Statistic) → OfOneTrace a → Given (kind_of a) → ℕ → Plan → List (ℕ → Figure)
 source_rows rust (Variance ddof) one t min_periods p = plan_row variance_moment rust (λ s. VarState-finalize s ddof) t min_periods p ∷ []
-source_rows rust (SkewnessKurtosis skew_bias fisher kurtosis_bias) one t min_periods p =
-    plan_row skew_moment rust (λ s. SkewState-finalize s skew_bias) t min_periods p
-    ∷ plan_row kurtosis_moment rust (λ s. KurtosisState-finalize s fisher kurtosis_bias) t min_periods p
-    ∷ []
+source_rows rust (Skewness bias) one t min_periods p = plan_row skew_moment rust (λ s. SkewState-finalize s bias) t min_periods p ∷ []
+source_rows rust (Kurtosis fisher bias) one t min_periods p =
+    plan_row kurtosis_moment rust (λ s. KurtosisState-finalize s fisher bias) t min_periods p ∷ []
 source_rows rust (Covariance ddof) one t min_periods p = absurd one
 source_rows rust Correlation one t min_periods p = absurd one
 
--- the rows of the Rust's `rolling_var`, or of its `rolling_skew` and its `rolling_kurtosis`: "005 with a map, 004 without"
+-- the rows of the Rust's `rolling_var`, `rolling_skew` or `rolling_kurtosis`: "005 with a map, 004 without"
 abbrev pub source_fixed_rows : Rust → (a : Statistic) → OfOneTrace a → Given (kind_of a) → ℕ → Bool → ℕ → List (ℕ → Figure)
 source_fixed_rows rust (Variance ddof) one t min_periods center size =
     fixed_row variance_moment rust (λ s. VarState-finalize s ddof) t min_periods center size ∷ []
-source_fixed_rows rust (SkewnessKurtosis skew_bias fisher kurtosis_bias) one t min_periods center size =
-    fixed_row skew_moment rust (λ s. SkewState-finalize s skew_bias) t min_periods center size
-    ∷ fixed_row kurtosis_moment rust (λ s. KurtosisState-finalize s fisher kurtosis_bias) t min_periods center size
-    ∷ []
+source_fixed_rows rust (Skewness bias) one t min_periods center size =
+    fixed_row skew_moment rust (λ s. SkewState-finalize s bias) t min_periods center size ∷ []
+source_fixed_rows rust (Kurtosis fisher bias) one t min_periods center size =
+    fixed_row kurtosis_moment rust (λ s. KurtosisState-finalize s fisher bias) t min_periods center size ∷ []
 source_fixed_rows rust (Covariance ddof) one t min_periods center size = absurd one
 source_fixed_rows rust Correlation one t min_periods center size = absurd one
 

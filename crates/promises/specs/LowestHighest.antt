@@ -14,7 +14,7 @@ use Rattle.window.specs.Readings.{reading_of}
 use Rattle.window.specs.Given.{Given}
 use Rattle.window.specs.Extremes.{lower, higher, unsigned_zero}
 use Rattle.window.specs.Outputs.{Lent, Answer, answers_in}
-use Rattle.rolling.specs.Moments.{Statistic, Variance, SkewnessKurtosis, Covariance, Correlation, kind_of}
+use Rattle.rolling.specs.Moments.{Statistic, Variance, Skewness, Kurtosis, Covariance, Correlation, kind_of}
 use Rattle.rolling.specs.Calls.{Query, GivenTo}
 use Rattle.promises.specs.Calls.{extremes_in, AcceptedCall}
 use Rattle.promises.specs.DemandThree.{Alike, Agree}
@@ -60,7 +60,8 @@ pub record ExtremesIn (t : Trace) (p : Plan) (min_periods k : ℕ) (l : Lent) : 
 -- by what is asked: of other figures nothing is said
 abbrev pub WhereExtremes : (a : Statistic) → Given (kind_of a) → Plan → ℕ → ℕ → Lent → Type 0
 WhereExtremes (Variance ddof) t p min_periods k l = ExtremesIn t p min_periods k l
-WhereExtremes (SkewnessKurtosis skew_bias fisher kurtosis_bias) t p min_periods k l = Unit {0}
+WhereExtremes (Skewness bias) t p min_periods k l = Unit {0}
+WhereExtremes (Kurtosis fisher bias) t p min_periods k l = Unit {0}
 WhereExtremes (Covariance ddof) t p min_periods k l = Unit {0}
 WhereExtremes Correlation t p min_periods k l = Unit {0}
 

@@ -10,7 +10,7 @@ use Rattle.std.specs.Prelude.{ℕ, ◌<◌}
 use Rattle.plan.specs.Plan.{Plan, rows, row_start, row_end}
 use Rattle.window.specs.Given.{Pairs, Given}
 use Rattle.window.specs.Outputs.{Lent}
-use Rattle.rolling.specs.Moments.{Statistic, Variance, SkewnessKurtosis, Covariance, Correlation, kind_of}
+use Rattle.rolling.specs.Moments.{Statistic, Variance, Skewness, Kurtosis, Covariance, Correlation, kind_of}
 use Rattle.rolling.specs.Calls.{Query, GivenTo}
 use Rattle.promises.specs.Calls.{OfTwoTraces, AcceptedCall}
 use Rattle.promises.specs.DemandThree.{Alike, SameAnswers, FigureRow, FirstAnswer, IsSetting, ByAccount}
@@ -22,7 +22,8 @@ PairFigureIn t p min_periods few k l = FirstAnswer (FigureRow Pairs t (row_start
 -- "Covariance is missing when the valid count is at most ddof, correlation when it is 0": at most 0
 abbrev pub WherePairs : (a : Statistic) → Given (kind_of a) → Plan → ℕ → ℕ → Lent → Type 0
 WherePairs (Variance ddof) t p min_periods k l = Unit {0}
-WherePairs (SkewnessKurtosis skew_bias fisher kurtosis_bias) t p min_periods k l = Unit {0}
+WherePairs (Skewness bias) t p min_periods k l = Unit {0}
+WherePairs (Kurtosis fisher bias) t p min_periods k l = Unit {0}
 WherePairs (Covariance ddof) t p min_periods k l = PairFigureIn t p min_periods ddof k l
 WherePairs Correlation t p min_periods k l = PairFigureIn t p min_periods 0 k l
 

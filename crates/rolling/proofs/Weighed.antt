@@ -1,12 +1,12 @@
 -- A window's weights count its readings, and so does the weight of every state on the way: an insert then clears nothing. One law over
--- the moment; variance and kurtosis cite it. Assumes nothing.
+-- the moment; variance and skewness cite it. Assumes nothing.
 use Rattle.std.proofs.Common.{◌≡◌, ℕ, ◌+◌, ◌-◌, ◌*◌, ◌^◌, ◌<◌, ◌≤◌, Bool, List, length, take, drop, sym, ap, ◌∙◌, arith, length-drop, length-take}
 use lib.Ieee.{Float}
 use Rattle.float.specs.Operators.{◌⊕◌, one64, of_nat64}
 use Rattle.float.proofs.Counts.{zero_is}
 use Rattle.moment.specs.declared.Figure.TheVariants.{Missing}
-use Rattle.moment.specs.Kurtosis.{kurtosis_inserted}
-use Rattle.moment.proofs.Weights.{raising, inserts-count, falls-count, var_raises, var_inserted_lem, kurtosis_raises, kurtosis_inserted_lem}
+use Rattle.moment.specs.Skew.{skew_inserted}
+use Rattle.moment.proofs.Weights.{raising, inserts-count, falls-count, var_raises, var_inserted_lem, skew_raises, skew_inserted_lem}
 use Rattle.window.specs.Places.{Series, entries}
 use Rattle.window.specs.Window.{front, back}
 use Rattle.trace.specs.Trace.{valid_at}
@@ -21,8 +21,8 @@ use Rattle.window.proofs.Rows.{top-is}
 use Rattle.window.specs.Extremes.{lower, higher}
 use Rattle.window.specs.Code.Widening.{inserting, widened}
 use Rattle.rolling.specs.Code.Extremes.{extremes_inserted}
-use Rattle.rolling.specs.Code.Layouts.{var_states, kurtosis_states}
-use Rattle.rolling.specs.Code.Weighed.{var_weight, kurtosis_weight, Weighed}
+use Rattle.rolling.specs.Code.Layouts.{var_states, skew_states}
+use Rattle.rolling.specs.Code.Weighed.{var_weight, skew_weight, Weighed}
 
 -- a moment whose states have a weight that an insert raises by one, with an insert that clears nothing
 pub record Weighs (m : ReadingStates) : Type 0 where
@@ -47,9 +47,8 @@ var_weighs =
           };
     }
 
-abbrev pub kurtosis_weighs : Weighs kurtosis_states
-kurtosis_weighs =
-    record { weight = kurtosis_weight; none = zero_is; raises = kurtosis_raises; inserted = kurtosis_inserted; plain = kurtosis_inserted_lem }
+abbrev pub skew_weighs : Weighs skew_states
+skew_weighs = record { weight = skew_weight; none = zero_is; raises = skew_raises; inserted = skew_inserted; plain = skew_inserted_lem }
 
 module _ (m : ReadingStates) (q : Weighs m) where
   -- the weight of a window's back state, and of both its states

@@ -6,14 +6,15 @@ use Rattle.moment.specs.declared.Figure.{Figure}
 use Rattle.plan.specs.Plan.{Plan, rows, planning}
 use Rattle.plan.specs.Refusals.{needed, plan_refusal}
 use Rattle.window.specs.Places.{Series}
+use Rattle.window.specs.Window.{Moment}
 use Rattle.window.specs.Given.{Given, series_of, places_of, given_refusal}
 use Rattle.window.specs.Rows.{answer_at}
 use Rattle.window.specs.Extremes.{lower, higher, extreme_at}
 use Rattle.window.specs.Outputs.{Column, Outputs, Lent, column, outputs_of, kept, answered, numbered, shortest_output}
-use Rattle.rolling.specs.Moments.{Statistic, Variance, SkewnessKurtosis, Covariance, Correlation}
-use Rattle.rolling.specs.Moments.{kind_of, Estimator, estimators_of, work_width}
+use Rattle.rolling.specs.Moments.{Statistic, Variance, Skewness, Kurtosis, Covariance, Correlation}
+use Rattle.rolling.specs.Moments.{kind_of, moment_of, finals_of, work_width}
 
--- a plan, which figures, and a setting: "the minimum that Rows tests and what the figure's `finalize` takes beside the state"
+-- a plan, which figure, and a setting: "the minimum that Rows tests and what the figure's `finalize` takes beside the state"
 pub record Query : Type 0 where
   pub plan : Plan
   pub min_periods : ℕ
@@ -28,20 +29,21 @@ abbrev pub GivenTo : Query → Type 0
 GivenTo q = Given (kind_of q.statistic)
 
 -- each figure's answers, row after row
-abbrev pub figures_by : {A : Type 0} → List (Estimator A) → Series A → ℕ → Plan → List (ℕ → Figure)
-figures_by [] t min_periods p = []
-figures_by (e ∷ es) t min_periods p = (λ k. answer_at e.moment e.final t min_periods p k) ∷ figures_by es t min_periods p
+abbrev pub figures_by : {A : Type 0} → (M : Moment A) → List (M.State → Figure) → Series A → ℕ → Plan → List (ℕ → Figure)
+figures_by M [] t min_periods p = []
+figures_by M (final ∷ finals) t min_periods p = (λ k. answer_at M final t min_periods p k) ∷ figures_by M finals t min_periods p
 
 -- Document 02, request 4: "Rolling variance without weights shall also give .. the lowest and highest finite valid reading of the window"
 abbrev pub extremes_by : (a : Statistic) → Given (kind_of a) → ℕ → Plan → List (ℕ → Figure)
 extremes_by (Variance ddof) t min_periods p = (λ k. extreme_at lower t min_periods p k) ∷ (λ k. extreme_at higher t min_periods p k) ∷ []
-extremes_by (SkewnessKurtosis skew_bias fisher kurtosis_bias) t min_periods p = []
+extremes_by (Skewness bias) t min_periods p = []
+extremes_by (Kurtosis fisher bias) t min_periods p = []
 extremes_by (Covariance ddof) t min_periods p = []
 extremes_by Correlation t min_periods p = []
 
 -- a row's figures: what the split account yields of the plan, the map, the readings, the figure and the setting, "nothing else"
 abbrev pub figures_of : (q : Query) → GivenTo q → List (ℕ → Figure)
-figures_of q t = figures_by (estimators_of q.statistic) (series_of (kind_of q.statistic) t) q.min_periods q.plan
+figures_of q t = figures_by (moment_of q.statistic) (finals_of q.statistic) (series_of (kind_of q.statistic) t) q.min_periods q.plan
 
 -- a row's answers: its figures, and behind a variance its lowest and highest reading
 abbrev pub yields : (q : Query) → GivenTo q → List (ℕ → Figure)
@@ -103,10 +105,6 @@ lending_all work cs = (
 -- of one figure
 abbrev pub lending : Slice Float → Slice Float → Slice ℕ → Lent × Lent
 lending work figures present = lending_all work ((figures, present) ∷ [])
-
--- of a skewness and a kurtosis
-abbrev pub lending_two : Slice Float → Slice Float → Slice ℕ → Slice Float → Slice ℕ → Lent × Lent
-lending_two work skew skew_present kurtosis kurtosis_present = lending_all work ((skew, skew_present) ∷ (kurtosis, kurtosis_present) ∷ [])
 
 -- of a variance, its lowest and its highest reading
 abbrev pub lending_three : Slice Float → Slice Float → Slice ℕ → Slice Float → Slice ℕ → Slice Float → Slice ℕ → Lent × Lent

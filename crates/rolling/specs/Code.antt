@@ -3,4 +3,4 @@ pub mod Extremes
 pub mod Layouts
 pub mod Weighed
 pub mod Rows
-pub mod Corrections
+pub mod Slots

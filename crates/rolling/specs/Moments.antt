@@ -47,43 +47,43 @@ correlation = pair_moment pearson_empty pearson_new pearson_combine
 abbrev pub correlation_finalize : PearsonState → Figure
 correlation_finalize s = cond (eq s.weight zero64) Missing (Present (pearson_finalize s))
 
--- What is asked, with "what the figure's `finalize` takes beside the state (ddof; biased or not; `fisher`)". Document 02, request 5: "one
--- that gives both figures .. biased or not chosen for each"
+-- Which figure is asked, with "what the figure's `finalize` takes beside the state (ddof; biased or not; `fisher`)"
 pub data Statistic : Type 0 where
   Variance : (ddof : ℕ) → Statistic
-  SkewnessKurtosis : (skew_bias fisher kurtosis_bias : Bool) → Statistic
+  Skewness : (bias : Bool) → Statistic
+  Kurtosis : (fisher bias : Bool) → Statistic
   Covariance : (ddof : ℕ) → Statistic
   Correlation : Statistic
 
 -- the kind of its entries
 abbrev pub kind_of : Statistic → Kind
 kind_of (Variance ddof) = Readings
-kind_of (SkewnessKurtosis skew_bias fisher kurtosis_bias) = Readings
+kind_of (Skewness bias) = Readings
+kind_of (Kurtosis fisher bias) = Readings
 kind_of (Covariance ddof) = Pairs
 kind_of Correlation = Pairs
 
--- a figure: the moment that keeps its states, and 001's `finalize` of it
-pub record Estimator (A : Type 0) : Type 1 where
-  pub moment : Moment A
-  pub final : moment.State → Figure
+-- which moment keeps its states
+abbrev pub moment_of : (a : Statistic) → Moment (Entry (kind_of a))
+moment_of (Variance ddof) = variance
+moment_of (Skewness bias) = skewness
+moment_of (Kurtosis fisher bias) = kurtosis
+moment_of (Covariance ddof) = covariance
+moment_of Correlation = correlation
 
--- of its parts
-abbrev pub estimator : {A : Type 0} → (M : Moment A) → (M.State → Figure) → Estimator A
-estimator M final = record { moment = M; final = final }
+-- 001, `finalize` of each moment: one for each figure that the call gives
+abbrev pub finals_of : (a : Statistic) → List ((moment_of a).State → Figure)
+finals_of (Variance ddof) = (λ s. var_finalize s ddof) ∷ []
+finals_of (Skewness bias) = (λ s. skew_finalize s bias) ∷ []
+finals_of (Kurtosis fisher bias) = (λ s. kurtosis_finalize s fisher bias) ∷ []
+finals_of (Covariance ddof) = (λ s. cov_finalize s ddof) ∷ []
+finals_of Correlation = correlation_finalize ∷ []
 
--- The figures that a call gives, each by the moment that has it in the source: "Each figure is held against the Rust function that had it
--- before"
-abbrev pub estimators_of : (a : Statistic) → List (Estimator (Entry (kind_of a)))
-estimators_of (Variance ddof) = estimator variance (λ s. var_finalize s ddof) ∷ []
-estimators_of (SkewnessKurtosis skew_bias fisher kurtosis_bias) =
-    estimator skewness (λ s. skew_finalize s skew_bias) ∷ estimator kurtosis (λ s. kurtosis_finalize s fisher kurtosis_bias) ∷ []
-estimators_of (Covariance ddof) = estimator covariance (λ s. cov_finalize s ddof) ∷ []
-estimators_of Correlation = estimator correlation correlation_finalize ∷ []
-
--- Work slice: of request 2 "6 doubles for covariance and 8 for correlation", of request 4 "work becomes 6 doubles a place for variance",
--- of request 5 "Work is 6 doubles a place"
+-- Work slice: "skewness 5, kurtosis 6 doubles", "6 doubles for covariance and 8 for correlation", and of request 4 "work becomes 6 doubles
+-- a place for variance"
 abbrev pub work_width : Statistic → ℕ
 work_width (Variance ddof) = 6
-work_width (SkewnessKurtosis skew_bias fisher kurtosis_bias) = 6
+work_width (Skewness bias) = 5
+work_width (Kurtosis fisher bias) = 6
 work_width (Covariance ddof) = 6
 work_width Correlation = 8

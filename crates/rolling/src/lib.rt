@@ -1,16 +1,17 @@
 // Figures over moving windows: document 01's 001 to 006, driven by a plan or by fixed windows, one file for each figure. A public
 // function takes any lists; what is below it is kept inside the crate.
-mod corrections;
 mod cov;
 mod extremes;
+mod kurtosis;
 mod leaving;
 mod pairs;
 mod pearson;
 mod row;
-mod skew_kurtosis;
+mod skew;
 mod variance;
 
 pub use cov::{CovMoment, plan_cov, rolling_cov};
+pub use kurtosis::{KurtosisMoment, plan_kurtosis, rolling_kurtosis};
 pub use pearson::{PearsonMoment, plan_pearson_corr, rolling_pearson_corr};
-pub use skew_kurtosis::{SkewKurtosisMoment, plan_skew_kurtosis, rolling_skew_kurtosis};
+pub use skew::{SkewMoment, plan_skew, rolling_skew};
 pub use variance::{VarianceMoment, plan_var, rolling_var};

@@ -1,13 +1,10 @@
 // One row: where it is, whether it moves the window, and whether it has enough readings.
 ghost use Rattle.std.specs.Prelude.{◌≡◌, ◌+◌, ◌-◌, ◌≤◌, cond, length, if◌then◌else◌, nat_le};
-ghost use Rattle.moment.specs.declared.Figure.TheVariants.{Missing};
-ghost use Rattle.window.specs.Window.{or_nan};
 ghost use Rattle.window.specs.Rows.{moves};
 ghost use Rattle.window.specs.Extremes.{short_row};
 ghost use Rattle.window.specs.Code.Filling.{RowThere, SetsRow};
 ghost use Rattle.plan.specs.Plan.{planning};
-ghost use Rattle.plan.specs.Code.Reaching.{right_of};
-ghost use Rattle.rolling.specs.Code.Rows.{listed_rows, fixed_rows, SameMany, RowIn, RowBounds, RowAt};
+ghost use Rattle.rolling.specs.Code.Rows.{SameMany, RowIn, RowBounds, RowAt};
 
 use moment::Figure;
 use plan::Offsets;
@@ -21,33 +18,6 @@ pub struct Rows {
     pub right: usize,
     pub min_periods: usize,
     pub widest: usize,
-}
-
-// The rows of a plan.
-pub(crate) fn of_plan(min_periods: usize, widest: usize) -> Rows
-    ensures { result ≡ listed_rows min_periods widest }
-{
-    Rows {
-        fixed: false,
-        left: 0,
-        right: 0,
-        min_periods,
-        widest,
-    }
-}
-
-// The rows of fixed windows.
-pub(crate) fn of_windows(center: bool, size: usize, min_periods: usize, widest: usize) -> Rows
-    ensures { result ≡ fixed_rows (right_of center size) size min_periods widest }
-{
-    let right = plan::right_window(center, size);
-    Rows {
-        fixed: true,
-        left: size - right,
-        right,
-        min_periods,
-        widest,
-    }
 }
 
 // The rows of fixed windows, one a place, or as many as are listed.
@@ -142,16 +112,6 @@ pub(crate) fn is_valid(
         return min_periods <= valid;
     }
     min_periods <= end - start
-}
-
-// A row's figure as it is shown: missing without enough readings, NaN where one in the window is not finite.
-pub(crate) fn shown(figure: Figure, nonfinite: usize, enough: bool) -> Figure
-    ensures { result ≡ (if enough then or_nan nonfinite figure else Missing) }
-{
-    if enough {
-        return window::or_nan(figure, nonfinite);
-    }
-    Figure::Missing
 }
 
 // A row's answer. A NaN is written as the one pattern 7FF8000000000000, in a branch of its own: a chosen value costs more here than the

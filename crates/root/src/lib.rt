@@ -1,8 +1,8 @@
 // The square root of a double, correctly rounded (document 01, "Root"). A guess is worked out in floats, since that is
-// quick, then checked in whole numbers; where it is not the root, that is found digit by digit.
-ghost use Rattle.std.specs.Prelude.{◌≡◌, ◌+◌, ◌*◌, ◌/◌, ◌%◌, ◌^◌, ◌<◌, ◌≤◌, true, from_bits};
+// quick, then checked and rounded in whole numbers; where it is too far off the root is found digit by digit.
+ghost use Rattle.std.specs.Prelude.{◌≡◌, ◌+◌, ◌*◌, ◌/◌, ◌%◌, ◌^◌, ◌<◌, ◌≤◌, map, length, from_bits};
 ghost use Rattle.std.specs.Float.{binary64};
-ghost use Rattle.root.specs.Root.{root as root_of, root_of_units, rounded_root};
+ghost use Rattle.root.specs.Root.{root as root_of, roots_into, root_of_units, rounded_root};
 
 // The whole number nearest to the root of a * 2^42, one binary digit a turn.
 fn digits(a: u64) -> u64
@@ -76,54 +76,63 @@ fn longhand(x: f64) -> f64
     }
 }
 
-// A guess at the root of the positive normal number x with the bits b. Half of its bits tell its root, s, and one over its
-// root, y, to three in a hundred. A polynomial of degree five in x * y * y, as a product, mends them to 30 binary digits: g, and
-// w for one over twice the root. One step of Newton's method does the rest. What is left of x for it, x - g * g, is taken by way
-// of s, which has 26 digits and so an exact square; then seven guesses in a thousand are not the double nearest to the root.
-// Nothing is claimed of the guess, since `is_root` checks it.
-fn guess(x: f64, b: u64) -> f64
-    requires { b < 0x7ff0000000000000 }
+// The bits of x, and 0 for NaN.
+fn bits(x: f64) -> u64
+    ensures { 0 < result → from_bits binary64 result ≡ x }
 {
-    let half: u64 = b >> 1;
+    if x != x { 0 } else { f64::to_bits(x) }
+}
+
+// A guess at the root of x, from half of its bits: the bits of one over the root are near a constant less that half, a
+// polynomial of degree five in x * y * y mends them to 30 binary digits, and one step of Newton's method does the rest. It aims
+// half a unit in the last place too low, by a factor a little below 1, so that the root is the guess or the next number.
+// Nothing is claimed of it, since `settle` checks it.
+fn guess(x: f64) -> f64 {
+    let half: u64 = (bits(x) % 0x8000000000000000) >> 1;
     let y: f64 = f64::from_bits(0x5fe6eb50c7b537a9 - half);
-    let s: f64 = f64::from_bits(0x1ff7a3bea8000000 + (half - half % 0x8000000));
     let t: f64 = x * y;
     let u: f64 = t * y;
-    let l: f64 = 0.584159737721445 - 0.24673433559645952 * u;
-    let c: f64 = u - 0.25642809803928385;
-    let p: f64 = c * c + 1.0794635874151728;
-    let d: f64 = u - 1.6171118657030774;
-    let q: f64 = d * d + 1.4347117990382179;
-    let g: f64 = ((t * l) * p) * q;
-    let w: f64 = (((0.5 * y) * l) * p) * q;
-    g + ((x - s * s) - (g - s) * (g + s)) * w
+    let v: f64 = u * u;
+    let low: f64 = (2.709254044436391 - 4.521255140750675 * u)
+        + v * (5.429972830979971 - 3.8799308666814762 * u);
+    let p: f64 = low + (v * v) * (1.5086935827305188 - 0.24673444999586241 * u);
+    let g: f64 = t * p;
+    g + (0.9999999999999999 * x - g * g) * ((0.5 * y) * p)
 }
 
-// The upper 64 bits of a * b: the products of the halves, column by column with the carries. The compiler makes one
-// multiplication of it.
-fn high_product(a: u64, b: u64) -> u64
-    ensures { result ≡ a * b / 2 ^ 64 }
-{
-    let a0: u64 = a % 0x100000000;
-    let a1: u64 = a >> 32;
-    let b0: u64 = b % 0x100000000;
-    let b1: u64 = b >> 32;
-    let middle: u64 = a1 * b0 + ((a0 * b0) >> 32);
-    let next: u64 = middle % 0x100000000 + a0 * b1;
-    a1 * b1 + (middle >> 32) + (next >> 32)
+// What the check of a guess finds: what to add to it, 0 or 1, and a doubt that is 0 where that gives the root.
+#[derive(Drop)]
+struct Settled {
+    more: u64,
+    doubt: u64,
 }
 
-// Whether r is the whole number nearest to the root of x * 2^52, which then is above r * (r - 1) and not above r * (r + 1):
-// these two divided by 2^52 are compared with x.
-fn is_nearest(x: u64, r: u64) -> bool
-    requires { (x < 2 ^ 54) × (0 < r) × (r < 2 ^ 53) }
-    ensures { result ≡ true → r ≡ rounded_root 0 (x * 2 ^ 52) }
+// What to add to r, 0 or 1, for the whole number nearest to the root of x * 2^52, with a doubt above 0 where neither may do.
+// The square of r has more bits than a word, so it is taken off in parts: with r = high * 2^26 + low,
+// x * 2^52 - r * r = ((x - high * high) * 2^25 - high * low) * 2^27 - low * low. The 1 added to x, and taken off again as
+// 2^52, keeps the differences of a good guess above zero; others are too large, or wrap around and so become too large.
+// There is no branch, so that the roots of a list are checked side by side.
+fn settle(x: u64, r: u64) -> Settled
+    requires { (x < 2 ^ 54) × (r < 2 ^ 53) }
+    ensures { (result.more ≤ 1) × (result.doubt < 2 ^ 38) × (result.doubt ≡ 0 → r + result.more ≡ rounded_root 0 (x * 2 ^ 52)) }
 {
-    let s: u64 = r * 64;
-    if x > high_product(s, s + 64) {
-        return false;
+    let high: u64 = r >> 26;
+    let low: u64 = r % 0x4000000;
+    let upper: u64 = std::num::wrapping_sub_u64(x + 1, high * high);
+    let lower: u64 = std::num::wrapping_sub_u64((upper % 0x20000000) * 0x2000000, high * low);
+    // x * 2^52 - r * r + r - 1
+    let rest: u64 = std::num::wrapping_sub_u64(
+        (lower % 0x40000000) * 0x8000000 + r,
+        low * low + 0x10000000000001,
+    );
+    let near: u64 = rest % 0x200000000000000;
+    // 1 where near is 2 * r or more, and 1 where it is 4 * r + 2 or more
+    let more: u64 = (near + 0x1000000000000000 - r * 2) >> 60;
+    let far: u64 = (near + 0xffffffffffffffe - r * 4) >> 60;
+    Settled {
+        more,
+        doubt: (upper >> 29) + (lower >> 30) + (rest >> 57) + far,
     }
-    x > high_product(s, s - 64)
 }
 
 // The 53 digits of the normal double with the bits b, with one more where its exponent lends a factor of 2.
@@ -138,46 +147,93 @@ fn radicand(b: u64) -> u64
     }
 }
 
-// Whether b are the bits of a positive normal number.
-fn is_normal(b: u64) -> bool
-    ensures { result ≡ true → (2 ^ 52 ≤ b) × (b < 0x7ff0000000000000) }
+// 0 for the bits of a positive normal number, and 1 or 2 for the others.
+fn special(b: u64) -> u64
+    ensures { (result ≤ 2) × (result ≡ 0 → (2 ^ 52 ≤ b) × (b < 0x7ff0000000000000)) }
 {
-    std::num::wrapping_sub_u64(b >> 52, 1) < 2046
+    ((((b >> 52) + 4095) % 4096) + 2) >> 11
 }
 
-// Whether g is the root of the positive normal number with the bits b. What g's bits have above those of the root's exponent
-// must be the root's digits.
-fn is_root(b: u64, g: f64) -> bool
-    requires { (2 ^ 52 ≤ b) × (b < 0x7ff0000000000000) }
-    ensures { result ≡ true → g ≡ root_of (from_bits binary64 b) }
-{
-    if g != g {
-        return false;
-    }
-    let base: u64 = (((b >> 1) + 0x1fe8000000000000) >> 52) * 0x10000000000000;
-    let r: u64 = std::num::wrapping_sub_u64(f64::to_bits(g), base);
-    if r == 0 {
-        return false;
-    }
-    if r >= 0x20000000000000 {
-        return false;
-    }
-    is_nearest(radicand(b), r)
+// What may be the root of a number, with a doubt that is 0 where it is, and 1 where it may not be.
+#[derive(Drop)]
+struct Checked {
+    root: f64,
+    doubt: u64,
 }
 
-// The double nearest to the root of x. That of a normal one is guessed in floats, since that is quick, and the guess is checked
-// in whole numbers. The answer is the guess itself and not made of these, so that it does not wait for the check.
+// The root of x by the guess g, which is checked in whole numbers.
+fn candidate(x: f64, g: f64) -> Checked
+    ensures { (result.doubt ≤ 1) × (result.doubt ≡ 0 → result.root ≡ root_of x) }
+{
+    let b: u64 = bits(x);
+    let half: u64 = (b % 0x8000000000000000) >> 1;
+    let base: u64 = ((half + 0x1fe8000000000000) >> 52) * 0x10000000000000;
+    let r: u64 = std::num::wrapping_sub_u64(bits(g), base) % 0x20000000000000;
+    let s = settle(radicand(b), r);
+    Checked {
+        root: f64::from_bits(base + r + s.more),
+        doubt: (s.doubt + special(b) + 0xffffffffff) >> 40,
+    }
+}
+
+// The double nearest to the root of x. That of a normal one is guessed in floats, since that is quick, and checked in whole
+// numbers.
 pub fn root(x: f64) -> f64
     ensures { result ≡ root_of x }
 {
-    if x == x {
-        let b: u64 = f64::to_bits(x);
-        if is_normal(b) {
-            let g: f64 = guess(x, b);
-            if is_root(b, g) {
-                return g;
-            }
-        }
+    let c = candidate(x, guess(x));
+    if c.doubt == 0 { c.root } else { longhand(x) }
+}
+
+// A guess at the root of each number. Nothing is claimed of them.
+fn guesses(x: &[f64], out: &mut [f64])
+    requires { length x.now ≡ length out.old }
+{
+    let mut i: usize = 0;
+    while i < out.len() {
+        out[i] = guess(x[i]);
+        i += 1;
     }
-    longhand(x)
+}
+
+// The root of each number by its guess, which it takes the place of; the answer is how many are in doubt.
+fn candidates(x: &[f64], out: &mut [f64]) -> u64
+    requires { length x.now ≡ length out.old }
+    ensures { (result ≤ length x.now) × (result ≡ 0 → out.new ≡ map root_of x.now) }
+{
+    let mut doubts: u64 = 0;
+    let mut i: usize = 0;
+    while i < out.len() {
+        let c = candidate(x[i], out[i]);
+        out[i] = c.root;
+        doubts += c.doubt;
+        i += 1;
+    }
+    doubts
+}
+
+// The root of each number, one after the other.
+fn each(x: &[f64], out: &mut [f64])
+    requires { length x.now ≡ length out.old }
+    ensures { out.new ≡ map root_of x.now }
+{
+    let mut i: usize = 0;
+    while i < out.len() {
+        out[i] = root(x[i]);
+        i += 1;
+    }
+}
+
+// The roots of a list, written to one of the same length; one of another length stays as it is. All are guessed and checked
+// side by side, and only where one is in doubt each is taken by itself.
+pub fn roots(x: &[f64], out: &mut [f64])
+    ensures { out.new ≡ roots_into x.now out.old }
+{
+    if x.len() != out.len() {
+        return;
+    }
+    guesses(x, out);
+    if candidates(x, out) != 0 {
+        each(x, out);
+    }
 }

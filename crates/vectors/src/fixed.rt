@@ -3,10 +3,47 @@
 // is the window size, 2 whether windows are centred, 3 how many readings there are, 4 the row, 5 and 6 where its window
 // starts and ends.
 use crate::lent::answered;
+use crate::variance::agrees_fixed;
 use crate::words::{bytes, count, doubles, flag, word};
-use crate::{skew_kurtosis, variance};
 
-fn replay_weights(
+fn call(
+    rec: &[u8],
+    trace: &[f64],
+    map: &[u8],
+    weights: &[f64],
+    work: &mut [f64],
+    figures: &mut [f64],
+    present: &mut [u8],
+) -> u32 {
+    let bias = flag(rec, 3);
+    let min = word(rec, 5) as usize;
+    let has_map = flag(rec, 6);
+    let size = word(rec, 15) as usize;
+    let center = flag(rec, 16);
+    match word(rec, 1) {
+        1 => moments::moments_rolling_skew(
+            trace, has_map, map, size, min, center, bias, work, figures, present,
+        ),
+        2 => moments::moments_rolling_kurtosis(
+            trace,
+            has_map,
+            map,
+            size,
+            min,
+            center,
+            flag(rec, 4),
+            bias,
+            work,
+            figures,
+            present,
+        ),
+        _ => moments::moments_rolling_var_weights(
+            trace, has_map, map, size, min, center, weights, figures, present,
+        ),
+    }
+}
+
+fn replay(
     rec: &[u8],
     trace: &[f64],
     map: &[u8],
@@ -15,17 +52,7 @@ fn replay_weights(
     figures: &mut [f64],
     present: &mut [u8],
 ) -> bool {
-    let number = moments::moments_rolling_var_weights(
-        trace,
-        flag(rec, 6),
-        map,
-        word(rec, 15) as usize,
-        word(rec, 5) as usize,
-        flag(rec, 16),
-        weights,
-        figures,
-        present,
-    );
+    let number = call(rec, trace, map, weights, work, figures, present);
     answered(rec, number, work, figures, present)
 }
 
@@ -36,19 +63,9 @@ fn outputs(rec: &[u8], trace: &[f64], map: &[u8], weights: &[f64], work: &mut [f
     let p = count(rec, 24);
     let mut present = bytes(rec, held, false, p);
     if word(rec, 1) == 0 {
-        return variance::agrees_fixed(rec, trace, map, work, &mut figures[..f], &mut present[..p]);
+        return agrees_fixed(rec, trace, map, work, &mut figures[..f], &mut present[..p]);
     }
-    if word(rec, 1) == 1 {
-        return skew_kurtosis::agrees_fixed(
-            rec,
-            trace,
-            map,
-            work,
-            &mut figures[..f],
-            &mut present[..p],
-        );
-    }
-    replay_weights(
+    replay(
         rec,
         trace,
         map,

@@ -1,5 +1,5 @@
 // Replays the answers of the Rust, of pairs those of the account over its states and of variance also the lowest and the highest reading,
-// stored in data/, and says for each kind how many agree. Skewness and kurtosis, which are one call of ours, are two of the Rust's.
+// stored in data/, and says for each kind how many agree.
 //
 // The lists were made by `words 1 crates/vectors/data` of oracle/ (seed 1), whose FORMAT.md, 'Word
 // lists', has the form; that command makes them again. What a call of C's reads is not known to a
@@ -13,7 +13,6 @@ mod fixed;
 mod lent;
 mod pairs;
 mod plans;
-mod skew_kurtosis;
 mod states;
 mod variance;
 mod words;

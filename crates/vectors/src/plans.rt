@@ -1,11 +1,67 @@
-// Records of plan. Word 1 is what is asked (0 variance: variance.rt; 1 skewness and kurtosis: skew_kurtosis.rt), 2 to 4 its setting, 5 the
+// Records of plan. Word 1 is the figure (0 var, whose records have more: variance.rt; 1 skew, 2 kurtosis), 2 ddof, 3 bias, 4 fisher, 5 the
 // minimum, 6 whether a map is lent, 7 the number answered, 8 how many doubles of the work slice may
 // then hold anything. From 9 on each list has the word at which it stands and its length: 9 trace
-// (eight bytes a word), 11 map, 13 starts, 15 ends, 17 work, 19 readings, 21 figures, 23 present, and behind
-// them those of which one of the two has more. What stands at 19 and behind is what these lists hold after the call. What stands at 17
-// is what all that are lent hold before it, each from its first word on, and the work slice past its free part after it.
-use crate::words::{bytes, count, doubles, numbers, word};
-use crate::{skew_kurtosis, variance};
+// (eight bytes a word), 11 map, 13 starts, 15 ends, 17 work, 19 readings, 21 figures, 23 present. What
+// stands at 19 to 23 is what these lists hold after the call. What stands at 17 is what all four that
+// are lent hold before it, each from its first word on, and the work slice past its free part after it.
+use crate::lent::answered;
+use crate::variance::agrees_plan;
+use crate::words::{are, bytes, count, doubles, flag, numbers, word};
+
+fn call(
+    rec: &[u8],
+    trace: &[u8],
+    readings: &mut [f64],
+    map: &[u8],
+    starts: &[u32],
+    ends: &[u32],
+    work: &mut [f64],
+    figures: &mut [f64],
+    present: &mut [u8],
+) -> u32 {
+    let bias = flag(rec, 3);
+    let min = word(rec, 5) as usize;
+    let has_map = flag(rec, 6);
+    match word(rec, 1) {
+        1 => moments::moments_plan_skew(
+            trace, readings, has_map, map, starts, ends, min, bias, work, figures, present,
+        ),
+        _ => moments::moments_plan_kurtosis(
+            trace,
+            readings,
+            has_map,
+            map,
+            starts,
+            ends,
+            min,
+            flag(rec, 4),
+            bias,
+            work,
+            figures,
+            present,
+        ),
+    }
+}
+
+fn replay(
+    rec: &[u8],
+    trace: &[u8],
+    readings: &mut [f64],
+    map: &[u8],
+    starts: &[u32],
+    ends: &[u32],
+    work: &mut [f64],
+    figures: &mut [f64],
+    present: &mut [u8],
+) -> bool {
+    let number = call(
+        rec, trace, readings, map, starts, ends, work, figures, present,
+    );
+    if !are(rec, count(rec, 19), readings) {
+        return false;
+    }
+    answered(rec, number, work, figures, present)
+}
 
 fn outputs(
     rec: &[u8],
@@ -22,7 +78,7 @@ fn outputs(
     let p = count(rec, 24);
     let mut present = bytes(rec, held, false, p);
     if word(rec, 1) == 0 {
-        return variance::agrees_plan(
+        return agrees_plan(
             rec,
             trace,
             readings,
@@ -34,7 +90,7 @@ fn outputs(
             &mut present[..p],
         );
     }
-    skew_kurtosis::agrees_plan(
+    replay(
         rec,
         trace,
         readings,

@@ -1,6 +1,6 @@
 // Records of variance in plan and fixed, whose calls also give the lowest and the highest reading. They have the words of their kind
-// (plans.rt, fixed.rt), where 2 is ddof, and behind them, from 25 on, where each of four lists stands and its length: 25 lowest, 27 its
-// bytes, 29 highest, 31 its bytes. What stands there is what these lists hold after the call; before it they hold what stands at 17.
+// (plans.rt, fixed.rt) and behind them, from 25 on, where each of four lists stands and its length: 25 lowest, 27 its bytes, 29
+// highest, 31 its bytes. What stands there is what these lists hold after the call; before it they hold what stands at 17.
 use crate::lent::answered;
 use crate::words::{are, are_bytes, byte, bytes, count, doubles, flag, word};
 

@@ -87,11 +87,11 @@ module _ (values weights : List Float) (total : Float) (left right min_periods k
       go true = refl
       go false = refl
 
-  double-is : {byte : ℕ} {variance : Float} → byte ≡ validity_at (length values) left right min_periods k
+  double_is : {byte : ℕ} {variance : Float} → byte ≡ validity_at (length values) left right min_periods k
       → variance ≡ variance_by values weights total left right k
       → double_of (answer_of byte variance) ≡ double_of (weighted_by values weights total left right min_periods k)
   unfolding weighted_by
-  double-is e f = rw (e, f) (go Short)
+  double_is e f = rw (e, f) (go Short)
     where
       go : (b : Bool) → double_of (answer_of (cond b 0 1) (variance_by values weights total left right k))
           ≡ double_of (cond b Missing (Present (variance_by values weights total left right k)))
@@ -178,7 +178,7 @@ pub block_doubles : (values weights : List Float) (total : Float) (left right mi
     → double_at (take (until - first) (drop first present)) (λ i. variance_by values weights total left (length weights - left) (first + i)) r
     ≡ double_of (weighted_by values weights total left right min_periods (first + r))
 block_doubles values weights total left right min_periods first until {present₀} {present} e o u r h =
-    double-is values weights total left right min_periods (first + r)
+    double_is values weights total left right min_periods (first + r)
     (part-byte (validity_at (length values) left right min_periods) present₀ present (length values) first until r o h u)
     (ap (λ (x : ℕ). variance_by values weights total left x (first + r)) e)
 

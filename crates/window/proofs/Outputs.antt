@@ -1,13 +1,13 @@
 -- Lists that are filled row by row, and lists of them: what a call leaves, and a row's answers in it. Assumes nothing.
 use Prim.Native.Nat.{ℕ, ◌+◌, ◌-◌, ◌≤◌, ◌<◌, min}
-use mathlib.Core.Path.{◌≡◌, refl, ap, ◌∙◌, subst}
-use mathlib.Core.List.{List, [], ◌∷◌}
+use mathlib.Core.Path.{◌≡◌, refl, sym, ap, ◌∙◌, subst}
+use mathlib.Core.List.{List, [], ◌∷◌, ◌++◌}
 use native.Mathlib.Omega.{arith}
 use borrow.Author.Tests.{ne_eqb}
-use lib.ListN.{length, drop, set, length-set}
+use lib.ListN.{length, take, drop, set, length-set, length-append, length-drop}
 use lib.Ieee.{Float, nan}
 use Rattle.float.specs.Tables.{table}
-use Rattle.float.proofs.Tables.{table_more, table_at}
+use Rattle.float.proofs.Tables.{table-length, table_more, table_at, table_part}
 use Rattle.moment.specs.Figure.{double_of, byte_of}
 use Rattle.moment.specs.declared.Figure.{Figure}
 use Rattle.window.specs.Outputs.{Column, column, filled, kept, answered, numbered, answers_in, counts_in, answers_at, counts_at}
@@ -36,6 +36,17 @@ module _ {A : Type 0} (f : ℕ → A) where
 
   pub fills-next : (first k : ℕ) (l₀ l l' : List A) (x : A) → Fills f first k l₀ l → x ≡ f k → l' ≡ set l k x → Fills f first (k + 1) l₀ l'
   fills-next first k l₀ l l' x v e s = λ m h u. upto_next m l l' k x (v m (omega arith) u) (omega arith) e s
+
+  pub fills-both : (a b c : ℕ) (l₀ l₁ l₂ : List A) → b ≤ c → Fills f a b l₀ l₁ → Fills f b c l₁ l₂ → Fills f a c l₀ l₂
+  fills-both a b c l₀ l₁ l₂ h v w = λ m k u. w m k (v m (omega arith) u)
+
+  -- a part of the list written at once
+  pub fills-part : (g : ℕ → A) (a b c : ℕ) (l₀ l₁ l₂ r : List A) → b ≤ c → Fills f a b l₀ l₁ → ((i : ℕ) → i < c - b → g i ≡ f (b + i)) →
+      r ≡ table g (c - b) → l₂ ≡ take b l₁ ++ (r ++ drop (c - b) (drop b l₁)) → Fills f a c l₀ l₂
+  fills-part g a b c l₀ l₁ l₂ r h v e o p = λ m k u.
+      let d : l₂ ≡ table f c ++ drop c m = p ∙ table_part f g m l₁ r b c h (v m (omega arith) u).is e o in
+      let t = table-length f c in
+      record { long = ap length d ∙ length-append (table f c) (drop c m) ∙ rw length-drop (omega arith); is = d }
 
   -- all n rows, from the first on
   pub fills-all : (n : ℕ) (l₀ l : List A) → n ≤ length l₀ → Fills f 0 n l₀ l → l ≡ filled 0 f n l₀

@@ -1,7 +1,7 @@
 //! The command line.
 use crate::number::double;
 use crate::text::{name, quoted};
-use moments::{PairFigure, Setting, SkewKurtosis, Var, Window};
+use moments::{PairFigure, Setting, Shape, Var, Window};
 use std::ffi::OsString;
 use std::fmt::Display;
 use std::path::PathBuf;
@@ -29,24 +29,19 @@ windows
 
 figure
   --figure NAME      of one trace: variance (the default), skewness or kurtosis; of two: covariance or correlation.
-                     With the variance, unless it is weighted, come the lowest and the highest finite reading.
-                     Skewness and kurtosis come in one run: the one that is named, and behind it the other; shape
-                     names both, the skewness first
+                     With the variance, unless it is weighted, come the lowest and the highest finite reading
   --ddof N           variance and covariance: divided by the count less N, from 0 to 255 (default 1)
-  --unbiased         skewness and kurtosis: both corrected for bias
-  --unbiased-skewness, --unbiased-kurtosis
-                     this one corrected for bias, and the other not
+  --unbiased         skewness and kurtosis: corrected for bias
   --pearson          kurtosis: not less three, so that a normal distribution has 3 and not 0
-  --minimum N        a window with fewer readings has no figures (default 1). If any reading of a trace is missing,
+  --minimum N        a window with fewer readings has no figure (default 1). If any reading of a trace is missing,
                      the library is lent a map and counts a window's valid readings or pairs, and else its places
 
 output
   --csv              the table as CSV: row,label,start,end,from,to,valid,figure,mark and, with the variance unless it is
-                     weighted, lowest,highest; with the skewness kurtosis,kurtosis_mark, with the kurtosis
-                     skewness,skewness_mark
+                     weighted, lowest,highest
   --output FILE      the table to FILE instead of standard output
   --svg FILE         a picture of the figure and the trace or traces; behind the variance the band from the lowest
-                     to the highest reading of each window; skewness and kurtosis one above the other
+                     to the highest reading of each window
   --help             this text
 
 In the table `-` is a missing number, and `!` (in CSV the mark `not finite`) a figure that is NaN or infinite.
@@ -54,9 +49,7 @@ A wrong command line, a bad file or a refused plan gets a message and exit statu
 ";
 
 const VALUED: [&str; 8] = ["--plan", "--window", "--weights", "--figure", "--ddof", "--minimum", "--output", "--svg"];
-const BARE: [&str; 6] = ["--centered", "--unbiased", "--unbiased-skewness", "--unbiased-kurtosis", "--pearson", "--csv"];
-/// Those that have a meaning for skewness and kurtosis alone.
-const OF_SHAPE: [&str; 4] = ["--unbiased", "--unbiased-skewness", "--unbiased-kurtosis", "--pearson"];
+const BARE: [&str; 4] = ["--centered", "--unbiased", "--pearson", "--csv"];
 
 /// What the command line asks for.
 #[derive(Debug, PartialEq)]
@@ -98,28 +91,13 @@ impl Source {
 pub enum Asked {
     /// With the lowest and the highest reading of each window; with weights it is the weighted variance alone, which has no ddof.
     Variance(Source, Setting<Var>),
-    Shape(Source, Named, Setting<SkewKurtosis>),
+    Shape(Source, Setting<Shape>),
     Pair([Source; 2], Setting<PairFigure>),
-}
-/// Which of skewness and kurtosis was named. It is the figure, and the other one comes behind it.
-#[derive(Clone, Copy, Debug, PartialEq)]
-pub enum Named {
-    Skewness,
-    Kurtosis,
-}
-impl Named {
-    /// What is given of the skewness and of the kurtosis, that of the named one first.
-    pub fn first<T>(self, skewness: T, kurtosis: T) -> [T; 2] {
-        match self {
-            Named::Skewness => [skewness, kurtosis],
-            Named::Kurtosis => [kurtosis, skewness],
-        }
-    }
 }
 impl Asked {
     pub fn sources(&self) -> &[Source] {
         match self {
-            Asked::Variance(source, _) | Asked::Shape(source, ..) => std::slice::from_ref(source),
+            Asked::Variance(source, _) | Asked::Shape(source, _) => std::slice::from_ref(source),
             Asked::Pair(sources, _) => sources,
         }
     }
@@ -139,17 +117,17 @@ impl Options {
             Windows::Plan(_) => None,
         }
     }
-    /// The figure in a word, and the second one where there are two.
-    pub fn figures(&self) -> (&'static str, Option<&'static str>) {
+    /// The figure in a word.
+    pub fn figure(&self) -> &'static str {
         match &self.asked {
-            Asked::Variance(..) => ("variance", None),
-            Asked::Shape(_, named, _) => {
-                let [first, second] = named.first("skewness", "kurtosis");
-                (first, Some(second))
-            }
+            Asked::Variance(..) => "variance",
+            Asked::Shape(_, setting) => match setting.figure {
+                Shape::Skew { .. } => "skewness",
+                Shape::Kurtosis { .. } => "kurtosis",
+            },
             Asked::Pair(_, setting) => match setting.figure {
-                PairFigure::Cov { .. } => ("covariance", None),
-                PairFigure::PearsonCorr => ("correlation", None),
+                PairFigure::Cov { .. } => "covariance",
+                PairFigure::PearsonCorr => "correlation",
             },
         }
     }
@@ -167,27 +145,25 @@ impl Options {
             Asked::Pair(..) => "of one pair or where all readings of a trace are alike",
         }
     }
-    /// The figure, or both, with the setting.
+    /// The figure and its setting.
     pub fn in_words(&self) -> String {
-        let (name, biased) = (self.figures().0, |bias: bool| if bias { "biased" } else { "unbiased" });
-        match &self.asked {
-            Asked::Variance(_, Setting { min_periods, .. }) if self.weights().is_some() => {
-                format!("weighted {name}, minimum {min_periods}")
+        let (name, biased) = (self.figure(), |bias: bool| if bias { "biased" } else { "unbiased" });
+        let (figure, minimum) = match &self.asked {
+            Asked::Variance(_, setting) if self.weights().is_some() => (format!("weighted {name}"), setting.min_periods),
+            Asked::Variance(_, Setting { figure: Var { ddof }, min_periods }) => (format!("{name}, ddof {ddof}"), *min_periods),
+            Asked::Shape(_, Setting { figure, min_periods }) => {
+                let figure = match *figure {
+                    Shape::Skew { bias } | Shape::Kurtosis { fisher: false, bias } => format!("{name}, {}", biased(bias)),
+                    Shape::Kurtosis { fisher: true, bias } => format!("{name} less three, {}", biased(bias)),
+                };
+                (figure, *min_periods)
             }
-            Asked::Variance(_, Setting { figure: Var { ddof }, min_periods })
-            | Asked::Pair(_, Setting { figure: PairFigure::Cov { ddof }, min_periods }) => {
-                format!("{name}, ddof {ddof}, minimum {min_periods}")
+            Asked::Pair(_, Setting { figure: PairFigure::Cov { ddof }, min_periods }) => {
+                (format!("{name}, ddof {ddof}"), *min_periods)
             }
-            Asked::Shape(_, named, Setting { figure, min_periods }) => {
-                let skewness = format!("skewness, {}", biased(figure.skew_bias));
-                let less_three = if figure.fisher { " less three" } else { "" };
-                let [first, second] = named.first(skewness, format!("kurtosis{less_three}, {}", biased(figure.kurtosis_bias)));
-                format!("{first}; {second}; minimum {min_periods}")
-            }
-            Asked::Pair(_, Setting { figure: PairFigure::PearsonCorr, min_periods }) => {
-                format!("{name}, minimum {min_periods}")
-            }
-        }
+            Asked::Pair(_, Setting { figure: PairFigure::PearsonCorr, min_periods }) => (name.to_string(), *min_periods),
+        };
+        format!("{figure}, minimum {minimum}")
     }
 }
 
@@ -298,40 +274,37 @@ impl Given {
         let without = |options: &[&str]| self.without(options, &format!("has no meaning for the {figure}"));
         match figure {
             "variance" => {
-                without(&OF_SHAPE)?;
+                without(&["--unbiased", "--pearson"])?;
                 if self.has("--weights") {
                     self.without(&["--ddof"], "has no meaning for the weighted variance")?;
                 }
                 let setting = Setting::var(self.ddof()?);
                 Ok(Asked::Variance(only(figure, sources)?, setting.min_periods(self.minimum()?)))
             }
-            "skewness" | "shape" => self.of_shape(figure, sources, Named::Skewness),
-            "kurtosis" => self.of_shape(figure, sources, Named::Kurtosis),
+            "skewness" => {
+                without(&["--ddof", "--weights", "--pearson"])?;
+                self.of_shape(figure, sources, Setting::skew(!self.has("--unbiased")))
+            }
+            "kurtosis" => {
+                without(&["--ddof", "--weights"])?;
+                self.of_shape(figure, sources, Setting::kurtosis(!self.has("--pearson"), !self.has("--unbiased")))
+            }
             "covariance" => {
-                without(&["--weights"])?;
-                without(&OF_SHAPE)?;
+                without(&["--weights", "--unbiased", "--pearson"])?;
                 self.of_two(figure, sources, Setting::cov(self.ddof()?))
             }
             "correlation" => {
-                without(&["--ddof", "--weights"])?;
-                without(&OF_SHAPE)?;
+                without(&["--ddof", "--weights", "--unbiased", "--pearson"])?;
                 self.of_two(figure, sources, Setting::pearson_corr())
             }
             other => {
-                let figures = "variance, skewness, kurtosis, shape, covariance or correlation";
+                let figures = "variance, skewness, kurtosis, covariance or correlation";
                 Err(format!("--figure is {figures}, not {}", quoted(other)))
             }
         }
     }
-    fn of_shape(&self, figure: &str, sources: Vec<Source>, named: Named) -> Result<Asked, String> {
-        self.without(&["--ddof", "--weights"], &format!("has no meaning for the {figure}"))?;
-        let both = self.has("--unbiased");
-        if both {
-            self.without(&["--unbiased-skewness", "--unbiased-kurtosis"], "is of one figure alone, but --unbiased is of both")?;
-        }
-        let [skew_bias, kurtosis_bias] = ["--unbiased-skewness", "--unbiased-kurtosis"].map(|one| !both && !self.has(one));
-        let setting = Setting::skew_kurtosis(skew_bias, !self.has("--pearson"), kurtosis_bias);
-        Ok(Asked::Shape(only(figure, sources)?, named, setting.min_periods(self.minimum()?)))
+    fn of_shape(&self, figure: &str, sources: Vec<Source>, setting: Setting<Shape>) -> Result<Asked, String> {
+        Ok(Asked::Shape(only(figure, sources)?, setting.min_periods(self.minimum()?)))
     }
     fn of_two(&self, figure: &str, sources: Vec<Source>, setting: Setting<PairFigure>) -> Result<Asked, String> {
         match <[Source; 2]>::try_from(sources) {
@@ -388,22 +361,9 @@ mod tests {
         assert_eq!(asked("t --plan p"), "variance, ddof 1, minimum 1");
         assert_eq!(asked("--ddof 0 --minimum 3 t --window 4"), "variance, ddof 0, minimum 3");
         assert_eq!(asked("- --window 2 --weights 1,-2e3 --centered"), "weighted variance, minimum 1");
-        let (skewness, kurtosis) = ("t --plan p --figure skewness", "t --plan p --figure kurtosis");
-        let cases = [
-            (skewness, "", "skewness, biased; kurtosis less three, biased; minimum 1"),
-            ("t --plan p --figure shape", "", "skewness, biased; kurtosis less three, biased; minimum 1"),
-            (kurtosis, "", "kurtosis less three, biased; skewness, biased; minimum 1"),
-            (kurtosis, "--unbiased --minimum 2", "kurtosis less three, unbiased; skewness, unbiased; minimum 2"),
-            (kurtosis, "--pearson", "kurtosis, biased; skewness, biased; minimum 1"),
-            (skewness, "--pearson --unbiased", "skewness, unbiased; kurtosis, unbiased; minimum 1"),
-            (skewness, "--unbiased-skewness", "skewness, unbiased; kurtosis less three, biased; minimum 1"),
-            (skewness, "--unbiased-kurtosis", "skewness, biased; kurtosis less three, unbiased; minimum 1"),
-            (kurtosis, "--unbiased-skewness --pearson", "kurtosis, biased; skewness, unbiased; minimum 1"),
-            (kurtosis, "--unbiased-skewness --unbiased-kurtosis", "kurtosis less three, unbiased; skewness, unbiased; minimum 1"),
-        ];
-        for (line, options, words) in cases {
-            assert_eq!(asked(&format!("{line} {options}")), words);
-        }
+        assert_eq!(asked("t --plan p --figure skewness"), "skewness, biased, minimum 1");
+        assert_eq!(asked("t --plan p --figure kurtosis --unbiased"), "kurtosis less three, unbiased, minimum 1");
+        assert_eq!(asked("t --plan p --figure kurtosis --pearson"), "kurtosis, biased, minimum 1");
         assert_eq!(asked("t u --plan p --figure covariance"), "covariance, ddof 1, minimum 1");
         assert_eq!(asked("t - --figure covariance --window 3 --ddof 0 --minimum 2"), "covariance, ddof 0, minimum 2");
         assert_eq!(asked("--figure correlation - u --window 3 --centered"), "correlation, minimum 1");
@@ -451,20 +411,10 @@ mod tests {
             ("t --window 2 --weights 1,1 --figure skewness", "--weights has no meaning for the skewness"),
             ("t --plan p --ddof 256", "--ddof takes a whole number from 0 to 255, not \"256\""),
             ("t --plan p --ddof 1 --figure skewness", "--ddof has no meaning for the skewness"),
-            ("t --window 3 --weights 1,1,1 --figure shape", "--weights has no meaning for the shape"),
-            ("t --plan p --pearson", "--pearson has no meaning for the variance"),
-            ("t --plan p --unbiased-kurtosis", "--unbiased-kurtosis has no meaning for the variance"),
-            ("t u --plan p --unbiased-skewness --figure covariance", "--unbiased-skewness has no meaning for the covariance"),
-            (
-                "t --plan p --figure kurtosis --unbiased --unbiased-kurtosis",
-                "--unbiased-kurtosis is of one figure alone, but --unbiased is of both",
-            ),
+            ("t --plan p --pearson --figure skewness", "--pearson has no meaning for the skewness"),
             ("t --plan p --ddof 1 --figure kurtosis", "--ddof has no meaning for the kurtosis"),
             ("t --plan p --unbiased", "--unbiased has no meaning for the variance"),
-            (
-                "t --plan p --figure mean",
-                "--figure is variance, skewness, kurtosis, shape, covariance or correlation, not \"mean\"",
-            ),
+            ("t --plan p --figure mean", "--figure is variance, skewness, kurtosis, covariance or correlation, not \"mean\""),
             ("t --plan p --minimum many", "--minimum takes a whole number from 0 to 18446744073709551615, not \"many\""),
         ];
         for (line, wrong) in cases {

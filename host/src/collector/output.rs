@@ -84,7 +84,7 @@ pub fn check_names(options: &Options) -> Result<(), String> {
         return Err("--output and --svg name the same file".to_string());
     }
     let traces = match &options.asked {
-        Asked::Variance(trace, _) | Asked::Shape(trace, ..) => [(trace.path(), "the trace"), (None, "")],
+        Asked::Variance(trace, _) | Asked::Shape(trace, _) => [(trace.path(), "the trace"), (None, "")],
         Asked::Pair([first, second], _) => [(first.path(), "the first trace"), (second.path(), "the second trace")],
     };
     for (target, option) in [(output, "--output"), (svg, "--svg")] {

@@ -1,4 +1,4 @@
-//! The picture: the figure and the trace over the same places, the figure above one trace and below two. Of two figures each has a panel.
+//! The picture: the figure and the trace over the same places, the figure above one trace and below two.
 use crate::options::Asked;
 use crate::report::{Report, Row, Rows};
 use crate::scale::Scale;
@@ -10,6 +10,7 @@ use std::fmt::Write;
 const WIDTH: f64 = 1200.0;
 /// More of it where the figure's panel has a second axis at its right.
 const SECOND_AXIS: f64 = 56.0;
+const HEIGHT: f64 = 660.0;
 const LEFT: f64 = 84.0;
 const RIGHT: f64 = 1180.0;
 /// A plan with more rows is drawn as a line.
@@ -38,17 +39,14 @@ pub const BELOW: &str = "#f8e6d8";
 type Span = (f64, f64);
 
 /// A part of the picture with its own vertical axis.
-#[derive(Clone, Copy)]
 struct Panel {
     top: f64,
     bottom: f64,
     scale: Option<Scale>,
 }
-/// Where two panels are from top to bottom, and where three.
-const TWO: [Span; 2] = [(86.0, 312.0), (350.0, 566.0)];
-const THREE: [Span; 3] = [(86.0, 266.0), (304.0, 484.0), (522.0, 738.0)];
-/// Below the lowest panel: places, times and the key.
-const FOOT: f64 = 94.0;
+/// Where the two panels are from top to bottom.
+const UPPER: (f64, f64) = (86.0, 312.0);
+const LOWER: (f64, f64) = (350.0, 566.0);
 impl Panel {
     fn new((top, bottom): (f64, f64), scale: Option<Scale>) -> Self {
         Panel { top, bottom, scale }
@@ -67,8 +65,7 @@ pub fn svg(report: &Report<'_>) -> String {
 struct Picture<'a> {
     report: &'a Report<'a>,
     out: String,
-    /// Of each figure, from top to bottom.
-    figures: Vec<Panel>,
+    figure: Panel,
     /// The figure's panel by its axis of readings, at the right.
     swing: Panel,
     trace: Panel,
@@ -85,42 +82,25 @@ enum Swatch {
 impl<'a> Picture<'a> {
     fn new(report: &'a Report<'a>) -> Self {
         let readings = report.traces.all().flat_map(|trace| (0..trace.len()).filter_map(|place| trace.reading(place)));
-        let ([above, below], [first, second, last]) = (TWO, THREE);
-        let (figures, trace) = match (report.options.figures().1, &report.traces.second) {
-            (Some(_), _) => (vec![first, second], last),
-            (None, Some(_)) => (vec![below], above),
-            (None, None) => (vec![above], below),
-        };
-        let swing = Panel::new(figures.first().copied().unwrap_or_default(), Scale::around(report.extremes(), false));
-        let figures =
-            figures.into_iter().enumerate().map(|(which, span)| Panel::new(span, figure_scale(report, which))).collect();
-        let trace = Panel::new(trace, Scale::around(readings, false));
-        Picture { report, out: String::new(), figures, swing, trace, key: Vec::new() }
-    }
-    /// Where the panels are, the upmost first.
-    fn panels(&self) -> Vec<Span> {
-        let mut panels: Vec<Span> = self.figures.iter().chain([&self.trace]).map(|panel| (panel.top, panel.bottom)).collect();
-        panels.sort_by(|(top, _), (other, _)| top.total_cmp(other));
-        panels
-    }
-    /// Where the lowest panel ends.
-    fn base(&self) -> f64 {
-        self.panels().last().map_or(0.0, |(_, bottom)| *bottom)
+        let (above, below) = if report.traces.second.is_some() { (LOWER, UPPER) } else { (UPPER, LOWER) };
+        let figure = Panel::new(above, figure_scale(report));
+        let swing = Panel::new(above, Scale::around(report.extremes(), false));
+        let trace = Panel::new(below, Scale::around(readings, false));
+        Picture { report, out: String::new(), figure, swing, trace, key: Vec::new() }
     }
     fn draw(mut self) -> String {
-        let (width, height) = (if self.swing.scale.is_some() { WIDTH + SECOND_AXIS } else { WIDTH }, self.base() + FOOT);
+        let width = if self.swing.scale.is_some() { WIDTH + SECOND_AXIS } else { WIDTH };
         self.push(format_args!(
-            "<svg xmlns=\"http://www.w3.org/2000/svg\" width=\"{width}\" height=\"{height}\" viewBox=\"0 0 {width} {height}\" \
+            "<svg xmlns=\"http://www.w3.org/2000/svg\" width=\"{width}\" height=\"{HEIGHT}\" viewBox=\"0 0 {width} {HEIGHT}\" \
              font-family=\"sans-serif\" font-size=\"13\" fill=\"#222222\">"
         ));
-        self.rect((0.0, width), (0.0, height), "#ffffff");
+        self.rect((0.0, width), (0.0, HEIGHT), "#ffffff");
         self.titles();
         self.swings();
         self.places();
-        let figures = self.figures.clone();
-        figures.iter().for_each(|panel| self.values(*panel, "no figure"));
-        self.values(self.trace, "no reading");
-        figures.into_iter().enumerate().for_each(|(which, panel)| self.figure(which, panel));
+        self.values(|picture| &picture.figure, "no figure");
+        self.values(|picture| &picture.trace, "no reading");
+        self.figures();
         self.readings();
         self.frames();
         self.keys();
@@ -178,17 +158,13 @@ impl<'a> Picture<'a> {
             Some(_) => readings,
         };
         self.text((LEFT, 51.0), "", &format!("{trace}; windows {windows}: {rows}"));
-        let (figure, second) = report.options.figures();
-        for ((which, panel), name) in
-            self.figures.clone().into_iter().enumerate().zip([Some(figure), second].into_iter().flatten())
-        {
-            let axis = match panel.scale.is_some_and(|scale| scale.logarithmic) {
-                true if report.figures(which).any(|figure| figure == 0.0) => " (logarithmic axis; 0 stands at its base)",
-                true => " (logarithmic axis)",
-                false => "",
-            };
-            self.text((LEFT, panel.top - 8.0), "font-weight=\"bold\"", &format!("{name}{axis}"));
-        }
+        let logarithmic = self.figure.scale.is_some_and(|scale| scale.logarithmic);
+        let axis = match logarithmic {
+            true if report.figures().any(|figure| figure == 0.0) => " (logarithmic axis; 0 stands at its base)",
+            true => " (logarithmic axis)",
+            false => "",
+        };
+        self.text((LEFT, self.figure.top - 8.0), "font-weight=\"bold\"", &format!("{}{axis}", report.options.figure()));
         self.text((LEFT, self.trace.top - 8.0), "font-weight=\"bold\"", "temperature");
         if report.traces.second.is_some() {
             let mut x = LEFT + 110.0;
@@ -198,7 +174,7 @@ impl<'a> Picture<'a> {
         }
     }
 
-    /// The horizontal axis, which all panels share.
+    /// The horizontal axis, which both panels share.
     fn places(&mut self) {
         let places = self.report.traces.len();
         let scale = Scale::linear(0.0, places as f64);
@@ -206,10 +182,12 @@ impl<'a> Picture<'a> {
         let ticks = scale.ticks(9).into_iter().filter(|(tick, _)| tick.fract() == 0.0).map(|(tick, _)| tick as usize);
         let ticks: Vec<usize> = ticks.filter(|tick| *tick < places).collect();
         let times = short_times(ticks.iter().map(|tick| self.report.traces.first.times.get(*tick)));
-        let (panels, base) = (self.panels(), self.base());
+        let (_, base) = LOWER;
         for (tick, time) in ticks.iter().zip(times) {
             let x = self.x(*tick as f64 + 0.5);
-            panels.iter().for_each(|(top, bottom)| self.line((x, *top), (x, *bottom), GRID));
+            for (top, bottom) in [UPPER, LOWER] {
+                self.line((x, top), (x, bottom), GRID);
+            }
             self.line((x, base), (x, base + 5.0), FRAME);
             self.text((x, base + 19.0), "text-anchor=\"middle\"", &tick.to_string());
             self.text((x, base + 36.0), "text-anchor=\"middle\" fill=\"#555555\"", &time);
@@ -217,14 +195,14 @@ impl<'a> Picture<'a> {
         self.text((LEFT - 12.0, base + 19.0), "text-anchor=\"end\" fill=\"#555555\"", "place");
     }
     /// A panel's vertical axis.
-    fn values(&mut self, panel: Panel, if_none: &str) {
-        let Panel { top, bottom, scale } = panel;
+    fn values(&mut self, panel: impl Fn(&Self) -> &Panel, if_none: &str) {
+        let Panel { top, bottom, scale } = *panel(self);
         let Some(scale) = scale else {
             self.text(((LEFT + RIGHT) / 2.0, (top + bottom) / 2.0), "text-anchor=\"middle\" fill=\"#777777\"", if_none);
             return;
         };
         for (tick, text) in scale.ticks(6) {
-            let y = panel.y(tick);
+            let y = panel(self).y(tick);
             self.line((LEFT, y), (RIGHT, y), if tick == 0.0 { "#bdbdbd" } else { GRID });
             self.text((LEFT - 8.0, y + 4.5), "text-anchor=\"end\"", &text);
         }
@@ -241,7 +219,7 @@ impl<'a> Picture<'a> {
         self.text((RIGHT, self.swing.top - 8.0), &format!("text-anchor=\"end\" fill=\"{OF_BAND}\""), title);
     }
     fn frames(&mut self) {
-        for (top, bottom) in self.panels() {
+        for (top, bottom) in [UPPER, LOWER] {
             let (width, height) = (RIGHT - LEFT, bottom - top);
             self.push(format_args!(
                 "<rect x=\"{LEFT}\" y=\"{top}\" width=\"{width}\" height=\"{height}\" fill=\"none\" stroke=\"{FRAME}\"/>"
@@ -330,13 +308,12 @@ impl<'a> Picture<'a> {
         (bands, apart)
     }
 
-    /// A figure in its panel.
-    fn figure(&mut self, which: usize, panel: Panel) {
-        let (bars, of) = (self.has_bars(), move |row: &Row<'_>| row.figures.into_iter().nth(which).flatten());
+    fn figures(&mut self) {
+        let bars = self.has_bars();
         if bars {
-            self.bars(panel, of);
+            self.bars();
         } else {
-            let points = self.points().map(|(x, row)| (x, of(&row).filter(|x| x.is_finite()).map(|x| panel.y(x))));
+            let points = self.points().map(|(x, row)| (x, row.figure.filter(|x| x.is_finite()).map(|x| self.figure.y(x))));
             let drawn = Drawn::new(points, self.report.len() <= MOST_DOTS);
             self.drawn(&drawn, FIGURE, THIN);
             let at = match self.report.rows {
@@ -345,13 +322,13 @@ impl<'a> Picture<'a> {
             };
             self.in_key(drawn.is_any(), Swatch::Line, FIGURE, at);
         }
-        let spans = |such: fn(Option<f64>) -> bool| {
-            let rows = self.points().filter(move |(_, row)| such(of(row)));
+        let spans = |such: fn(&Row<'_>) -> bool| {
+            let rows = self.points().filter(move |(_, row)| such(row));
             stretches(rows.map(|(x, row)| if bars { self.across(row.start, row.end) } else { (x, x) }), 2.0)
         };
-        let missing = spans(|figure| figure.is_none());
-        let not_finite = spans(|figure| figure.is_some_and(|figure| !figure.is_finite()));
-        let Panel { top, bottom, .. } = panel;
+        let missing = spans(|row| row.figure.is_none());
+        let not_finite = spans(|row| row.is_marked());
+        let Panel { top, bottom, .. } = self.figure;
         for span in &missing {
             self.rect(*span, (bottom - 6.0, bottom), MISSING_FIGURE);
         }
@@ -369,7 +346,7 @@ impl<'a> Picture<'a> {
             (self.x(place), row)
         })
     }
-    fn bars(&mut self, panel: Panel, of: impl Fn(&Row<'_>) -> Option<f64>) {
+    fn bars(&mut self) {
         let report = self.report;
         let mut drawn = false;
         let mut end = 0;
@@ -377,9 +354,9 @@ impl<'a> Picture<'a> {
         // Bars down to the axis would hide the band.
         let filled = self.swing.scale.is_none();
         for row in report.rows() {
-            let Some(figure) = of(&row).filter(|figure| figure.is_finite()) else { continue };
+            let Some(figure) = row.figure.filter(|figure| figure.is_finite()) else { continue };
             let (from, to) = widened(self.across(row.start, row.end), 2.0);
-            let (y, zero) = (panel.y(figure), panel.y(0.0));
+            let (y, zero) = (self.figure.y(figure), self.figure.y(0.0));
             if apart && filled {
                 self.rect((from, to), (y.min(zero), y.max(zero)), BELOW);
             } else if !apart {
@@ -392,14 +369,13 @@ impl<'a> Picture<'a> {
         self.in_key(drawn, Swatch::Line, FIGURE, "figure, over its window");
     }
 
-    /// Once, however often it occurs.
     fn in_key(&mut self, occurs: bool, swatch: Swatch, color: &'static str, text: &str) {
-        if occurs && self.key.iter().all(|(_, _, known)| known != text) {
+        if occurs {
             self.key.push((swatch, color, text.to_string()));
         }
     }
     fn keys(&mut self) {
-        let (mut x, y) = (LEFT, self.base() + FOOT - 22.0);
+        let (mut x, y) = (LEFT, HEIGHT - 22.0);
         for (swatch, color, text) in std::mem::take(&mut self.key) {
             x = self.swatch((x, y), (swatch, color, &text));
         }
@@ -418,14 +394,14 @@ impl<'a> Picture<'a> {
     }
 }
 
-/// A figure's vertical axis; none if no figure is finite. A correlation lies from -1 to 1, but for what rounding may add: all of that
+/// The figure's vertical axis; none if no figure is finite. A correlation lies from -1 to 1, but for what rounding may add: all of that
 /// range is shown, and what is past it too.
-fn figure_scale(report: &Report<'_>, which: usize) -> Option<Scale> {
-    let from_zero = Scale::around(report.figures(which), true)?;
+fn figure_scale(report: &Report<'_>) -> Option<Scale> {
+    let from_zero = Scale::around(report.figures(), true)?;
     Some(match &report.options.asked {
-        Asked::Variance(..) => Scale::logarithmic(report.figures(which)).unwrap_or(from_zero),
+        Asked::Variance(..) => Scale::logarithmic(report.figures()).unwrap_or(from_zero),
         Asked::Pair(_, Setting { figure: PairFigure::PearsonCorr, .. }) => {
-            Scale::around(report.figures(which).chain([-1.0, 1.0]), false).unwrap_or(from_zero)
+            Scale::around(report.figures().chain([-1.0, 1.0]), false).unwrap_or(from_zero)
         }
         _ => from_zero,
     })

@@ -1,11 +1,11 @@
 //! The rows of a table: what was asked, and what the library answered.
 use crate::bounds::bounds;
-use crate::options::{Asked, Named, Options, Windows};
+use crate::options::{Asked, Options, Windows};
 use crate::plan::PlanFile;
 use crate::text::{count, name, quoted};
 use crate::trace::{Trace, Traces};
-use moments::{plan_pair, plan_skew_kurtosis, plan_var, rolling_pair, rolling_skew_kurtosis, rolling_var, rolling_var_weights};
-use moments::{Answer, PairFigure, Plan, Refusal, Setting, ShapeAnswer, SkewKurtosis, Var, Which, Window};
+use moments::{plan, plan_pair, plan_var, rolling, rolling_pair, rolling_var, rolling_var_weights};
+use moments::{Answer, PairFigure, Plan, Refusal, Setting, Shape, Var, Which, Window};
 use std::io::BufRead;
 
 /// Where the rows come from.
@@ -18,8 +18,6 @@ pub enum Rows {
 enum Answers {
     /// Variances with the lowest and the highest reading of each window.
     Variances(Vec<Answer>),
-    /// Skewness and kurtosis.
-    Shapes(Named, Vec<ShapeAnswer>),
     Figures(Vec<Option<f64>>),
 }
 
@@ -42,16 +40,15 @@ pub struct Row<'a> {
     pub valid: usize,
     /// Readings, or pairs of them, that are not finite.
     pub not_finite: usize,
-    /// The figure and the second one; none where it is missing or the report has none.
-    pub figures: [Option<f64>; 2],
+    pub figure: Option<f64>,
     /// The lowest and the highest finite reading; none where it is missing or the report has none.
     pub lowest: Option<f64>,
     pub highest: Option<f64>,
 }
 impl Row<'_> {
-    /// Of each figure, whether it is there and not finite.
-    pub fn marked(&self) -> [bool; 2] {
-        self.figures.map(|figure| figure.is_some_and(|figure| !figure.is_finite()))
+    /// Whether there is a figure that is not finite.
+    pub fn is_marked(&self) -> bool {
+        self.figure.is_some_and(|figure| !figure.is_finite())
     }
 }
 
@@ -73,9 +70,9 @@ impl<'a> Report<'a> {
                 let answers = variances(&trace, &rows, *setting, options.weights());
                 (Traces::new(trace, None), answers)
             }
-            (Asked::Shape(source, named, setting), [input, ..]) => {
+            (Asked::Shape(source, setting), [input, ..]) => {
                 let trace = Trace::read(input, &source.name())?;
-                let answers = shapes(&trace, &rows, *setting).map(|answers| Answers::Shapes(*named, answers));
+                let answers = of_trace(&trace, &rows, *setting).map(Answers::Figures);
                 (Traces::new(trace, None), answers)
             }
             (Asked::Pair([first, second], setting), [x, y, ..]) => {
@@ -91,7 +88,6 @@ impl<'a> Report<'a> {
     pub fn len(&self) -> usize {
         match &self.answers {
             Answers::Variances(answers) => answers.len(),
-            Answers::Shapes(_, answers) => answers.len(),
             Answers::Figures(figures) => figures.len(),
         }
     }
@@ -99,27 +95,26 @@ impl<'a> Report<'a> {
     pub fn has_extremes(&self) -> bool {
         matches!(self.answers, Answers::Variances(_))
     }
-    /// A row's figures, and its lowest and highest reading.
-    fn answer(&self, row: usize) -> ([Option<f64>; 2], [Option<f64>; 2]) {
+    /// A row's figure, and its lowest and highest reading.
+    fn answer(&self, row: usize) -> [Option<f64>; 3] {
         match &self.answers {
             Answers::Variances(answers) => {
                 let Answer { variance, lowest, highest } = answers.get(row).copied().unwrap_or_default();
-                ([variance, None], [lowest, highest])
+                [variance, lowest, highest]
             }
-            Answers::Shapes(named, answers) => {
-                let ShapeAnswer { skew, kurtosis } = answers.get(row).copied().unwrap_or_default();
-                (named.first(skew, kurtosis), [None; 2])
-            }
-            Answers::Figures(figures) => ([figures.get(row).copied().flatten(), None], [None; 2]),
+            Answers::Figures(figures) => [figures.get(row).copied().flatten(), None, None],
         }
     }
-    /// The first or the second figures alone, without those that are missing.
-    pub fn figures(&self, which: usize) -> impl Iterator<Item = f64> + '_ {
-        (0..self.len()).filter_map(move |row| self.answer(row).0.into_iter().nth(which).flatten())
+    /// The figures alone, without those that are missing.
+    pub fn figures(&self) -> impl Iterator<Item = f64> + '_ {
+        (0..self.len()).filter_map(|row| self.answer(row)[0])
     }
     /// The lowest and the highest readings alone.
     pub fn extremes(&self) -> impl Iterator<Item = f64> + '_ {
-        (0..self.len()).flat_map(|row| self.answer(row).1.into_iter().flatten())
+        (0..self.len()).flat_map(|row| {
+            let [_, lowest, highest] = self.answer(row);
+            [lowest, highest].into_iter().flatten()
+        })
     }
     pub fn rows(&self) -> impl Iterator<Item = Row<'_>> {
         (0..self.len()).map(|row| self.row(row))
@@ -132,8 +127,8 @@ impl<'a> Report<'a> {
         let time = |place: usize| if start < end { self.traces.first.times.get(place) } else { "" };
         let (from, to) = (time(start), time(end.saturating_sub(1)));
         let (valid, not_finite) = (self.traces.valid(start, end), self.traces.not_finite(start, end));
-        let (figures, [lowest, highest]) = self.answer(row);
-        Row { label, start, end, from, to, valid, not_finite, figures, lowest, highest }
+        let [figure, lowest, highest] = self.answer(row);
+        Row { label, start, end, from, to, valid, not_finite, figure, lowest, highest }
     }
     pub fn has_labels(&self) -> bool {
         matches!(&self.rows, Rows::Plan(plan) if plan.labels.is_some())
@@ -178,6 +173,8 @@ impl PlanFile {
     }
 }
 
+type Figures = Result<Vec<Option<f64>>, Refusal>;
+
 fn variances(trace: &Trace, rows: &Rows, setting: Setting<Var>, weights: Option<&[f64]>) -> Result<Answers, Refusal> {
     let (readings, map) = (&trace.readings, trace.map.as_deref());
     Ok(match (rows, weights) {
@@ -188,14 +185,14 @@ fn variances(trace: &Trace, rows: &Rows, setting: Setting<Var>, weights: Option<
         }
     })
 }
-fn shapes(trace: &Trace, rows: &Rows, setting: Setting<SkewKurtosis>) -> Result<Vec<ShapeAnswer>, Refusal> {
+fn of_trace(trace: &Trace, rows: &Rows, setting: Setting<Shape>) -> Figures {
     let (readings, map) = (&trace.readings, trace.map.as_deref());
     match rows {
-        Rows::Plan(file) => plan_skew_kurtosis(readings, map, file.plan(), setting),
-        Rows::Fixed(window) => rolling_skew_kurtosis(readings, map, *window, setting),
+        Rows::Plan(file) => plan(readings, map, file.plan(), setting),
+        Rows::Fixed(window) => rolling(readings, map, *window, setting),
     }
 }
-fn of_pair(x: &Trace, y: &Trace, rows: &Rows, setting: Setting<PairFigure>) -> Result<Vec<Option<f64>>, Refusal> {
+fn of_pair(x: &Trace, y: &Trace, rows: &Rows, setting: Setting<PairFigure>) -> Figures {
     let (x, x_map, y, y_map) = (&x.readings, x.map.as_deref(), &y.readings, y.map.as_deref());
     match rows {
         Rows::Plan(file) => plan_pair(x, x_map, y, y_map, file.plan(), setting),

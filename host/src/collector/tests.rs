@@ -46,7 +46,7 @@ fn make_of_two(options: &Options, first: &[u8], second: &[u8], mut plan: &[u8]) 
     Ok([String::from_utf8(text).expect("text is UTF-8"), csv, svg])
 }
 
-const SETTINGS: [&str; 18] = [
+const SETTINGS: [&str; 17] = [
     "t --plan p",
     "t --plan p --ddof 0 --minimum 3",
     "t --plan p --figure skewness",
@@ -55,7 +55,6 @@ const SETTINGS: [&str; 18] = [
     "t --window 1",
     "t --window 3 --figure skewness --unbiased",
     "t --window 4 --centered --figure kurtosis",
-    "t --window 4 --figure shape --unbiased-kurtosis --minimum 0",
     "t --window 18446744073709551615 --centered --ddof 0",
     "t --window 2 --weights 1,0.5",
     "t --window 2 --weights 2,-1 --minimum 0",
@@ -165,8 +164,7 @@ fn any_readings_and_rows_are_shown() {
 #[test]
 fn pictures_of_hardly_anything() {
     for (trace, plan) in [("", ""), ("a,1\n", ""), ("a,\n", "0,1\n"), ("a,nan\n", "0,0\n1,1\n"), ("a,1\nb,1\n", "0,2\n")] {
-        let settings = ["t --plan p", "t --window 1", "t --window 0 --minimum 0", "t u --plan p --figure correlation"];
-        for setting in settings.into_iter().chain(["t --plan p --figure shape", "t --window 1 --figure kurtosis --unbiased"]) {
+        for setting in ["t --plan p", "t --window 1", "t --window 0 --minimum 0", "t u --plan p --figure correlation"] {
             let made = make_of_two(&options(setting), trace.as_bytes(), trace.as_bytes(), plan.as_bytes());
             assert!(made.is_ok(), "{trace:?} {plan:?} {setting}: {:?}", made.err());
         }
@@ -193,9 +191,8 @@ fn bars_that_lie_apart_stand_on_the_axis() {
         let [_, _, svg] = make(&options, b"a,1\nb,2\nc,4\nd,9\n", plan.as_bytes()).expect("a report");
         svg.matches(picture::BELOW).count()
     };
-    // in the panel of either figure
     let kurtosis = "--figure kurtosis";
-    assert_eq!([bars(kurtosis, "0,2\n2,4\n"), bars(kurtosis, "0,2\n1,4\n"), bars(kurtosis, "")], [4, 0, 0]);
+    assert_eq!([bars(kurtosis, "0,2\n2,4\n"), bars(kurtosis, "0,2\n1,4\n"), bars(kurtosis, "")], [2, 0, 0]);
     // with a band behind them there is nothing to hide it
     assert_eq!([bars("--ddof 0", "0,2\n2,4\n"), bars("--ddof 0", "0,2\n1,4\n")], [0, 0]);
 }
@@ -268,80 +265,6 @@ fn bars_bands_and_marks_stand_where_their_windows_do() {
     let readings = path(&svg, "#1f5f99");
     assert!(near(readings[0].0, at(0.5)) && near(readings[1].0, at(1.5)), "{readings:?}");
     assert!(readings[1].1 < readings[0].1 && readings.iter().all(|(_, y)| (READINGS.0..=READINGS.1).contains(y)), "{readings:?}");
-}
-
-/// Where a tick of a panel stands, by the panel's span.
-fn tick_within(svg: &str, value: &str, (top, bottom): (f64, f64)) -> f64 {
-    let ends = format!("text-anchor=\"end\">{value}</text>");
-    let ticks = svg.lines().filter(|line| line.ends_with(&ends)).map(|line| drawn(line, "text", "", ["y"])[0][0] - 4.5);
-    ticks.into_iter().find(|y| (top..=bottom).contains(y)).unwrap_or_else(|| panic!("{value} between {top} and {bottom}"))
-}
-
-/// Each figure has its panel, axis and marks, the one that was named above the other, and the trace stands below both.
-#[test]
-fn skewness_and_kurtosis_stand_one_above_the_other() {
-    let (upper, middle, lower) = ((86.0, 266.0), (304.0, 484.0), (522.0, 738.0));
-    // two readings, then three, then one that is not finite: corrected for bias, three have a skewness alone
-    let (trace, plan) = (b"a,0\nb,10\nc,0\nd,nan\n", b"0,2\n0,3\n3,4\n");
-    for (line, skewness, kurtosis) in
-        [("t --plan p --figure skewness", upper, middle), ("t --plan p --figure kurtosis", middle, upper)]
-    {
-        let [.., svg] = make(&options(line), trace, plan).expect("a report");
-        assert!(svg.contains(" height=\"832\" ") && svg.contains(" width=\"1200\" "), "{line}");
-        for (name, (top, bottom)) in [("skewness", skewness), ("kurtosis", kurtosis), ("temperature", lower)] {
-            let (x, y) = text_at(&svg, &format!("font-weight=\"bold\">{name}"));
-            assert!(near(x, ACROSS.0) && near(y, top - 8.0), "{name}");
-            assert!(svg.contains(&format!("<rect x=\"84\" y=\"{top}\" width=\"1096\" height=\"{}\"", bottom - top)), "{name}");
-        }
-        // skewness 0 and 0.707 over two and three places, kurtosis -2 and -1.5, at their own axes
-        let of = |(top, bottom): (f64, f64)| -> Vec<[f64; 4]> {
-            let bars = drawn(&svg, "rect", "#b4500f", ["x", "width", "y", "height"]);
-            bars.into_iter().filter(|bar| bar[1] > 100.0 && (top..=bottom).contains(&bar[2])).collect()
-        };
-        for (panel, ticks, figures) in
-            [(skewness, ["0", "0.6"], [0.0, 0.5f64.sqrt()]), (kurtosis, ["-2.0", "-0.5"], [-2.0, -1.5])]
-        {
-            let bars = of(panel);
-            assert!(near(bars[0][1], at(2.0) - at(0.0)) && near(bars[1][1], at(3.0) - at(0.0)), "{bars:?}");
-            let [low, high] = ticks.map(|tick| (tick.parse::<f64>().expect("a number"), tick_within(&svg, tick, panel)));
-            for (bar, figure) in bars.iter().zip(figures) {
-                let wanted = low.1 + (figure - low.0) / (high.0 - low.0) * (high.1 - low.1);
-                assert!((bar[2] + bar[3] / 2.0 - wanted).abs() < 0.3, "{figure} at {bar:?}, not {wanted}");
-            }
-        }
-        // the row of a reading that is not finite is marked in both, with one key
-        let marks = drawn(&svg, "rect", "#d01c1c", ["x", "y"]);
-        let tops = [upper.0, middle.0, lower.0];
-        assert!(tops.iter().zip(&marks).all(|(top, mark)| near(mark[1], *top) && near(mark[0], at(3.0))), "{marks:?}");
-        assert_eq!(svg.matches(">figure not finite<").count(), 1);
-        assert!(!svg.contains("figure missing"));
-        let readings = path(&svg, "#1f5f99");
-        assert!(readings.iter().all(|(_, y)| (lower.0..=lower.1).contains(y)), "{readings:?}");
-    }
-    let [text, csv, svg] = make(&options("t --plan p --figure shape --unbiased"), trace, plan).expect("a report");
-    let missing = drawn(&svg, "rect", "#8c8c8c", ["x", "width", "y", "height"]);
-    // row 0 and row 2 in the skewness's panel, all three in the kurtosis's; overlapping ones are one
-    let in_panel = |(top, bottom): (f64, f64)| missing.iter().filter(move |mark| (top..=bottom).contains(&mark[2]));
-    assert!(in_panel(upper).all(|mark| near(mark[2] + mark[3], upper.1)) && in_panel(upper).count() == 2, "{missing:?}");
-    assert!(in_panel(middle).all(|mark| near(mark[1], ACROSS.1 - ACROSS.0)) && in_panel(middle).count() == 1, "{missing:?}");
-    assert!(csv.contains("\n1,,0,3,a,c,3,1.73205080756887") && csv.contains(",,-,\n2,"), "{csv}");
-    assert!(text.contains("-  skewness missing, in 2 rows:") && text.contains("-  kurtosis missing, in 3 rows:"), "{text}");
-}
-
-/// A figure may be finite where the other one is not.
-#[test]
-fn each_figure_has_its_own_mark() {
-    let (trace, plan) = (b"a,1e100\nb,-1e100\nc,9e100\n", b"0,3\n");
-    let [text, csv, _] = make(&options("t --plan p --figure kurtosis"), trace, plan).expect("a report");
-    assert!(
-        csv.starts_with("row,label,start,end,from,to,valid,figure,mark,skewness,skewness_mark\n0,,0,3,a,c,3,NaN,not finite,0."),
-        "{csv}"
-    );
-    assert!(csv.ends_with(",\n") && csv.matches("not finite").count() == 1, "{csv}");
-    assert!(text.contains("!  kurtosis not finite, in 1 row:") && !text.contains("skewness not finite"), "{text}");
-    let [text, csv, _] = make(&options("t --plan p --figure skewness"), trace, plan).expect("a report");
-    assert!(csv.contains(",figure,mark,kurtosis,kurtosis_mark\n") && csv.ends_with(",,NaN,not finite\n"), "{csv}");
-    assert!(text.contains("  skewness  kurtosis\n") && text.contains("       NaN !\n"), "{text}");
 }
 
 /// Both traces above, the figure below, on the axis of a correlation.

@@ -141,7 +141,7 @@ fn documented() -> Signatures {
 #[test]
 fn every_entry_is_declared_as_documented_and_as_exported() {
     let (rust, rattle, documented) = (written(RUST, "fn "), written(RATTLE, "pub extern \"C\" fn "), documented());
-    assert_eq!(rattle.len(), 32);
+    assert_eq!(rattle.len(), 34);
     for (name, signature) in &rattle {
         assert_eq!(rust.get(name), Some(signature), "{name} of src/abi.rs and of the Rattle source");
         assert_eq!(documented.get(name), Some(signature), "{name} of docs/ABI.md and of the Rattle source");

@@ -1,6 +1,6 @@
 //! The lowest and the highest reading of windows: what is given and what is missing, by hand, and random calls against every place of
 //! every window looked at afresh.
-use crate::lists::{AnyCall, Asked, Rng};
+use crate::lists::{bytes_of, Lengths, Rng};
 use moments::*;
 
 /// What a row should have: whether there is a variance, and the bits of lowest and highest.
@@ -19,12 +19,44 @@ fn wanted(trace: &[f64], map: Option<&[u8]>, (start, end): (usize, usize), setti
     let bits = |x: Option<&f64>| x.map(|x| if *x == 0.0 { 0 } else { x.to_bits() });
     (enough && valid.len() > ddof, [bits(finite.first()), bits(finite.last())])
 }
-fn columns(Answer { variance, lowest, highest }: Answer) -> [Option<f64>; 3] {
-    [variance, lowest, highest]
+/// Where a fixed window's row starts and ends: so many places before its own, and so many from its own on.
+fn bounds(Window { size, center }: Window, n: usize, row: usize) -> (usize, usize) {
+    let from_own = if center { size.div_ceil(2) } else { size.min(1) };
+    (row.saturating_sub(size - from_own), row.saturating_add(from_own).min(n))
 }
-fn found(answer: Answer) -> Wanted {
-    let [variance, extremes @ ..] = columns(answer);
-    (variance.is_some(), extremes.map(|x| x.map(f64::to_bits)))
+fn found(Answer { variance, lowest, highest }: Answer) -> Wanted {
+    (variance.is_some(), [lowest, highest].map(|x| x.map(f64::to_bits)))
+}
+
+/// Numbers, zeros of both signs, the smallest and the largest there are, and what is not finite.
+fn any_reading(rng: &mut Rng, kinds: u64) -> f64 {
+    let special = [0.0, -0.0, 5e-324, -5e-324, f64::MAX, f64::MIN, f64::NAN, -f64::NAN, f64::INFINITY, f64::NEG_INFINITY];
+    match rng.word() % kinds {
+        0 => special[rng.word() as usize % special.len()],
+        1 => f64::from_bits(0x7FF0_0000_0000_0001 | rng.word()),
+        _ => (rng.word() % 64) as f64 / 8.0 - 7.0,
+    }
+}
+/// No map, one of ones, one with bytes behind, one of noise, one of zeros.
+fn any_map(rng: &mut Rng, n: usize) -> Option<Vec<u8>> {
+    let bytes = n.div_ceil(8) + if rng.word() % 2 == 0 { 0 } else { (rng.word() % 9) as usize };
+    match rng.word() % 5 {
+        0 | 1 => None,
+        2 => Some(vec![0xFF; bytes]),
+        3 => Some((0..bytes).map(|_| rng.word() as u8 | rng.word() as u8).collect()),
+        _ => Some((0..bytes).map(|_| if rng.word() % 2 == 0 { 0 } else { rng.word() as u8 }).collect()),
+    }
+}
+/// Rows whose starts and ends do not fall, some of them empty.
+fn any_rows(rng: &mut Rng, n: usize) -> (Vec<u32>, Vec<u32>) {
+    let mut starts: Vec<usize> = (0..12).map(|_| rng.word() as usize % (n + 1)).collect();
+    starts.sort_unstable();
+    let mut last = 0;
+    let rows = starts.into_iter().map(|start| {
+        last = (start + rng.word() as usize % 9).max(last).min(n);
+        (start as u32, last as u32)
+    });
+    rows.unzip()
 }
 
 #[test]
@@ -32,21 +64,58 @@ fn random_calls_answer_as_every_place_looked_at() {
     let mut rng = Rng(4);
     // rows by what they have: neither, variance alone, extremes alone, all
     let mut seen = [[0; 4]; 2];
-    for number in 0..3000 {
-        let call = AnyCall::new(&mut rng, number);
-        let (trace, map) = (&call.trace, call.map());
-        let setting = Setting::var([0, 1, 2, 255][rng.word() as usize % 4]).min_periods(call.min_periods);
-        let by_plan = plan_var(trace, map, call.plan(), setting).expect("accepted");
-        let fixed = rolling_var(trace, map, call.window, setting).expect("accepted");
-        let answers = [by_plan, fixed].map(|answers| answers.into_iter().map(columns).collect());
-        call.check(Asked::Var(setting), answers, &mut seen, |bounds, [variance, lowest, highest]| {
-            let wanted = wanted(trace, map, bounds, setting);
-            let found = found(Answer { variance, lowest, highest });
-            assert_eq!(found, wanted, "{bounds:?} of {trace:?}, map {map:02X?}, {setting:?}");
-            [wanted.0, wanted.1[0].is_some()]
+    for call in 0..3000 {
+        let n = (rng.word() % if call % 10 == 0 { 150 } else { 20 }) as usize;
+        let kinds = [1, 2, 3, 9][rng.word() as usize % 4];
+        let trace: Vec<f64> = (0..n).map(|_| any_reading(&mut rng, kinds)).collect();
+        let map = any_map(&mut rng, n);
+        let map = map.as_deref();
+        let ddof = [0, 1, 2, 255][rng.word() as usize % 4];
+        let min = [0, 1, 2, 5, 21, usize::MAX][rng.word() as usize % 6];
+        let setting = Setting::var(ddof).min_periods(min);
+        let (starts, ends) = any_rows(&mut rng, n);
+        let (plan, more) = (Plan::new(&starts, &ends), (rng.word() % 3) as usize);
+        let answers = plan_var(&trace, map, plan, setting).expect("accepted");
+        for (row, (answer, (start, end))) in answers.iter().zip(plan.rows()).enumerate() {
+            let wanted = wanted(&trace, map, (start as usize, end as usize), setting);
+            assert_eq!(found(*answer), wanted, "row {row} of {trace:?}, map {map:02X?}, {plan:?}, {setting:?}");
+            seen[0][usize::from(wanted.0) + 2 * usize::from(wanted.1[0].is_some())] += 1;
+        }
+        assert_eq!(answers.len(), starts.len());
+        held_as_answered(&answers, &{
+            let needed = ([n, 0], setting.work(plan.widest()), starts.len());
+            let lent = Lengths::longer(needed, more);
+            lent.plan(needed, (&bytes_of(&trace), map), plan, setting.into()).expect("accepted").split_off(n + more)
+        });
+
+        let size = [0, 1, 2, 3, 7, n, n + 1, usize::MAX][rng.word() as usize % 8];
+        let window = Window { size, center: rng.word() % 2 == 0 };
+        let answers = rolling_var(&trace, map, window, setting).expect("accepted");
+        for (row, answer) in answers.iter().enumerate() {
+            let wanted = wanted(&trace, map, bounds(window, n, row), setting);
+            assert_eq!(found(*answer), wanted, "row {row} of {trace:?}, map {map:02X?}, {window:?}, {setting:?}");
+            seen[1][usize::from(wanted.0) + 2 * usize::from(wanted.1[0].is_some())] += 1;
+        }
+        assert_eq!(answers.len(), n);
+        held_as_answered(&answers, &{
+            let needed = ([0; 2], setting.work(size.min(n)), n);
+            Lengths { readings: [0; 2], ..Lengths::longer(needed, more) }
+                .rolling(needed, (&trace, map), window, setting.into())
+                .expect("accepted")
         });
     }
     assert!(seen.iter().flatten().all(|rows| *rows > 400), "{seen:?}");
+}
+/// The six lists, one behind another, hold the answers: +0.0 and 0 where one is missing.
+fn held_as_answered(answers: &[Answer], held: &[u64]) {
+    let length = held.len() / 6;
+    let lists: Vec<&[u64]> = (0..6).map(|k| &held[k * length..(k + 1) * length]).collect();
+    for (row, Answer { variance, lowest, highest }) in answers.iter().enumerate() {
+        for (k, answer) in [variance, lowest, highest].into_iter().enumerate() {
+            let held = (lists[2 * k][row], lists[2 * k + 1][row]);
+            assert_eq!(held, answer.map_or((0, 0), |x| (x.to_bits(), 1)), "row {row}, column {k}");
+        }
+    }
 }
 
 /// The answers of one row over a whole trace.

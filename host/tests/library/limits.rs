@@ -1,5 +1,5 @@
 //! 16,777,216 readings, and as many rows, are taken; one more is refused, and nothing is written.
-use crate::lists::{Asked, Lengths, Needed};
+use crate::lists::{Lengths, Needed};
 use moments::*;
 
 fn over(readings: usize) -> Refusal {
@@ -18,17 +18,12 @@ const FIGURES: [(Setting, f64); 3] = [
     (Setting { figure: Figure::Shape(Shape::Skew { bias: true }), min_periods: 1 }, 0.0),
     (Setting { figure: Figure::Shape(Shape::Kurtosis { fisher: true, bias: true }), min_periods: 1 }, -2.0),
 ];
-/// What the functions that write to lent lists are asked.
-const ASKED: [Asked; 2] = [
-    Asked::Var(Setting { figure: Var { ddof: 0 }, min_periods: 1 }),
-    Asked::Shape(Setting { figure: SkewKurtosis { skew_bias: true, fisher: true, kurtosis_bias: true }, min_periods: 1 }),
-];
 /// Each figure of a window of 0 and 1 in both traces.
 const PAIR_FIGURES: [(Setting<PairFigure>, f64); 2] = [
     (Setting { figure: PairFigure::Cov { ddof: 0 }, min_periods: 2 }, 0.25),
     (Setting { figure: PairFigure::PearsonCorr, min_periods: 2 }, 1.0),
 ];
-const LENT: Lengths = Lengths { readings: [3, 4], work: 24, columns: [[2; 2]; 3] };
+const LENT: Lengths = Lengths { readings: [3, 4], work: 24, figures: 2, present: 2, extremes: [2; 4] };
 /// Of a call on lists of any bits none may change.
 const NOTHING: Needed = ([0; 2], 0, 0);
 fn refused(result: Result<Vec<u64>, Refusal>) -> Result<(), Refusal> {
@@ -69,9 +64,7 @@ fn readings_of_fixed_windows() {
         assert_eq!((answers.len(), answers[1], answers[MOST - 1]), (MOST, Some(wanted), Some(wanted)));
         drop(answers);
         assert_eq!(rolling(&trace, None, Window::trailing(2), setting).map(drop), Err(over(MOST + 1)));
-    }
-    for asked in ASKED {
-        assert_eq!(refused(LENT.rolling(NOTHING, (&trace, None), Window::trailing(2), asked)), Err(over(MOST + 1)));
+        assert_eq!(refused(LENT.rolling(NOTHING, (&trace, None), Window::trailing(2), setting)), Err(over(MOST + 1)));
     }
     let answers = rolling_var_weights(&trace[..MOST], None, Window::trailing(2), 2, &[1.0, 1.0]).expect("as many as are taken");
     assert_eq!((answers[0], answers[MOST - 1]), (None, Some(0.25)));
@@ -135,19 +128,15 @@ fn readings_of_plans() {
     let trace = one_more();
     let rows = Plan::new(&[0, MOST as u32 - 2], &[2, MOST as u32]);
     let bytes = vec![0; 8 * MOST + 8];
-    for asked in ASKED {
-        assert_eq!(refused(LENT.plan(NOTHING, (&bytes, None), Plan::new(&[3], &[2]), asked)), Err(over(MOST + 1)));
-    }
     for (setting, wanted) in FIGURES {
+        let result = LENT.plan(NOTHING, (&bytes, None), Plan::new(&[3], &[2]), setting);
+        assert_eq!(refused(result), Err(over(MOST + 1)));
         assert_eq!(plan(&trace[..MOST], None, rows, setting), Ok(vec![Some(wanted); 2]));
         assert_eq!(plan(&trace, None, Plan::new(&[3], &[2]), setting), Err(over(MOST + 1)));
     }
     // a window of all of them, by the figures that need most work
     let rows = Plan::new(&[0], &[MOST as u32]);
-    let skew = trace[..MOST].iter().fold(SkewState::default(), |state, x| state.insert_one(*x));
-    let kurtosis = trace[..MOST].iter().fold(KurtosisState::default(), |state, x| state.insert_one(*x));
-    let both = ShapeAnswer { skew: skew.finalize(true), kurtosis: kurtosis.finalize(true, true) };
-    assert_eq!(plan_skew_kurtosis(&trace[..MOST], None, rows, Setting::skew_kurtosis(true, true, true)), Ok(vec![both]));
+    assert_eq!(plan(&trace[..MOST], None, rows, Setting::kurtosis(true, true)), Ok(vec![Some(-2.0)]));
     let all = Answer { variance: Some(0.25), lowest: Some(0.0), highest: Some(1.0) };
     assert_eq!(plan_var(&trace[..MOST], None, rows, Setting::var(0)), Ok(vec![all]));
 }
@@ -177,12 +166,10 @@ fn rows_of_plans() {
     starts.push(1);
     ends.push(1);
     let both = Refusal::PlanLengths { starts: MOST + 1, ends: MOST + 1 };
-    let rows = Plan::new(&starts, &ends);
     for (setting, _) in FIGURES {
+        let rows = Plan::new(&starts, &ends);
         assert_eq!(plan(&[0.0, 1.0], None, rows, setting), Err(both));
-    }
-    for asked in ASKED {
-        assert_eq!(refused(LENT.plan(NOTHING, (&[0; 16], None), rows, asked)), Err(both));
+        assert_eq!(refused(LENT.plan(NOTHING, (&[0; 16], None), rows, setting)), Err(both));
     }
     for (setting, wanted) in PAIR_FIGURES {
         let (traces, all, more) = ([[0.0, 1.0]; 2], Plan::new(&starts[..MOST], &ends[..MOST]), Plan::new(&starts, &ends));

@@ -8,8 +8,6 @@ use moments::*;
 const MOST_BEHIND: usize = 64;
 const READINGS: [usize; 9] = [0, 1, 7, 8, 9, 63, 64, 65, 130];
 const SHAPES: [Shape; 2] = [Shape::Skew { bias: true }, Shape::Kurtosis { fisher: true, bias: true }];
-const BOTH: Setting<SkewKurtosis> =
-    Setting { figure: SkewKurtosis { skew_bias: true, fisher: false, kurtosis_bias: true }, min_periods: 1 };
 const PAIR_FIGURES: [PairFigure; 2] = [PairFigure::Cov { ddof: 0 }, PairFigure::PearsonCorr];
 /// What spare bits and the bytes behind may be: zeros, ones, noise.
 const FILLS: [fn(&mut Rng) -> u8; 3] = [|_| 0, |_| 0xFF, |rng| rng.word() as u8];
@@ -126,9 +124,6 @@ fn with_lists<E>(needed: Needed, call: impl FnOnce([&mut [f64]; 2], Lists) -> Re
 fn with_var_lists<E>(needed: Needed, call: impl FnOnce(&mut [f64], VarLists) -> Result<(), E>) -> Answer<E> {
     Lengths::longer(needed, 2).run_var(needed, call)
 }
-fn with_shape_lists<E>(needed: Needed, call: impl FnOnce(&mut [f64], ShapeLists) -> Result<(), E>) -> Answer<E> {
-    Lengths::longer(needed, 2).run_shape(needed, call)
-}
 /// A column as an entry takes it.
 fn column(Column { values, present }: Column) -> (*mut f64, usize, *mut u8, usize) {
     (values.as_mut_ptr(), values.len(), present.as_mut_ptr(), present.len())
@@ -190,50 +185,34 @@ fn of_var_fixed(window: Window) -> Entry {
     };
     Entry { name: format!("{window:?} var"), whose: Which::Only, declared: Box::new(declared), safe: Box::new(safe) }
 }
-fn of_shape_plan() -> Entry {
-    let declared = |trace: &[f64], map: &[u8]| {
-        let (bytes, [starts, ends], needed) = plan_of(trace, BOTH);
-        with_shape_lists(needed, |readings, ShapeLists { work, skew, kurtosis }| {
-            let (t, tn, r, rn) = (bytes.as_ptr(), bytes.len(), readings.as_mut_ptr(), readings.len());
-            let (m, mn, s, e, w, wn) = (map.as_ptr(), map.len(), starts.as_ptr(), ends.as_ptr(), work.as_mut_ptr(), work.len());
-            let ((f, fl, p, pn), (k, kn, q, qn)) = (column(skew), column(kurtosis));
-            // SAFETY: pointers and lengths are the slices' and the arrays'.
-            #[rustfmt::skip]
-            let number = unsafe {
-                abi::moments_plan_skew_kurtosis(
-                    t, tn, r, rn, true, m, mn, s, 4, e, 4, 1, true, false, true, w, wn, f, fl, p, pn, k, kn, q, qn,
-                )
-            };
-            accepted(number)
-        })
-    };
-    let safe = |trace: &[f64], map: &[u8]| {
-        let (bytes, [starts, ends], needed) = plan_of(trace, BOTH);
-        let plan = Plan::new(&starts, &ends);
-        with_shape_lists(needed, |readings, lists| plan_skew_kurtosis_into(&bytes, readings, Some(map), plan, BOTH, lists))
-    };
-    Entry { name: "plan skew_kurtosis".into(), whose: Which::Only, declared: Box::new(declared), safe: Box::new(safe) }
-}
-fn of_shape_fixed(window: Window) -> Entry {
-    let needed = move |n: usize| ([0; 2], BOTH.work(window.size.min(n)), n);
+fn of_plan(figure: Shape) -> Entry {
+    let setting = Setting { figure, min_periods: 1 };
     let declared = move |trace: &[f64], map: &[u8]| {
-        let ((t, n, has_map, m, mn), Window { size, center }) = (raw(trace, true, map), window);
-        with_shape_lists(needed(n), |_, ShapeLists { work, skew, kurtosis }| {
-            let (w, wn, (f, fl, p, pn), (k, kn, q, qn)) = (work.as_mut_ptr(), work.len(), column(skew), column(kurtosis));
-            // SAFETY: pointers and lengths are the slices'.
-            #[rustfmt::skip]
-            let number = unsafe {
-                abi::moments_rolling_skew_kurtosis(
-                    t, n, has_map, m, mn, size, 1, center, true, false, true, w, wn, f, fl, p, pn, k, kn, q, qn,
-                )
-            };
-            accepted(number)
+        let (bytes, [starts, ends], needed) = plan_of(trace, setting);
+        with_lists(needed, |[readings, _], Lists { work, figures, present }| {
+            let (t, tn, r, rn) = (bytes.as_ptr(), bytes.len(), readings.as_mut_ptr(), readings.len());
+            let (m, mn, s, e) = (map.as_ptr(), map.len(), starts.as_ptr(), ends.as_ptr());
+            let (w, wn, f, fl) = (work.as_mut_ptr(), work.len(), figures.as_mut_ptr(), figures.len());
+            let (p, pn) = (present.as_mut_ptr(), present.len());
+            // SAFETY: pointers and lengths are the slices' and the arrays'.
+            accepted(unsafe {
+                match figure {
+                    Shape::Skew { bias } => {
+                        abi::moments_plan_skew(t, tn, r, rn, true, m, mn, s, 4, e, 4, 1, bias, w, wn, f, fl, p, pn)
+                    }
+                    Shape::Kurtosis { fisher, bias } => {
+                        abi::moments_plan_kurtosis(t, tn, r, rn, true, m, mn, s, 4, e, 4, 1, fisher, bias, w, wn, f, fl, p, pn)
+                    }
+                }
+            })
         })
     };
     let safe = move |trace: &[f64], map: &[u8]| {
-        with_shape_lists(needed(trace.len()), |_, lists| rolling_skew_kurtosis_into(trace, Some(map), window, BOTH, lists))
+        let (bytes, [starts, ends], needed) = plan_of(trace, setting);
+        let plan = Plan::new(&starts, &ends);
+        with_lists(needed, |[readings, _], lists| plan_into(&bytes, readings, Some(map), plan, setting, lists))
     };
-    Entry { name: format!("{window:?} skew_kurtosis"), whose: Which::Only, declared: Box::new(declared), safe: Box::new(safe) }
+    Entry { name: format!("plan {figure:?}"), whose: Which::Only, declared: Box::new(declared), safe: Box::new(safe) }
 }
 fn of_pair_plan(figure: PairFigure, tried: Tried) -> Entry {
     let setting = Setting { figure, min_periods: 1 };
@@ -271,6 +250,32 @@ fn of_pair_plan(figure: PairFigure, tried: Tried) -> Entry {
         })
     };
     of_two(&format!("plan {figure:?}"), tried, Box::new(declared), Box::new(safe))
+}
+fn of_fixed(figure: Shape, window: Window) -> Entry {
+    let setting = Setting { figure, min_periods: 1 };
+    let needed = move |n: usize| ([0; 2], setting.work(window.size.min(n)), n);
+    let declared = move |trace: &[f64], map: &[u8]| {
+        let ((t, n, has_map, m, mn), Window { size, center }) = (raw(trace, true, map), window);
+        with_lists(needed(n), |_, Lists { work, figures, present }| {
+            let (w, wn, f, fl) = (work.as_mut_ptr(), work.len(), figures.as_mut_ptr(), figures.len());
+            let (p, pn) = (present.as_mut_ptr(), present.len());
+            // SAFETY: pointers and lengths are the slices'.
+            accepted(unsafe {
+                match figure {
+                    Shape::Skew { bias } => {
+                        abi::moments_rolling_skew(t, n, has_map, m, mn, size, 1, center, bias, w, wn, f, fl, p, pn)
+                    }
+                    Shape::Kurtosis { fisher, bias } => {
+                        abi::moments_rolling_kurtosis(t, n, has_map, m, mn, size, 1, center, fisher, bias, w, wn, f, fl, p, pn)
+                    }
+                }
+            })
+        })
+    };
+    let safe = move |trace: &[f64], map: &[u8]| {
+        with_lists(needed(trace.len()), |_, lists| rolling_into(trace, Some(map), window, setting, lists))
+    };
+    Entry { name: format!("{window:?} {figure:?}"), whose: Which::Only, declared: Box::new(declared), safe: Box::new(safe) }
 }
 fn of_pair_fixed(figure: PairFigure, window: Window, tried: Tried) -> Entry {
     let setting = Setting { figure, min_periods: 1 };
@@ -336,8 +341,10 @@ fn entries() -> Vec<Entry> {
             entries.extend([of_pair_plan(figure, tried), of_pair_fixed(figure, window, tried)]);
         }
     }
+    for (figure, window) in SHAPES.into_iter().zip([Window::centered(4), Window::trailing(3)]) {
+        entries.extend([of_plan(figure), of_fixed(figure, window)]);
+    }
     entries.extend([of_var_plan(), of_var_fixed(Window::trailing(5))]);
-    entries.extend([of_shape_plan(), of_shape_fixed(Window::centered(4)), of_shape_fixed(Window::trailing(3))]);
     entries
 }
 /// A trace and its map of just the bytes that it needs, spare bits 0. The last place is valid, and a place that is not holds what would
@@ -386,7 +393,7 @@ fn every_entry_that_is_lent_a_map_is_tried() {
     let declarations = include_str!("../../src/abi.rs").split("pub fn ").skip(1).filter_map(|text| text.split_once('('));
     let lent_a_map = declarations.filter(|(_, rest)| rest.split(';').next().is_some_and(|head| head.contains("map_len: usize")));
     let names: Vec<&str> = lent_a_map.map(|(name, _)| name).collect();
-    assert_eq!(names.len(), 16);
+    assert_eq!(names.len(), 18);
     for name in names {
         let called = ["(", ","].map(|after| include_str!("maps.rs").contains(&format!("abi::{name}{after}")));
         assert!(called.contains(&true), "{name}");
@@ -473,13 +480,6 @@ fn answers_are_those_of_the_exact_map() {
                 let answers = plan_var(trace, Some(map), Plan::new(&starts, &ends), VAR.min_periods(2)).expect("accepted");
                 let rows = answers.into_iter().chain(rolling_var(trace, Some(map), Window::trailing(5), VAR).expect("accepted"));
                 rows.map(|row| [row.variance, row.lowest, row.highest].map(|x| x.map(f64::to_bits))).collect::<Vec<_>>()
-            };
-            assert_eq!(answers(map), answers(exact));
-            let answers = |map: &[u8]| {
-                let answers = plan_skew_kurtosis(trace, Some(map), Plan::new(&starts, &ends), BOTH.min_periods(2));
-                let fixed = rolling_skew_kurtosis(trace, Some(map), Window::trailing(5), BOTH);
-                let rows = answers.expect("accepted").into_iter().chain(fixed.expect("accepted"));
-                rows.map(|row| [row.skew, row.kurtosis].map(|x| x.map(f64::to_bits))).collect::<Vec<_>>()
             };
             assert_eq!(answers(map), answers(exact));
             let figures = SHAPES.map(Figure::Shape).into_iter().chain([Figure::Var(VAR.figure)]);

@@ -1,6 +1,6 @@
 //! Every refusal of every entry, alone and before those of higher numbers, with lists that hold any bits: the refusal says what is
 //! wrong and nothing is written. Then what is accepted at the edge: empty slices, odd addresses, maps that are not lent, NaNs.
-use crate::lists::{bits, bytes_of, raw, state_of, Asked, Lengths, Rng};
+use crate::lists::{bits, bytes_of, raw, state_of, Lengths, Rng};
 use moments::*;
 
 const NAN: u64 = 0x7FF8_0000_0000_0000;
@@ -8,11 +8,6 @@ const SETTINGS: [Setting; 3] = [
     Setting { figure: Figure::Var(Var { ddof: 1 }), min_periods: 1 },
     Setting { figure: Figure::Shape(Shape::Skew { bias: false }), min_periods: 0 },
     Setting { figure: Figure::Shape(Shape::Kurtosis { fisher: true, bias: true }), min_periods: 2 },
-];
-const ASKED: [Asked; 3] = [
-    Asked::Var(Setting { figure: Var { ddof: 1 }, min_periods: 1 }),
-    Asked::Shape(Setting { figure: SkewKurtosis { skew_bias: false, fisher: true, kurtosis_bias: true }, min_periods: 0 }),
-    Asked::Shape(Setting { figure: SkewKurtosis { skew_bias: true, fisher: false, kurtosis_bias: false }, min_periods: 2 }),
 ];
 const PAIR_SETTINGS: [Setting<PairFigure>; 2] = [
     Setting { figure: PairFigure::Cov { ddof: 1 }, min_periods: 1 },
@@ -42,7 +37,7 @@ fn try_each<C: Clone + PartialEq>(call: &C, faults: &[Fault<C>], run: impl Fn(&C
 
 #[derive(Clone, PartialEq)]
 struct PlanCall {
-    asked: Asked,
+    setting: Setting,
     trace: Vec<u8>,
     map: Option<Vec<u8>>,
     starts: Vec<u32>,
@@ -51,49 +46,29 @@ struct PlanCall {
 }
 impl PlanCall {
     /// Nine readings, rows (0, 4), (2, 6), (3, 9), lists that are two places longer than is needed.
-    fn new(asked: Asked) -> Self {
+    fn new(setting: Setting) -> Self {
         let trace = (0..9).flat_map(|i| (f64::from(i) * 1.5).to_le_bytes()).collect();
-        let lent = Lengths::longer(([9, 0], asked.work(6), 3), 2);
-        PlanCall { asked, trace, map: Some(vec![0b1011_0111, 0b1]), starts: vec![0, 2, 3], ends: vec![4, 6, 9], lent }
+        let lent = Lengths::longer(([9, 0], setting.work(6), 3), 2);
+        PlanCall { setting, trace, map: Some(vec![0b1011_0111, 0b1]), starts: vec![0, 2, 3], ends: vec![4, 6, 9], lent }
     }
     fn run(&self) -> Result<(), Refusal> {
         let (plan, needed) =
-            (Plan::new(&self.starts, &self.ends), ([self.trace.len() / 8, 0], self.asked.work(6), self.starts.len()));
-        self.lent.plan(needed, (&self.trace, self.map.as_deref()), plan, self.asked).map(drop)
+            (Plan::new(&self.starts, &self.ends), ([self.trace.len() / 8, 0], self.setting.work(6), self.starts.len()));
+        self.lent.plan(needed, (&self.trace, self.map.as_deref()), plan, self.setting).map(drop)
     }
 }
-impl LentCall for PlanCall {
-    const ROWS: usize = 3;
-    fn lent(&mut self) -> &mut Lengths {
-        &mut self.lent
-    }
+fn is_var(setting: Setting) -> bool {
+    matches!(setting.figure, Figure::Var(_))
 }
 /// A list that is too short.
 fn short(list: List, length: usize, needed: usize) -> Refusal {
     Refusal::ListTooShort { list, length, needed }
 }
-/// A call that is lent lists for the answers of so many rows.
-trait LentCall {
-    const ROWS: usize;
-    fn lent(&mut self) -> &mut Lengths;
-}
-/// One list of answers is a place too short, and those before it are just as long as is needed.
-fn shorten<C: LentCall, const LIST: usize>(call: &mut C) {
-    let lists = call.lent().columns.as_flattened_mut();
-    lists[..LIST].fill(C::ROWS);
-    lists[LIST] = C::ROWS - 1;
-}
-/// The fault of each list that what is asked is answered in.
-fn short_lists<C: LentCall>(asked: Asked) -> impl Iterator<Item = Fault<C>> {
-    let shorten: [fn(&mut C); 6] =
-        [shorten::<C, 0>, shorten::<C, 1>, shorten::<C, 2>, shorten::<C, 3>, shorten::<C, 4>, shorten::<C, 5>];
-    shorten.into_iter().zip(asked.lists()).map(|(fault, list)| (fault, short(*list, C::ROWS - 1, C::ROWS)))
-}
 
 #[test]
 fn plans_are_refused_by_the_first_number_that_applies() {
-    for asked in ASKED {
-        let needed = asked.work(6);
+    for setting in SETTINGS {
+        let needed = setting.work(6);
         let row = Refusal::BelowRowBefore { row: 2, bounds: (1, 9), before: (2, 6) };
         let mut faults: Vec<Fault<PlanCall>> = vec![
             (|c| c.trace.truncate(71), Refusal::TraceBytes { trace: Which::Only, bytes: 71 }),
@@ -102,18 +77,28 @@ fn plans_are_refused_by_the_first_number_that_applies() {
             (|c| c.starts[1] = 7, Refusal::StartAfterEnd { row: 1, start: 7, end: 6 }),
             (|c| c.ends[2] = 10, Refusal::EndPastTrace { row: 2, end: 10, readings: 9 }),
             (|c| c.starts[2] = 1, row),
-            (|c| c.lent.readings = [8, 0], short(List::Readings(Which::Only), 8, 9)),
-            (|c| c.lent.work = c.asked.work(6) - 1, Refusal::WorkTooShort { length: needed - 1, needed }),
+            (|c| c.lent.figures = 2, short(List::Figures, 2, 3)),
+            (|c| (c.lent.figures, c.lent.present) = (3, 0), short(List::Present, 0, 3)),
+            (|c| (c.lent.figures, c.lent.present, c.lent.readings) = (3, 3, [8, 0]), short(List::Readings(Which::Only), 8, 9)),
+            (|c| c.lent.work = c.setting.work(6) - 1, Refusal::WorkTooShort { length: needed - 1, needed }),
         ];
-        faults.splice(6..6, short_lists(asked));
-        try_each(&PlanCall::new(asked), &faults, PlanCall::run);
+        if is_var(setting) {
+            let extremes: [Fault<PlanCall>; 4] = [
+                (|c| c.lent.extremes = [2, 3, 3, 3], short(List::Lowest, 2, 3)),
+                (|c| c.lent.extremes = [3, 2, 2, 2], short(List::LowestPresent, 2, 3)),
+                (|c| c.lent.extremes = [3, 3, 2, 0], short(List::Highest, 2, 3)),
+                (|c| c.lent.extremes = [3, 3, 3, 2], short(List::HighestPresent, 2, 3)),
+            ];
+            faults.splice(8..8, extremes);
+        }
+        try_each(&PlanCall::new(setting), &faults, PlanCall::run);
         // rows are tested one after the other, not number by number
         let rows: [Fault<PlanCall>; 3] = [
             (|c| c.ends[0] = 10, Refusal::EndPastTrace { row: 0, end: 10, readings: 9 }),
             (|c| c.ends[1] = 3, Refusal::BelowRowBefore { row: 1, bounds: (2, 3), before: (0, 4) }),
             (|c| c.starts[2] = u32::MAX, Refusal::StartAfterEnd { row: 2, start: u32::MAX, end: 9 }),
         ];
-        try_each(&PlanCall::new(asked), &rows, PlanCall::run);
+        try_each(&PlanCall::new(setting), &rows, PlanCall::run);
     }
 }
 
@@ -129,7 +114,7 @@ struct PairPlanCall {
 }
 impl PairPlanCall {
     fn new(setting: Setting<PairFigure>) -> Self {
-        let PlanCall { trace, map, starts, ends, lent, .. } = PlanCall::new(ASKED[0]);
+        let PlanCall { trace, map, starts, ends, lent, .. } = PlanCall::new(SETTINGS[0]);
         let second = (0..9).flat_map(|i| (f64::from(i * i) - 7.0).to_le_bytes()).collect();
         let lent = Lengths { readings: [11; 2], work: setting.work(6) + 2, ..lent };
         PairPlanCall { setting, traces: [trace, second], maps: [map, Some(vec![0xFF, 1, 0])], starts, ends, lent }
@@ -161,9 +146,9 @@ fn plans_of_two_traces_are_refused_by_the_first_number_that_applies() {
             (|c| c.starts[1] = 7, Refusal::StartAfterEnd { row: 1, start: 7, end: 6 }),
             (|c| c.ends[2] = 10, Refusal::EndPastTrace { row: 2, end: 10, readings: 9 }),
             (|c| c.starts[2] = 1, Refusal::BelowRowBefore { row: 2, bounds: (1, 9), before: (2, 6) }),
-            (|c| c.lent.columns[0] = [2, 3], short(List::Figures, 2, 3)),
-            (|c| c.lent.columns[0] = [3, 0], short(List::Present, 0, 3)),
-            (|c| c.lent.readings = [8, 11], short(List::Readings(Which::First), 8, 9)),
+            (|c| c.lent.figures = 2, short(List::Figures, 2, 3)),
+            (|c| (c.lent.figures, c.lent.present) = (3, 0), short(List::Present, 0, 3)),
+            (|c| (c.lent.present, c.lent.readings) = (3, [8, 11]), short(List::Readings(Which::First), 8, 9)),
             (|c| c.lent.readings = [9, 8], short(List::Readings(Which::Second), 8, 9)),
             (|c| c.lent.work = c.setting.work(6) - 1, Refusal::WorkTooShort { length: needed - 1, needed }),
         ];
@@ -187,7 +172,7 @@ fn plans_of_two_traces_are_refused_by_the_first_number_that_applies() {
 
 #[derive(Clone, PartialEq)]
 struct WindowCall {
-    asked: Asked,
+    setting: Setting,
     window: Window,
     trace: Vec<f64>,
     map: Option<Vec<u8>>,
@@ -195,32 +180,26 @@ struct WindowCall {
     lent: Lengths,
 }
 impl WindowCall {
-    fn new(asked: Asked) -> Self {
+    fn new(setting: Setting) -> Self {
         WindowCall {
-            asked,
+            setting,
             window: Window::trailing(3),
             trace: (0..9).map(|i| f64::from(i) * -2.5).collect(),
             map: None,
             weights: vec![1.0, 2.0, 0.5],
-            lent: Lengths { readings: [0; 2], ..Lengths::longer(([0; 2], asked.work(3), 9), 2) },
+            lent: Lengths { readings: [0; 2], ..Lengths::longer(([0; 2], setting.work(3), 9), 2) },
         }
     }
     fn run(&self) -> Result<(), Refusal> {
-        let needed = ([0; 2], self.asked.work(3), 9);
-        self.lent.rolling(needed, (&self.trace, self.map.as_deref()), self.window, self.asked).map(drop)
+        let needed = ([0; 2], self.setting.work(3), 9);
+        self.lent.rolling(needed, (&self.trace, self.map.as_deref()), self.window, self.setting).map(drop)
     }
     fn run_weights(&self) -> Result<(), Refusal> {
-        let map = self.map.as_deref();
+        let (map, min) = (self.map.as_deref(), self.setting.min_periods);
         self.lent.run(([0; 2], 0, 9), |_, lists| {
-            rolling_var_weights_into(&self.trace, map, self.window, 1, &self.weights, lists.figures, lists.present)
+            rolling_var_weights_into(&self.trace, map, self.window, min, &self.weights, lists.figures, lists.present)
         })?;
         Ok(())
-    }
-}
-impl LentCall for WindowCall {
-    const ROWS: usize = 9;
-    fn lent(&mut self) -> &mut Lengths {
-        &mut self.lent
     }
 }
 #[derive(Clone, PartialEq)]
@@ -233,7 +212,7 @@ struct PairWindowCall {
 }
 impl PairWindowCall {
     fn new(setting: Setting<PairFigure>) -> Self {
-        let WindowCall { window, trace, lent, .. } = WindowCall::new(ASKED[0]);
+        let WindowCall { window, trace, lent, .. } = WindowCall::new(SETTINGS[0]);
         let second = trace.iter().map(|x| 3.0 - x * x).collect();
         let lent = Lengths { work: setting.work(3) + 2, ..lent };
         PairWindowCall { setting, window, traces: [trace, second], maps: [None, None], lent }
@@ -251,14 +230,24 @@ const SHORT_PRESENT: Refusal = Refusal::ListTooShort { list: List::Present, leng
 
 #[test]
 fn fixed_windows_are_refused_by_the_first_number_that_applies() {
-    for asked in ASKED {
-        let needed = asked.work(3);
+    for setting in SETTINGS {
+        let needed = setting.work(3);
         let mut faults: Vec<Fault<WindowCall>> = vec![
             (|c| c.map = Some(vec![1]), Refusal::MapLength { trace: Which::Only, bytes: 1, readings: 9 }),
-            (|c| c.lent.work = c.asked.work(3) - 1, Refusal::WorkTooShort { length: needed - 1, needed }),
+            (|c| c.lent.figures = 8, SHORT_FIGURES),
+            (|c| c.lent.present = 8, SHORT_PRESENT),
+            (|c| c.lent.work = c.setting.work(3) - 1, Refusal::WorkTooShort { length: needed - 1, needed }),
         ];
-        faults.splice(1..1, short_lists(asked));
-        try_each(&WindowCall::new(asked), &faults, WindowCall::run);
+        if is_var(setting) {
+            let extremes: [Fault<WindowCall>; 4] = [
+                (|c| c.lent.extremes[0] = 8, short(List::Lowest, 8, 9)),
+                (|c| c.lent.extremes[1] = 8, short(List::LowestPresent, 8, 9)),
+                (|c| c.lent.extremes[2] = 8, short(List::Highest, 8, 9)),
+                (|c| c.lent.extremes[3] = 8, short(List::HighestPresent, 8, 9)),
+            ];
+            faults.splice(3..3, extremes);
+        }
+        try_each(&WindowCall::new(setting), &faults, WindowCall::run);
     }
 }
 
@@ -271,8 +260,8 @@ fn fixed_windows_of_two_traces_are_refused_by_the_first_number_that_applies() {
             (|c| _ = c.traces[1].pop(), Refusal::LengthsDiffer { first: 9, second: 8 }),
             (|c| c.maps[0] = Some(vec![1]), map(Which::First, 1)),
             (|c| c.maps[1] = Some(vec![1]), map(Which::Second, 1)),
-            (|c| c.lent.columns[0][0] = 8, SHORT_FIGURES),
-            (|c| c.lent.columns[0][1] = 8, SHORT_PRESENT),
+            (|c| c.lent.figures = 8, SHORT_FIGURES),
+            (|c| c.lent.present = 8, SHORT_PRESENT),
             (|c| c.lent.work = c.setting.work(3) - 1, Refusal::WorkTooShort { length: needed - 1, needed }),
         ];
         try_each(&PairWindowCall::new(setting), &faults, PairWindowCall::run);
@@ -291,10 +280,10 @@ fn weights_are_refused_by_the_first_number_that_applies() {
         (|c| c.map = Some(vec![0xFF; 2]), Refusal::WeightsWithMap),
         (|c| c.weights = vec![2.0, -2.0, -0.0], Refusal::WeightsSumToZero),
         (|c| c.window.size = 4, Refusal::WeightCount { weights: 3, window_size: 4 }),
-        (|c| c.lent.columns[0][0] = 8, SHORT_FIGURES),
-        (|c| c.lent.columns[0][1] = 8, SHORT_PRESENT),
+        (|c| c.lent.figures = 8, SHORT_FIGURES),
+        (|c| c.lent.present = 8, SHORT_PRESENT),
     ];
-    try_each(&WindowCall::new(ASKED[0]), &faults, WindowCall::run_weights);
+    try_each(&WindowCall::new(SETTINGS[0]), &faults, WindowCall::run_weights);
 }
 
 /// The number that an entry answers, with a state array that a refusal must leave.
@@ -426,18 +415,6 @@ fn each_refusal_is_a_sentence() {
             12,
             "the lent list of the highest readings' present bytes has 2 places, but needs 3, one for each row",
         ),
-        (short(List::Skew, 2, 3), 12, "the lent list of skewness figures has 2 places, but needs 3, one for each row"),
-        (
-            short(List::SkewPresent, 0, 1),
-            12,
-            "the lent list of the skewness figures' present bytes has 0 places, but needs 1, one for each row",
-        ),
-        (short(List::Kurtosis, 1, 3), 12, "the lent list of kurtosis figures has 1 place, but needs 3, one for each row"),
-        (
-            short(List::KurtosisPresent, 2, 3),
-            12,
-            "the lent list of the kurtosis figures' present bytes has 2 places, but needs 3, one for each row",
-        ),
         (
             short(List::Readings(Which::Only), 0, 1),
             12,
@@ -473,16 +450,14 @@ fn empty_slices_are_answered() {
         for setting in SETTINGS {
             assert_eq!(plan(&[], map, Plan::default(), setting).as_deref(), Ok(&none[..]));
             assert_eq!(plan(&[], map, Plan::new(&[0], &[0]), setting), Ok(vec![None]));
+            let (nothing, lent) = (([0; 2], 0, 0), Lengths::longer(([0; 2], 0, 0), 0));
+            assert_eq!(lent.plan(nothing, (&[], map), Plan::default(), setting), Ok(vec![]));
+            assert_eq!(lent.rolling(nothing, (&[], map), Window::trailing(3), setting), Ok(vec![]));
             for size in [0, 1, 2, 1 << 63, usize::MAX] {
                 for window in [Window::trailing(size), Window::centered(size)] {
                     assert_eq!(rolling(&[], map, window, setting).as_deref(), Ok(&none[..]));
                 }
             }
-        }
-        for asked in ASKED {
-            let (nothing, lent) = (([0; 2], 0, 0), Lengths::longer(([0; 2], 0, 0), 0));
-            assert_eq!(lent.plan(nothing, (&[], map), Plan::default(), asked), Ok(vec![]));
-            assert_eq!(lent.rolling(nothing, (&[], map), Window::trailing(3), asked), Ok(vec![]));
         }
         for (setting, other) in PAIR_SETTINGS.into_iter().flat_map(|setting| [(setting, None), (setting, map)]) {
             assert_eq!(plan_pair(&[], map, &[], other, Plan::default(), setting).as_deref(), Ok(&none[..]));
@@ -513,7 +488,7 @@ fn bytes_are_taken_from_any_address() {
     for shift in 0..8 {
         let bytes = [vec![0xA5; shift], bytes_of(&trace)].concat();
         let needed = ([4, 0], Setting::var(1).work(2), 3);
-        let held = Lengths::longer(needed, 0).plan(needed, (&bytes[shift..], None), rows, Asked::Var(Setting::var(1)));
+        let held = Lengths::longer(needed, 0).plan(needed, (&bytes[shift..], None), rows, Setting::var(1).into());
         let wanted = [
             bits(&trace),
             [bits(&[2.0, 2.0, 0.0]), vec![1, 1, 0]].concat(),
@@ -556,53 +531,43 @@ fn a_map_that_is_not_lent_is_not_looked_at() {
             assert_eq!((figures[row].to_bits(), present[row]), answer.map_or((0, 0), |x| (x.to_bits(), 1)));
         }
     }
-    /// The answers of a call that writes so many columns, each with its bytes.
-    fn same_columns<const COLUMNS: usize>(
-        wanted: impl Iterator<Item = [Option<f64>; COLUMNS]>,
-        call: impl FnOnce(*mut f64, *mut f64, [*mut f64; COLUMNS], [*mut u8; COLUMNS]) -> u32,
-    ) {
-        let (mut readings, mut work, mut values, mut present) = ([0.0; 4], [0.0; 24], [[9.0; 4]; COLUMNS], [[9u8; 4]; COLUMNS]);
+    /// The answers of a call that writes variances, lowest and highest readings, each with its bytes.
+    fn same_var(wanted: Result<Vec<Answer>, Refusal>, call: impl FnOnce(*mut f64, *mut f64, [*mut f64; 3], [*mut u8; 3]) -> u32) {
+        let (mut readings, mut work, mut values, mut present) = ([0.0; 4], [0.0; 24], [[9.0; 4]; 3], [[9u8; 4]; 3]);
         let lists = (values.each_mut().map(|list| list.as_mut_ptr()), present.each_mut().map(|list| list.as_mut_ptr()));
         assert_eq!(call(readings.as_mut_ptr(), work.as_mut_ptr(), lists.0, lists.1), 0);
-        for (row, answers) in wanted.enumerate() {
-            for (k, answer) in answers.into_iter().enumerate() {
+        for (row, Answer { variance, lowest, highest }) in wanted.expect("accepted").into_iter().enumerate() {
+            for (k, answer) in [variance, lowest, highest].into_iter().enumerate() {
                 assert_eq!((values[k][row].to_bits(), present[k][row]), answer.map_or((0, 0), |x| (x.to_bits(), 1)));
             }
         }
     }
-    let of_var = |answers: Result<Vec<Answer>, Refusal>| {
-        answers.expect("accepted").into_iter().map(|answer| [answer.variance, answer.lowest, answer.highest])
-    };
-    let of_shape = |answers: Result<Vec<ShapeAnswer>, Refusal>| {
-        answers.expect("accepted").into_iter().map(|answer| [answer.skew, answer.kurtosis])
-    };
     fn same_state<const N: usize>(wanted: Result<impl Into<[f64; N]>, Refusal>, call: impl FnOnce(&mut [f64; N]) -> u32) {
         let mut state = [0.0; N];
         assert_eq!(call(&mut state), 0);
         assert_eq!(Ok(state), wanted.map(Into::into));
     }
-    let (v, k) = (Setting::var(1), Setting::skew_kurtosis(true, true, false));
+    let (v, k, q) = (Setting::var(1), Setting::skew(true), Setting::kurtosis(true, true));
     let window = Window::trailing(2);
     // SAFETY: pointers and lengths are the slices' and the arrays'.
     unsafe {
-        same_columns(of_var(plan_var(&trace, None, rows, v)), |r, x, [f, l, h], [p, q, o]| {
+        same_var(plan_var(&trace, None, rows, v), |r, x, [f, l, h], [p, q, o]| {
             abi::moments_plan_var(b, bn, r, 4, has_map, m, mn, s, 2, e, 2, 1, 1, x, 24, f, 4, p, 4, l, 4, q, 4, h, 4, o, 4)
         });
-        same_columns(of_shape(plan_skew_kurtosis(&trace, None, rows, k)), |r, x, [f, l], [p, q]| {
-            let (skew_bias, fisher, bias) = (true, true, false);
-            #[rustfmt::skip]
-            let number = abi::moments_plan_skew_kurtosis(
-                b, bn, r, 4, has_map, m, mn, s, 2, e, 2, 1, skew_bias, fisher, bias, x, 24, f, 4, p, 4, l, 4, q, 4,
-            );
-            number
+        same(plan(&trace, None, rows, k), |r, x, f, p| {
+            abi::moments_plan_skew(b, bn, r, 4, has_map, m, mn, s, 2, e, 2, 1, true, x, 24, f, 4, p, 4)
         });
-        same_columns(of_var(rolling_var(&trace, None, window, v)), |_, x, [f, l, h], [p, q, o]| {
+        same(plan(&trace, None, rows, q), |r, x, f, p| {
+            abi::moments_plan_kurtosis(b, bn, r, 4, has_map, m, mn, s, 2, e, 2, 1, true, true, x, 24, f, 4, p, 4)
+        });
+        same_var(rolling_var(&trace, None, window, v), |_, x, [f, l, h], [p, q, o]| {
             abi::moments_rolling_var(t, n, has_map, m, mn, 2, 1, false, 1, x, 24, f, 4, p, 4, l, 4, q, 4, h, 4, o, 4)
         });
-        same_columns(of_shape(rolling_skew_kurtosis(&trace, None, window, k)), |_, x, [f, l], [p, q]| {
-            abi::moments_rolling_skew_kurtosis(
-                t, n, has_map, m, mn, 2, 1, false, true, true, false, x, 24, f, 4, p, 4, l, 4, q, 4,
-            )
+        same(rolling(&trace, None, window, k), |_, x, f, p| {
+            abi::moments_rolling_skew(t, n, has_map, m, mn, 2, 1, false, true, x, 24, f, 4, p, 4)
+        });
+        same(rolling(&trace, None, window, q), |_, x, f, p| {
+            abi::moments_rolling_kurtosis(t, n, has_map, m, mn, 2, 1, false, true, true, x, 24, f, 4, p, 4)
         });
         same(rolling_var_weights(&trace, None, window, 1, &weights), |_, _, f, p| {
             abi::moments_rolling_var_weights(t, n, has_map, m, mn, 2, 1, false, w, 2, f, 4, p, 4)
@@ -688,8 +653,6 @@ fn any_input_is_answered_or_refused_by_a_known_number() {
         };
         let setting = SETTINGS[below(&mut rng, 3)].min_periods(wild(&mut rng));
         let var_setting = Setting::var(rng.word() as u8).min_periods(wild(&mut rng));
-        let flags = [0, 1, 2].map(|bit| setting.min_periods >> bit & 1 == 1);
-        let both = Setting::skew_kurtosis(flags[0], flags[1], flags[2]).min_periods(setting.min_periods);
         let rows = below(&mut rng, 5);
         let place = |rng: &mut Rng| if rng.word() % 9 == 0 { rng.word() as u32 } else { below(rng, 13) as u32 };
         let mut starts: Vec<u32> = (0..rows).map(|_| place(&mut rng)).collect();
@@ -711,8 +674,6 @@ fn any_input_is_answered_or_refused_by_a_known_number() {
             rows_of(rolling_pair(second, other, &trace, map, window, asked), n),
             plan_var(&trace, map, Plan::new(&starts, &ends), var_setting).map(|answers| assert_eq!(answers.len(), rows)),
             rolling_var(&trace, map, window, var_setting).map(|answers| assert_eq!(answers.len(), n)),
-            plan_skew_kurtosis(&trace, map, Plan::new(&starts, &ends), both).map(|answers| assert_eq!(answers.len(), rows)),
-            rolling_skew_kurtosis(&trace, map, window, both).map(|answers| assert_eq!(answers.len(), n)),
             rows_of(plan(&trace, map, Plan::new(&starts, &ends), setting), rows),
             rows_of(rolling(&trace, map, window, setting), n),
             rows_of(rolling_var_weights(&trace, map, window, setting.min_periods, &weights), n),

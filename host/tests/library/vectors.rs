@@ -1,6 +1,6 @@
 //! The stored answers of the Rust (crates/vectors/data, oracle/FORMAT.md 'Word lists'), through the safe functions. NaN figures are
 //! held to their bits; a NaN member of a state may be any.
-use crate::lists::{bits, lent_map, Asked, Guarded, Rng};
+use crate::lists::{bits, lent_map, Guarded, Rng};
 use moments::*;
 use std::fs;
 use std::path::Path;
@@ -178,8 +178,7 @@ fn ranges() {
 /// What a record on windows gives beside its lists.
 struct Windows<'a> {
     record: &'a [u64],
-    asked: Asked,
-    min_periods: usize,
+    setting: Setting,
     has_map: bool,
     number: u64,
     /// Doubles of work that may hold anything after the call.
@@ -187,12 +186,14 @@ struct Windows<'a> {
 }
 impl<'a> Windows<'a> {
     fn of(record: &'a [u64]) -> Self {
-        let ([kind, first, second, third], min_periods) = (std::array::from_fn(|i| record[i]), record[4] as usize);
-        let asked = match kind {
-            1 => Asked::Shape(Setting::skew_kurtosis(second == 1, third == 1, first == 1).min_periods(min_periods)),
-            _ => Asked::Var(Setting::var(first as u8).min_periods(min_periods)),
+        let [figure, ddof, bias, fisher] = std::array::from_fn(|i| record[i]);
+        let setting: Setting = match figure {
+            1 => Setting::skew(bias == 1).into(),
+            2 => Setting::kurtosis(fisher == 1, bias == 1).into(),
+            _ => Setting::var(ddof as u8).into(),
         };
-        Windows { record, asked, min_periods, has_map: record[5] == 1, number: record[6], free: record[7] as usize }
+        let (setting, has_map) = (setting.min_periods(record[4] as usize), record[5] == 1);
+        Windows { record, setting, has_map, number: record[6], free: record[7] as usize }
     }
     /// The two numbers of a list, by its place among them.
     fn pair(&self, k: usize) -> (usize, usize) {
@@ -221,8 +222,7 @@ impl<'a> Windows<'a> {
         }
     }
 }
-/// The lists that a record's call is lent. Those of the variance without weights have three columns, itself, lowest and highest, those
-/// of skewness and kurtosis two.
+/// The lists that a record's call is lent. Those of the variance without weights have three columns: itself, lowest, highest.
 struct Lent {
     work: Guarded<f64>,
     columns: Vec<(Guarded<f64>, Guarded<u8>)>,
@@ -236,131 +236,107 @@ impl Lent {
         let columns = (0..columns).map(&mut column).collect();
         Lent { work: Guarded::holding(rng, w.held(w.pair(4).1)), columns }
     }
-    /// Work and the first columns.
-    fn lend<const COLUMNS: usize>(&mut self) -> (&mut [f64], [Column<'_>; COLUMNS]) {
+    fn lists(&mut self) -> Lists<'_> {
         let Lent { work, columns } = self;
-        let mut columns = columns.iter_mut().map(|(values, present)| Column::new(values.lend(), present.lend()));
-        (work.lend(), std::array::from_fn(|_| columns.next().expect("as many columns")))
+        let (figures, present) = &mut columns[0];
+        Lists { work: work.lend(), figures: figures.lend(), present: present.lend() }
     }
     fn var_lists(&mut self) -> VarLists<'_> {
-        let (work, [variance, lowest, highest]) = self.lend();
-        VarLists { work, variance, lowest, highest }
+        let Lent { work, columns } = self;
+        let mut columns = columns.iter_mut().map(|(values, present)| Column::new(values.lend(), present.lend()));
+        let [variance, lowest, highest] = std::array::from_fn(|_| columns.next().expect("three columns"));
+        VarLists { work: work.lend(), variance, lowest, highest }
     }
-    fn shape_lists(&mut self) -> ShapeLists<'_> {
-        let (work, [skew, kurtosis]) = self.lend();
-        ShapeLists { work, skew, kurtosis }
+}
+/// How many columns the call of a figure writes.
+fn columns(setting: Setting) -> usize {
+    match setting.figure {
+        Figure::Var(_) => 3,
+        Figure::Shape(_) => 1,
     }
 }
 
 #[test]
 fn plans() {
-    let (mut rng, mut seen) = (Rng(1), [[0; 4]; 2]);
+    let (mut rng, mut seen) = (Rng(1), [0; 4]);
     for (i, record) in records("plan").iter().enumerate() {
         let w = Windows::of(record);
         let (at, length) = w.pair(0);
         let trace: Vec<u8> = record[at - 1..].iter().flat_map(|word| word.to_le_bytes()).take(length).collect();
         let map = bytes(w.list(1));
         let [starts, ends] = [2, 3].map(|k| w.list(k).iter().map(|word| *word as u32).collect::<Vec<u32>>());
-        let mut lent = Lent::new(&mut rng, &w, w.asked.lists().len() / 2);
+        let mut lent = Lent::new(&mut rng, &w, columns(w.setting));
         let mut readings = Guarded::holding(&mut rng, w.held(w.pair(5).1));
-        let (plan, map) = (Plan::new(&starts, &ends), lent_map(w.has_map, &map));
-        let result = match w.asked {
-            Asked::Var(setting) => plan_var_into(&trace, readings.lend(), map, plan, setting, lent.var_lists()),
-            Asked::Shape(setting) => plan_skew_kurtosis_into(&trace, readings.lend(), map, plan, setting, lent.shape_lists()),
+        let (plan, map, Setting { figure, min_periods }) = (Plan::new(&starts, &ends), lent_map(w.has_map, &map), w.setting);
+        let result = match figure {
+            Figure::Var(figure) => {
+                plan_var_into(&trace, readings.lend(), map, plan, Setting { figure, min_periods }, lent.var_lists())
+            }
+            Figure::Shape(figure) => plan_into(&trace, readings.lend(), map, plan, Setting { figure, min_periods }, lent.lists()),
         };
         w.check(i, result, &lent);
         readings.check("readings", if result.is_ok() { trace.len() / 8 } else { 0 });
         assert_eq!(bits(readings.held()), w.list(5), "record {i}");
         if w.number == 0 {
-            let (x, alone) = (decoded(&trace), w.alone());
-            let all = match w.asked {
-                Asked::Var(setting) => columns_of_var(plan_var(&x, map, plan, setting)),
-                Asked::Shape(setting) => columns_of_shape(plan_skew_kurtosis(&x, map, plan, setting)),
-            };
-            let alone = alone.into_iter().map(|setting| moments::plan(&x, map, plan, setting).expect("accepted"));
-            assert!(all.iter().all(|column| column.len() == starts.len()));
-            w.check_answers(i, &all, alone, &mut seen);
+            let answers = moments::plan(&decoded(&trace), map, plan, w.setting).expect("accepted");
+            assert_eq!(answers.len(), starts.len());
+            w.check_answers(i, 0, &answers);
+            if let Figure::Var(figure) = figure {
+                let answers = plan_var(&decoded(&trace), map, plan, Setting { figure, min_periods }).expect("accepted");
+                w.check_all(i, &answers, &mut seen);
+            }
         }
     }
-    check_seen(seen);
+    assert!([0, 2, 3].iter().all(|kind| seen[*kind] > 100), "{seen:?} rows have nothing, the variance, the extremes, all");
 }
 fn decoded(bytes: &[u8]) -> Vec<f64> {
     bytes.chunks_exact(8).map(|b| f64::from_le_bytes(std::array::from_fn(|i| b[i]))).collect()
 }
-fn columns_of_var(answers: Result<Vec<Answer>, Refusal>) -> Vec<Vec<Option<f64>>> {
-    let answers = answers.expect("accepted");
-    [|a: &Answer| a.variance, |a: &Answer| a.lowest, |a: &Answer| a.highest].map(|of| answers.iter().map(of).collect()).to_vec()
-}
-fn columns_of_shape(answers: Result<Vec<ShapeAnswer>, Refusal>) -> Vec<Vec<Option<f64>>> {
-    let answers = answers.expect("accepted");
-    [|a: &ShapeAnswer| a.skew, |a: &ShapeAnswer| a.kurtosis].map(|of| answers.iter().map(of).collect()).to_vec()
-}
 impl Windows<'_> {
-    /// The settings of the figures that are asked, each alone.
-    fn alone(&self) -> Vec<Setting> {
-        match self.asked {
-            Asked::Var(setting) => vec![setting.into()],
-            Asked::Shape(Setting { figure: SkewKurtosis { skew_bias, fisher, kurtosis_bias }, .. }) => {
-                let figures = [Setting::skew(skew_bias), Setting::kurtosis(fisher, kurtosis_bias)];
-                figures.map(|setting| setting.min_periods(self.min_periods).into()).to_vec()
-            }
-        }
-    }
     /// The answers of a column.
-    fn check_column(&self, i: usize, column: usize, answers: &[Option<f64>]) {
+    fn check_answers(&self, i: usize, column: usize, answers: &[Option<f64>]) {
         for (row, answer) in answers.iter().enumerate() {
             let wanted = (self.list(6 + 2 * column)[row], self.list(7 + 2 * column)[row]);
             assert_eq!(answer.map_or((0, 0), |x| (x.to_bits(), 1)), wanted, "record {i}, row {row}, column {column}");
         }
     }
-    /// Those of all columns and of the figures alone, with a count of rows by whether they have a first and a second one.
-    fn check_answers(
-        &self,
-        i: usize,
-        all: &[Vec<Option<f64>>],
-        alone: impl Iterator<Item = Vec<Option<f64>>>,
-        seen: &mut [[usize; 4]; 2],
-    ) {
-        all.iter().enumerate().for_each(|(column, answers)| self.check_column(i, column, answers));
-        alone.enumerate().for_each(|(column, answers)| self.check_column(i, column, &answers));
-        for (first, second) in all[0].iter().zip(&all[1]) {
-            let has = usize::from(first.is_some()) + 2 * usize::from(second.is_some());
-            seen[usize::from(matches!(self.asked, Asked::Shape(_)))][has] += 1;
+    /// Those of all three, with a count of rows by what they have.
+    fn check_all(&self, i: usize, answers: &[Answer], seen: &mut [usize; 4]) {
+        self.check_answers(i, 0, &answers.iter().map(|answer| answer.variance).collect::<Vec<_>>());
+        self.check_answers(i, 1, &answers.iter().map(|answer| answer.lowest).collect::<Vec<_>>());
+        self.check_answers(i, 2, &answers.iter().map(|answer| answer.highest).collect::<Vec<_>>());
+        for Answer { variance, lowest, highest } in answers {
+            assert_eq!(lowest.is_some(), highest.is_some());
+            seen[usize::from(variance.is_some()) + 2 * usize::from(lowest.is_some())] += 1;
         }
     }
-}
-/// The records have rows of every sort, but for variances without a lowest reading, which are of readings that are not finite.
-fn check_seen(seen: [[usize; 4]; 2]) {
-    let [var, shape] = seen;
-    assert!([0, 2, 3].iter().all(|kind| var[*kind] > 100), "{var:?} rows have nothing, the variance, the extremes, all");
-    assert!(shape.iter().all(|rows| *rows > 20), "{shape:?} rows have nothing, the skewness, the kurtosis, both");
 }
 
 #[test]
 fn fixed_windows() {
-    let (mut rng, mut seen) = (Rng(2), [[0; 4]; 2]);
+    let (mut rng, mut seen) = (Rng(2), [0; 4]);
     for (i, record) in records("fixed").iter().enumerate() {
         let w = Windows::of(record);
         let (trace, map) = (doubles(w.list(0)), bytes(w.list(1)));
         let (size, center) = w.pair(3);
-        let window = Window { size, center: center == 1 };
-        let (mut lent, map) = (Lent::new(&mut rng, &w, w.asked.lists().len() / 2), lent_map(w.has_map, &map));
-        let result = match w.asked {
-            Asked::Var(setting) => rolling_var_into(&trace, map, window, setting, lent.var_lists()),
-            Asked::Shape(setting) => rolling_skew_kurtosis_into(&trace, map, window, setting, lent.shape_lists()),
+        let (window, Setting { figure, min_periods }) = (Window { size, center: center == 1 }, w.setting);
+        let (mut lent, map) = (Lent::new(&mut rng, &w, columns(w.setting)), lent_map(w.has_map, &map));
+        let result = match figure {
+            Figure::Var(figure) => rolling_var_into(&trace, map, window, Setting { figure, min_periods }, lent.var_lists()),
+            Figure::Shape(figure) => rolling_into(&trace, map, window, Setting { figure, min_periods }, lent.lists()),
         };
         w.check(i, result, &lent);
         if w.number == 0 {
-            let all = match w.asked {
-                Asked::Var(setting) => columns_of_var(rolling_var(&trace, map, window, setting)),
-                Asked::Shape(setting) => columns_of_shape(rolling_skew_kurtosis(&trace, map, window, setting)),
-            };
-            let alone = w.alone().into_iter().map(|setting| rolling(&trace, map, window, setting).expect("accepted"));
-            assert!(all.iter().all(|column| column.len() == trace.len()));
-            w.check_answers(i, &all, alone, &mut seen);
+            let answers = rolling(&trace, map, window, w.setting).expect("accepted");
+            assert_eq!(answers.len(), trace.len());
+            w.check_answers(i, 0, &answers);
+            if let Figure::Var(figure) = figure {
+                let answers = rolling_var(&trace, map, window, Setting { figure, min_periods }).expect("accepted");
+                w.check_all(i, &answers, &mut seen);
+            }
         }
     }
-    check_seen(seen);
+    assert!([0, 2, 3].iter().all(|kind| seen[*kind] > 100), "{seen:?} rows have nothing, the variance, the extremes, all");
 }
 
 #[test]
@@ -370,15 +346,15 @@ fn weights() {
         let w = Windows::of(record);
         let (trace, map, weights) = (doubles(w.list(0)), bytes(w.list(1)), doubles(w.list(2)));
         let (size, center) = w.pair(3);
-        let (window, min) = (Window { size, center: center == 1 }, w.min_periods);
+        let (window, min) = (Window { size, center: center == 1 }, w.setting.min_periods);
         let (mut lent, map) = (Lent::new(&mut rng, &w, 1), lent_map(w.has_map, &map));
-        let (_, [Column { values, present }]) = lent.lend();
-        let result = rolling_var_weights_into(&trace, map, window, min, &weights, values, present);
+        let Lists { figures, present, .. } = lent.lists();
+        let result = rolling_var_weights_into(&trace, map, window, min, &weights, figures, present);
         w.check(i, result, &lent);
         if w.number == 0 {
             let answers = rolling_var_weights(&trace, map, window, min, &weights).expect("accepted");
             assert_eq!(answers.len(), trace.len());
-            w.check_column(i, 0, &answers);
+            w.check_answers(i, 0, &answers);
         }
     }
 }

@@ -1,13 +1,13 @@
 //! Random window calls of a second implementation (src/second.rs) against the Rust: plans by the host call, fixed windows and weights
 //! (the other entries: `face`); those of two traces, which the Rust lacks, against the account over its states. Compared: the number, and
 //! what the safe functions of ../host say of the first refused row of a plan; all output lists to the last place, figures by their bits,
-//! a NaN being 7FF8000000000000, and of variance the lowest and the highest by theirs; skewness and kurtosis, which are one call, each
-//! beside the Rust's own function; the readings that an accepted call decodes; and that nothing else is written: no list on a refusal,
-//! and otherwise no place past the last row, past the needed work, past the readings or beside a list. Each run also makes the calls at
-//! 16,777,216 readings or rows and one more.
+//! a NaN being 7FF8000000000000, and of variance the lowest and the highest by theirs; the readings that an accepted call decodes; and
+//! that nothing else is written: no list on a refusal, and otherwise no place past the last row, past the needed work, past the readings
+//! or beside a list. Each run also makes the calls at 16,777,216 readings or rows and one more.
 //! usage: fuzz [--demo] CALLS SEED [plan] [fixed] [weighted] [pair-plan] [pair-fixed]
 //! (CALLS are made of the kinds that are named, in turn, or of every kind. --demo asks the model of src/model.rs in place
 //! of libmoments.a; it has no weights.)
+use oracle::extremes::{self, Extremes};
 use oracle::host::{Call, Case, Room};
 use oracle::refusal::LIMIT;
 use oracle::rng::Rng;
@@ -44,43 +44,39 @@ impl<T: Clone> Guarded<T> {
         outside.into_iter().find(|i| !kept(i)).map(|i| i as isize - BESIDE as isize)
     }
 }
-/// The lists that take a column of answers.
-#[derive(Clone)]
-struct Column {
-    values: Guarded<f64>,
-    present: Guarded<u8>,
-}
 /// All that a call may be lent; what a call does not have is empty.
 #[derive(Clone)]
 struct Lists {
     /// Of each trace.
     readings: [Guarded<f64>; 2],
     work: Guarded<f64>,
-    columns: [Column; 3],
+    figures: Guarded<f64>,
+    present: Guarded<u8>,
+    lowest: (Guarded<f64>, Guarded<u8>),
+    highest: (Guarded<f64>, Guarded<u8>),
 }
 impl Lists {
     /// For a trace, or for two, of which the second's readings take so many places.
     fn new(r: &mut Rng, room: Room, second: usize) -> Self {
         let mut any = |n| Guarded::new(n, || f64::from_bits(r.u64()));
-        let (readings, work) = ([any(room.readings), any(second)], any(room.work));
-        let outs = room.outs();
-        let columns = [0, 2, 4].map(|k| {
-            let values = Guarded::new(outs[k], || f64::from_bits(r.u64()));
-            Column { values, present: Guarded::new(outs[k + 1], || r.u64() as u8) }
-        });
-        Lists { readings, work, columns }
+        let (readings, work, figures) = ([any(room.readings), any(second)], any(room.work), any(room.figures));
+        let [a, b, c, d] = room.extremes;
+        let (lowest, highest) = (any(a), any(c));
+        let mut bytes = |n| Guarded::new(n, || r.u64() as u8);
+        Lists { readings, work, figures, present: bytes(room.present), lowest: (lowest, bytes(b)), highest: (highest, bytes(d)) }
     }
     /// What a call on one trace is lent: the readings, the work slice and the lists that take answers.
     fn lent(&mut self) -> (&mut [f64], &mut [f64], Outputs<'_>) {
-        let Lists { readings, work, columns } = self;
-        (readings[0].lent(), work.lent(), columns.each_mut().map(|Column { values, present }| (values.lent(), present.lent())))
+        let Lists { readings, work, figures, present, lowest, highest } = self;
+        let (lowest, highest) = ((lowest.0.lent(), lowest.1.lent()), (highest.0.lent(), highest.1.lent()));
+        (readings[0].lent(), work.lent(), Outputs { figures: figures.lent(), present: present.lent(), lowest, highest })
     }
 }
 /// Of a row what its double and its byte hold, beside what they are to hold.
-fn row_differs(name: &str, i: usize, lists: &Column, wanted: Option<f64>) -> Option<String> {
-    let (x, byte) = (lists.values.held()[i].to_bits(), lists.present.held()[i]);
+fn row_differs(name: &str, i: usize, lists: (&Guarded<f64>, &Guarded<u8>), wanted: Option<f64>) -> Option<String> {
+    let (x, byte) = (lists.0.held()[i].to_bits(), lists.1.held()[i]);
     let wanted = wanted.map_or((0, 0), |x| (canon(x), 1));
-    ((x, byte) != wanted).then(|| format!("row {i}, {name}: {x:016X} {byte}, wanted {:016X} {}", wanted.0, wanted.1))
+    ((x, byte) != wanted).then(|| format!("row {i}{name}: {x:016X} {byte}, wanted {:016X} {}", wanted.0, wanted.1))
 }
 /// What the Rust and document 01 say: the number, the plan's row that is refused and what is to be said of it, the decoded
 /// readings of each trace, the rows' answers and the doubles of work needed.
@@ -88,12 +84,14 @@ struct Wanted {
     number: u32,
     row: Option<(usize, Vec<usize>)>,
     readings: [Vec<f64>; 2],
-    columns: Columns,
+    rows: Vec<Option<f64>>,
+    /// As many as there are rows, or none where the call does not give them.
+    extremes: Vec<Extremes>,
     need: usize,
 }
 impl Wanted {
     fn refused(number: u32) -> Self {
-        Wanted { number, row: None, readings: Default::default(), columns: vec![], need: 0 }
+        Wanted { number, row: None, readings: Default::default(), rows: vec![], extremes: vec![], need: 0 }
     }
     /// What the lists of readings hold, each beside what is wanted there: the first trace's, then the second's.
     fn decoded<'a>(&'a self, after: &'a Lists) -> impl Iterator<Item = (f64, f64)> + 'a {
@@ -110,18 +108,18 @@ impl Wanted {
             }
         }
         let readings = |k: usize| before.readings[k].changed(&after.readings[k], self.readings[k].len(), |x| x.to_bits());
-        // a column that the call has not, or that it does not give where it is refused, is to be left as it is
-        let rows = |k: usize| self.columns.get(k).map_or(0, Vec::len);
-        let values = |k: usize| before.columns[k].values.changed(&after.columns[k].values, rows(k), |x| x.to_bits());
-        let present = |k: usize| before.columns[k].present.changed(&after.columns[k].present, rows(k), |x| *x);
-        let lists = [
+        let given = self.extremes.len();
+        for (name, changed) in [
             ("readings", readings(0)),
             ("readings of the second trace", readings(1)),
             ("work", before.work.changed(&after.work, self.need, |x| x.to_bits())),
-        ];
-        for (name, changed) in lists.into_iter().chain(COLUMNS.into_iter().enumerate().flat_map(|(k, (name, bytes))| {
-            [(name, values(k)), (bytes, present(k))]
-        })) {
+            ("figures", before.figures.changed(&after.figures, self.rows.len(), |x| x.to_bits())),
+            ("present", before.present.changed(&after.present, self.rows.len(), |x| *x)),
+            ("lowest", before.lowest.0.changed(&after.lowest.0, given, |x| x.to_bits())),
+            ("bytes of lowest", before.lowest.1.changed(&after.lowest.1, given, |x| *x)),
+            ("highest", before.highest.0.changed(&after.highest.0, given, |x| x.to_bits())),
+            ("bytes of highest", before.highest.1.changed(&after.highest.1, given, |x| *x)),
+        ] {
             if let Some(i) = changed {
                 return Some(format!("wrote {name} at {i}, where it may not"));
             }
@@ -131,17 +129,14 @@ impl Wanted {
                 return Some(format!("reading {i}: {:016X}, wanted {:016X}", got.to_bits(), x.to_bits()));
             }
         }
-        self.columns.iter().zip(COLUMNS).zip(&after.columns).find_map(|((column, (name, _)), lists)| {
-            column.iter().enumerate().find_map(|(i, row)| row_differs(name, i, lists, *row))
-        })
+        let figures = self.rows.iter().enumerate().find_map(|(i, row)| row_differs("", i, (&after.figures, &after.present), *row));
+        let extremes = self.extremes.iter().enumerate().find_map(|(i, [low, high])| {
+            let lowest = row_differs(", lowest", i, (&after.lowest.0, &after.lowest.1), *low);
+            lowest.or_else(|| row_differs(", highest", i, (&after.highest.0, &after.highest.1), *high))
+        });
+        figures.or(extremes)
     }
 }
-/// What a column's doubles and its bytes are called.
-const COLUMNS: [(&str, &str); 3] = [
-    ("figures (skewness)", "bytes of figures (skewness)"),
-    ("lowest (kurtosis)", "bytes of lowest (kurtosis)"),
-    ("highest", "bytes of highest"),
-];
 
 #[derive(Default)]
 struct Seen {
@@ -156,7 +151,6 @@ struct Seen {
     missing: u64,
     maps: maps::Lengths,
     extremes: extremes::Tally,
-    both: both::Tally,
     /// NaN readings decoded, and those of them whose bits are not the trace's.
     nan_readings: (u64, u64),
     /// Refused rows of a plan, and those of them that were told in words.
@@ -172,14 +166,6 @@ impl Seen {
         }
         *sizes.entry(if centre { "centred" } else { "trailing" }).or_default() += 1;
     }
-    /// An accepted call on one trace: what its rows have.
-    fn count_rows(&mut self, asked: Asked, x: &[f64], map: Option<&[u8]>, rows: &[(usize, usize)], min: usize, columns: &Columns) {
-        if let [figures, lowest, highest] = &columns[..] {
-            let extremes: Vec<_> = lowest.iter().zip(highest).map(|(low, high)| [*low, *high]).collect();
-            self.extremes.count(x, map, rows, figures, &extremes);
-        }
-        self.both.count(asked, map, rows, min, columns);
-    }
     fn tell(&mut self, name: &'static str, given: impl Debug, wanted: &Wanted, answer: &Answer, before: &Lists, after: &Lists) {
         let what = wanted.differs(answer, before, after);
         self.refused_rows.0 += wanted.row.is_some() as u64;
@@ -187,7 +173,7 @@ impl Seen {
         let entry = self.calls.entry(name).or_default();
         entry.0 += 1;
         *entry.2.entry(wanted.number).or_default() += 1;
-        for row in wanted.columns.iter().flatten() {
+        for row in &wanted.rows {
             match row {
                 None => self.missing += 1,
                 Some(x) if x.is_nan() => self.nans += 1,
@@ -211,10 +197,11 @@ impl Seen {
     }
 }
 
-fn plan_name(asked: Asked) -> &'static str {
-    match asked {
-        Asked::Var { .. } => "plan var",
-        Asked::SkewKurtosis { .. } => "plan skew_kurtosis",
+fn plan_name(f: Figure) -> &'static str {
+    match f {
+        Figure::Var { .. } => "plan var",
+        Figure::Skew { .. } => "plan skew",
+        Figure::Kurt { .. } => "plan kurtosis",
     }
 }
 /// The first row that is refused, and for 5 its bounds, for 6 its end and the readings, for 7 its bounds and those before.
@@ -237,14 +224,14 @@ fn plan_call(seen: &mut Seen, r: &mut Rng, f: PlanFn, call: Call, room: Room) {
     let answer = f(&call, readings, work, outputs);
     let wanted = match call.refusal(room) {
         0 => {
-            let (x, columns) = (call.readings(), call.answers());
-            seen.count_rows(call.asked, &x, call.map(), &call.rows(), call.min, &columns);
-            Wanted { readings: [x, vec![]], columns, need: call.need(), ..Wanted::refused(0) }
+            let (rows, extremes) = (call.answers(), call.extremes().unwrap_or_default());
+            seen.extremes.count(&call.readings(), call.map(), &call.rows(), &rows, &extremes);
+            Wanted { readings: [call.readings(), vec![]], rows, extremes, need: call.need(), ..Wanted::refused(0) }
         }
         number => Wanted { row: refused_row(call.rows(), call.trace.len() / 8, number), ..Wanted::refused(number) },
     };
     seen.maps.count(&[(call.trace.len() / 8, call.map())], wanted.number);
-    seen.tell(plan_name(call.asked), call, &wanted, &answer, &before, &after);
+    seen.tell(plan_name(call.figure), call, &wanted, &answer, &before, &after);
 }
 fn any_plan(seen: &mut Seen, r: &mut Rng, f: PlanFn) {
     let (most, count) = match r.below(200) {
@@ -252,17 +239,19 @@ fn any_plan(seen: &mut Seen, r: &mut Rng, f: PlanFn) {
         1..=20 => (300, 24),
         _ => (24, 24),
     };
-    let mut case = if r.chance(1, 100) { Case::wide(r, 1200, 200) } else { Case::any(r, most, count) };
+    let mut case = Case::any(r, most, count);
     if case.has_map {
         case.map = maps::lent(r, case.map, case.trace.len() / 8);
     }
-    if case.asked.has_extremes() && r.chance(1, 2) {
-        let (mut x, whole) = (case.call().readings(), case.trace.len() / 8 * 8);
-        extremes::roughen(r, &mut x);
-        case.trace.splice(..whole, x.iter().flat_map(|x| x.to_le_bytes()));
-    }
-    if r.chance(1, 12) {
-        case.room.shorten_more(case.asked, r, case.starts.len());
+    if case.figure.has_extremes() {
+        if r.chance(1, 2) {
+            let (mut x, whole) = (case.call().readings(), case.trace.len() / 8 * 8);
+            extremes::roughen(r, &mut x);
+            case.trace.splice(..whole, x.iter().flat_map(|x| x.to_le_bytes()));
+        }
+        if r.chance(1, 12) {
+            case.room.shorten_extremes(r, case.starts.len());
+        }
     }
     // the bytes of a trace may start at any address
     let shift = r.below(8);
@@ -270,14 +259,13 @@ fn any_plan(seen: &mut Seen, r: &mut Rng, f: PlanFn) {
     let (call, room) = (Call { trace: &bytes[shift..], ..case.call() }, case.room);
     plan_call(seen, r, f, call, room);
 }
-/// What is asked at the limits: variance, and skewness and kurtosis, the one biased and the other not.
-const AT_LIMITS: [Figure; 3] = [Figure::Var { ddof: 1 }, Figure::Skew { bias: false }, Figure::Kurt { fisher: true, bias: false }];
 /// 16,777,216 readings pass and one more is 1, also where the map is too short; as many rows pass and one more is 4, whatever the rows.
 fn limits(seen: &mut Seen, r: &mut Rng, f: PlanFn) {
+    let figures = [Figure::Var { ddof: 1 }, Figure::Skew { bias: false }, Figure::Kurt { fisher: true, bias: true }];
     let x: Vec<f64> = (0..LIMIT + 1).map(|i| (i % 1000) as f64 - 400.0).collect();
     let ones = vec![0xFF; LIMIT / 8 + 64];
     let far = [(0, 3), (2, 9), (LIMIT - 70, LIMIT - 60), (LIMIT - 65, LIMIT)];
-    for figure in AT_LIMITS {
+    for figure in figures {
         for (n, map) in [(LIMIT, None), (LIMIT, Some(&ones[..])), (LIMIT + 1, None), (LIMIT + 1, Some(&ones[..LIMIT / 8]))] {
             let case = Case::new(figure, 1, &x[..n], map, &far);
             plan_call(seen, r, f, case.call(), case.room);
@@ -285,22 +273,23 @@ fn limits(seen: &mut Seen, r: &mut Rng, f: PlanFn) {
     }
     let step = LIMIT / 8;
     let mut rows: Vec<(usize, usize)> = (0..LIMIT).map(|i| (i / step, i / step + 1 + i % step / (step / 2))).collect();
-    for figure in AT_LIMITS {
+    for figure in figures {
         let case = Case::new(figure, 1, &x[..9], None, &rows);
         plan_call(seen, r, f, case.call(), case.room);
     }
     rows.push((9, 3));
-    for figure in AT_LIMITS {
+    for figure in figures {
         let case = Case::new(figure, 1, &x[..9], None, &rows);
         plan_call(seen, r, f, case.call(), case.room);
     }
 }
 
 fn windows_name(c: &windows::Call) -> &'static str {
-    match (c.weights, c.asked) {
+    match (c.weights, c.figure) {
         (Some(_), _) => "weighted",
-        (_, Asked::Var { .. }) => "fixed var",
-        (_, Asked::SkewKurtosis { .. }) => "fixed skew_kurtosis",
+        (_, Figure::Var { .. }) => "fixed var",
+        (_, Figure::Skew { .. }) => "fixed skew",
+        (_, Figure::Kurt { .. }) => "fixed kurtosis",
     }
 }
 fn windows_call(seen: &mut Seen, r: &mut Rng, f: WindowsFn, call: windows::Call, room: Room) {
@@ -311,9 +300,10 @@ fn windows_call(seen: &mut Seen, r: &mut Rng, f: WindowsFn, call: windows::Call,
     let name = windows_name(&call);
     let wanted = match call.refusal(room) {
         0 => {
-            let (bounds, columns): (Vec<_>, _) = (call.bounds().collect(), call.answers());
-            seen.count_rows(call.asked, call.x, call.map(), &bounds, call.min, &columns);
-            Wanted { columns, need: call.need(), ..Wanted::refused(0) }
+            let (n, rows, extremes) = (call.x.len(), call.answers(), call.extremes().unwrap_or_default());
+            let bounds: Vec<(usize, usize)> = (0..n).map(|i| offsets(i, call.size, n, call.centre)).collect();
+            seen.extremes.count(call.x, call.map(), &bounds, &rows, &extremes);
+            Wanted { rows, extremes, need: call.need(), ..Wanted::refused(0) }
         }
         number => Wanted::refused(number),
     };
@@ -323,7 +313,7 @@ fn windows_call(seen: &mut Seen, r: &mut Rng, f: WindowsFn, call: windows::Call,
     }
     let bits = |v: &[f64]| v.iter().map(|v| v.to_bits()).collect::<Vec<u64>>();
     let (x, w) = (bits(&call.x[..call.x.len().min(400)]), call.weights.map(bits));
-    let given = (call.asked, call.min, call.size, call.centre, room, x, w, call.map().map(|m| &m[..m.len().min(50)]));
+    let given = (call.figure, call.min, call.size, call.centre, room, x, w, call.map().map(|m| &m[..m.len().min(50)]));
     seen.tell(name, given, &wanted, &answer, &before, &after);
 }
 /// A random call on fixed windows or weights; one in 200 is long enough for many blocks of rows.
@@ -337,12 +327,12 @@ fn any_windows(seen: &mut Seen, r: &mut Rng, f: WindowsFn, any: fn(&mut Rng, usi
     if case.has_map {
         case.map = maps::lent(r, case.map, case.x.len());
     }
-    if case.weights.is_none() {
-        if case.asked.has_extremes() && r.chance(1, 2) {
+    if case.call().has_extremes() {
+        if r.chance(1, 2) {
             extremes::roughen(r, &mut case.x);
         }
         if r.chance(1, 12) {
-            case.room.shorten_more(case.asked, r, case.x.len());
+            case.room.shorten_extremes(r, case.x.len());
         }
     }
     windows_call(seen, r, f, case.call(), case.room);
@@ -359,13 +349,13 @@ fn windows_limits(seen: &mut Seen, r: &mut Rng, fixed: Option<WindowsFn>, weight
             windows_call(seen, r, f, case.call(), room);
         }
     };
-    for (k, figure) in AT_LIMITS.into_iter().enumerate() {
+    for (k, figure) in [Figure::Var { ddof: 1 }, Figure::Skew { bias: false }, Figure::Kurt { fisher: true, bias: true }].into_iter().enumerate() {
         let map = [None, Some(&ones[..]), None][k];
         let case = Case::new(figure, &x[..LIMIT], map, 4, 2, k == 2);
         let room = case.room;
         make(fixed, case, room);
         let case = Case { size: usize::MAX, ..Case::new(figure, &x[..LIMIT], map, 4, 2, k == 0) };
-        make(fixed, case, Room { work: Asked::ENTRY * 4, ..room });
+        make(fixed, case, Room { work: figure.entry() * 4, ..room });
         for map in [None, Some(&ones[..LIMIT / 8])] {
             let case = Case::new(figure, &x, map, 4, 2, false);
             let room = case.room;
@@ -399,12 +389,11 @@ fn pairs_call(seen: &mut Seen, r: &mut Rng, f: PairsFn, case: &pairs::Case) {
     let before = Lists::new(r, room, second);
     let mut after = before.clone();
     let readings = after.readings.each_mut().map(Guarded::lent);
-    let [Column { values, present }, ..] = &mut after.columns;
-    let answer = f(case, readings, after.work.lent(), values.lent(), present.lent());
+    let answer = f(case, readings, after.work.lent(), after.figures.lent(), after.present.lent());
     let (name, number) = (pairs_name(case), case.refusal());
     let mut wanted = Wanted::refused(number);
     if number == 0 {
-        (wanted.columns, wanted.need) = (vec![case.answers()], case.need());
+        (wanted.rows, wanted.need) = (case.answers(), case.need());
         let counts = seen.pairs.entry(name).or_default();
         *counts.entry(case.mapped()).or_default() += 1;
         *counts.entry("with a bad pair").or_default() += case.has_bad() as u64;
@@ -524,8 +513,7 @@ fn main() {
     println!("{}", seen.maps);
     println!("rows that are refused: {}, told in words: {}", seen.refused_rows.0, seen.refused_rows.1);
     println!("{}", seen.extremes);
-    println!("{}", seen.both);
-    println!("answers of rows: {} numbers, {} NaN, {} missing", seen.present, seen.nans, seen.missing);
+    println!("rows: {} numbers, {} NaN, {} missing", seen.present, seen.nans, seen.missing);
     println!("NaN readings decoded: {}, with bits other than the trace's: {}", seen.nan_readings.0, seen.nan_readings.1);
     println!("differing {}", seen.differing);
     std::process::exit((seen.differing > 0) as i32);

@@ -1,5 +1,6 @@
 //! Prints test vectors; the format is described in FORMAT.md.
 //! usage: gen [seed] [records of each kind] [kind ...]
+use oracle::extremes::Extremes;
 use oracle::record::*;
 use oracle::rng::Rng;
 use oracle::*;
@@ -30,12 +31,11 @@ fn map(m: Option<&[u8]>) -> String {
 fn fig(f: Option<f64>) -> String {
     f.map_or("missing".into(), hc)
 }
-fn setting(asked: Asked) -> String {
-    match asked {
-        Asked::Var { ddof } => format!("fig=var ddof={ddof} biased=0 fisher=0 kbiased=0"),
-        Asked::SkewKurtosis { skew_bias, fisher, kurtosis_bias } => {
-            format!("fig=skewkurt ddof=0 biased={} fisher={} kbiased={}", skew_bias as u8, fisher as u8, kurtosis_bias as u8)
-        }
+fn setting(f: Figure) -> String {
+    match f {
+        Figure::Var { ddof } => format!("fig=var ddof={ddof} biased=0 fisher=0"),
+        Figure::Skew { bias } => format!("fig=skew ddof=0 biased={} fisher=0", bias as u8),
+        Figure::Kurt { fisher, bias } => format!("fig=kurt ddof=0 biased={} fisher={}", bias as u8, fisher as u8),
     }
 }
 fn pair_setting(f: PairFigure) -> String {
@@ -59,34 +59,38 @@ fn pair_record(r: &mut Rng, mut case: pairs::Case) -> String {
         pairs::Windows::Fixed { size, centre } => ("pair-fixed", format!("size={size} centre={} ", *centre as u8), String::new()),
     };
     let traces = [("x", x), ("y", y)].map(|(k, t)| format!("{k}={} {k}map={} ", list(&t.readings()), map(t.map()))).concat();
-    let number = case.refusal();
-    let answer = answered(number, &if number == 0 { case.answers() } else { vec![] });
+    let answer = match case.refusal() {
+        0 => rows(&case.answers()),
+        number => format!("refusal={number} v= p="),
+    };
     let setting = pair_setting(*figure);
     format!("{kind} {setting} min={min} {windows}{traces}{rows_given}outv={figures} outp={present} work={work} => {answer}")
 }
 /// A list of answers and a list of bytes.
-fn column(values: &str, present: &str, v: &[Option<f64>]) -> String {
-    let f: Vec<f64> = v.iter().map(|x| x.unwrap_or(0.0)).collect();
-    let bytes: String = v.iter().map(|x| if x.is_some() { '1' } else { '0' }).collect();
-    format!(" {values}={} {present}={bytes}", listc(&f))
+fn column(v: impl Iterator<Item = Option<f64>> + Clone) -> (String, String) {
+    let f: Vec<f64> = v.clone().map(|x| x.unwrap_or(0.0)).collect();
+    (listc(&f), v.map(|x| if x.is_some() { '1' } else { '0' }).collect())
 }
-/// The number, then the answers of a call that has one column, none where it is refused.
-fn answered(code: u32, v: &[Option<f64>]) -> String {
-    format!("refusal={code}{}", column("v", "p", v))
+fn rows(v: &[Option<f64>]) -> String {
+    let (v, p) = column(v.iter().copied());
+    format!("refusal=0 v={v} p={p}")
 }
-/// What the lists are called that take the columns of a call, doubles and bytes.
-fn names(asked: Asked) -> &'static [(&'static str, &'static str)] {
-    match asked {
-        Asked::Var { .. } => &[("v", "p"), ("low", "lowp"), ("high", "highp")],
-        Asked::SkewKurtosis { .. } => &[("v", "p"), ("kurt", "kurtp")],
-    }
+/// What variance gives behind: the lowest and the highest, or nothing where the call is refused.
+fn extremes(v: &[Extremes]) -> String {
+    let ((lowest, lowp), (highest, highp)) = (column(v.iter().map(|row| row[0])), column(v.iter().map(|row| row[1])));
+    format!(" low={lowest} lowp={lowp} high={highest} highp={highp}")
 }
 /// Half of the traces of variance get readings at which a lowest or a highest may go wrong, by a generator of its own too.
-fn rough(r: &Rng, asked: Asked, x: &mut [f64]) {
+fn rough(r: &Rng, f: Figure, x: &mut [f64]) {
     let mut own = Rng(r.0 ^ 5);
-    if asked.has_extremes() && own.chance(1, 2) {
-        extremes::roughen(&mut own, x);
+    if f.has_extremes() && own.chance(1, 2) {
+        oracle::extremes::roughen(&mut own, x);
     }
+}
+/// Lengths of the four lists that variance is lent besides, drawn by a generator of its own, so that all else stays as it was drawn before.
+fn extreme_lens(r: &Rng, n: usize) -> [usize; 4] {
+    let mut own = Rng(r.0 ^ 4);
+    [n; 4].map(|n| out_len(&mut own, n))
 }
 
 fn size_n(r: &mut Rng) -> usize {
@@ -105,22 +109,22 @@ fn out_len(r: &mut Rng, n: usize) -> usize {
     }
 }
 
-/// Lengths of the output lists that the call is lent, and how they are written. Those behind the first two are drawn by a generator of
-/// their own, so that all else stays as it was drawn before.
-fn outs(r: &mut Rng, asked: Asked, n: usize) -> (Vec<usize>, String) {
-    let first = [out_len(r, n), out_len(r, n)];
-    let mut own = Rng(r.0 ^ 4);
-    let more = std::iter::repeat_with(|| out_len(&mut own, n));
-    let outs: Vec<usize> = first.into_iter().chain(more).take(2 * asked.columns()).collect();
-    let names = names(asked).iter().flat_map(|(values, present)| [values, present]);
-    let given: Vec<String> = names.zip(&outs).map(|(name, length)| format!("out{name}={length}")).collect();
-    (outs, given.join(" "))
+/// Lengths of the output lists that a call of this figure is lent, and how they are written.
+fn outs(r: &Rng, f: Figure, n: usize, of: usize, op: usize) -> (Vec<usize>, String) {
+    let mut given = format!("outv={of} outp={op}");
+    if !f.has_extremes() {
+        return (vec![of, op], given);
+    }
+    let [a, b, c, d] = extreme_lens(r, n);
+    write!(given, " outlow={a} outlowp={b} outhigh={c} outhighp={d}").unwrap();
+    (vec![of, op, a, b, c, d], given)
 }
-/// The number, then the answers, none where the call is refused.
-fn answer(o: &mut String, asked: Asked, code: u32, answers: impl FnOnce() -> Columns) {
-    write!(o, "refusal={code}").unwrap();
-    let answers = if code == 0 { answers() } else { vec![vec![]; asked.columns()] };
-    names(asked).iter().zip(answers).for_each(|((values, present), v)| *o += &column(values, present, &v));
+/// The number, then the answers, none where the call is refused; of variance the lowest and the highest too.
+fn answer(o: &mut String, f: Figure, code: u32, figures: impl FnOnce() -> Vec<Option<f64>>, lows: impl FnOnce() -> Vec<Extremes>) {
+    *o += &if code == 0 { rows(&figures()) } else { format!("refusal={code} v= p=") };
+    if f.has_extremes() {
+        *o += &extremes(&if code == 0 { lows() } else { vec![] });
+    }
 }
 
 fn keen_figure(r: &mut Rng) -> Figure {
@@ -206,9 +210,8 @@ fn record(r: &mut Rng, kind: &str) -> String {
             let count = if keen { 6 + r.below(18) } else { r.below(24) };
             let rw = if keen && r.chance(2, 3) { r.slides(n, count) } else { r.rows(n, count) };
             let f = if keen { keen_figure(r) } else { r.figure() };
-            let asked = Asked::with(f, &mut Rng(r.0 ^ 6));
             let min = if keen { 1 + r.below(6) } else { r.minimum() };
-            rough(r, asked, &mut x);
+            rough(r, f, &mut x);
             let mut starts: Vec<usize> = rw.iter().map(|v| v.0).collect();
             let mut ends: Vec<usize> = rw.iter().map(|v| v.1).collect();
             let mut short = 0;
@@ -227,14 +230,14 @@ fn record(r: &mut Rng, kind: &str) -> String {
                 }
             }
             let widest = starts.iter().zip(&ends).map(|(s, e)| e.saturating_sub(*s)).max().unwrap_or(0);
-            let work = (Asked::ENTRY * widest + if r.chance(1, 6) { r.below(9) } else { 0 }).saturating_sub(short);
-            let (outs, given) = outs(r, asked, starts.len());
-            let code = refusal::plan(n, m.map(|v| v.len()), &starts, &ends, &outs, Asked::ENTRY, work);
-            write!(o, "plan {} min={min} x={} map={} ", setting(asked), list(&x), map(m)).unwrap();
+            let work = (f.entry() * widest + if r.chance(1, 6) { r.below(9) } else { 0 }).saturating_sub(short);
+            let (of, op) = (out_len(r, starts.len()), out_len(r, starts.len()));
+            let (outs, given) = outs(r, f, starts.len(), of, op);
+            let code = refusal::plan(n, m.map(|v| v.len()), &starts, &ends, &outs, f.entry(), work);
+            write!(o, "plan {} min={min} x={} map={} ", setting(f), list(&x), map(m)).unwrap();
             write!(o, "starts={} ends={} {given} work={work} => ", nums(&starts), nums(&ends)).unwrap();
             let rw: Vec<(usize, usize)> = starts.iter().copied().zip(ends.iter().copied()).collect();
-            let lows = || extremes::of_rows(&x, m, rw.iter().copied(), min);
-            answer(&mut o, asked, code, || asked.answers(|f| plan(&x, m, &rw, f, min), lows));
+            answer(&mut o, f, code, || plan(&x, m, &rw, f, min), || oracle::extremes::of_rows(&x, m, rw.iter().copied(), min));
         }
         "fixed" => {
             let keen = r.chance(1, 2);
@@ -246,17 +249,19 @@ fn record(r: &mut Rng, kind: &str) -> String {
             let size = match r.below(14) { 0 => usize::MAX - r.below(3), 1 => 1 << 63, 2 => r.below(100), 3 => 0, _ => r.below(14) };
             let centre = r.chance(1, 2);
             let f = if keen { keen_figure(r) } else { r.figure() };
-            let asked = Asked::with(f, &mut Rng(r.0 ^ 6));
             let min = if keen { 1 + r.below(6) } else { r.minimum() };
-            rough(r, asked, &mut x);
+            rough(r, f, &mut x);
             let short = if r.chance(1, 30) { 1 } else { 0 };
-            let work = (Asked::ENTRY * size.min(n) + if r.chance(1, 6) { r.below(9) } else { 0 }).saturating_sub(short);
-            let (outs, given) = outs(r, asked, n);
-            let code = refusal::fixed(n, m.map(|v| v.len()), size, &outs, Asked::ENTRY, work);
-            write!(o, "fixed {} min={min} size={size} centre={} ", setting(asked), centre as u8).unwrap();
+            let work = (f.entry() * size.min(n) + if r.chance(1, 6) { r.below(9) } else { 0 }).saturating_sub(short);
+            let (of, op) = (out_len(r, n), out_len(r, n));
+            let (outs, given) = outs(r, f, n, of, op);
+            let code = refusal::fixed(n, m.map(|v| v.len()), size, &outs, f.entry(), work);
+            write!(o, "fixed {} min={min} size={size} centre={} ", setting(f), centre as u8).unwrap();
             write!(o, "x={} map={} {given} work={work} => ", list(&x), map(m)).unwrap();
-            let call = windows::Call { asked, weights: None, x: &x, has_map: m.is_some(), map: m.unwrap_or(&[]), size, min, centre };
-            answer(&mut o, asked, code, || call.answers());
+            let bounds = (0..n).map(|i| offsets(i, size, n, centre));
+            // the Rust panics on an empty trace with a trailing window; document 01: no rows
+            let figures = || if n == 0 { vec![] } else { fixed(&x, m, size, min, centre, f) };
+            answer(&mut o, f, code, figures, || oracle::extremes::of_rows(&x, m, bounds, min));
         }
         "weighted" => {
             let n = size_n(r).min(80);
@@ -272,8 +277,11 @@ fn record(r: &mut Rng, kind: &str) -> String {
             let (of, op) = (out_len(r, n), out_len(r, n));
             let code = refusal::weighted(n, m.map(|v| v.len()), size, &w, &[of, op]);
             write!(o, "weighted min={min} size={size} centre={} w={} x={} map={} outv={of} outp={op} => ", centre as u8, list(&w), list(&x), map(m)).unwrap();
-            let rows = if code == 0 { weighted(&x, size, min, centre, &w).unwrap() } else { vec![] };
-            o += &answered(code, &rows);
+            if code == 0 {
+                o += &rows(&weighted(&x, size, min, centre, &w).unwrap());
+            } else {
+                write!(o, "refusal={code} v= p=").unwrap();
+            }
         }
         "bounds" => {
             let n = 1 + r.below(40);

@@ -1,6 +1,7 @@
 //! Writes the lists that the program `vectors` replays, one file for each kind (FORMAT.md, 'Word lists').
 //! usage: words SEED FOLDER
 use oracle::cases::*;
+use oracle::extremes::Extremes;
 use oracle::host::{Case, Room};
 use oracle::record::*;
 use oracle::rng::Rng;
@@ -77,14 +78,16 @@ fn before(r: &mut Rng, s: &str) -> Vec<f64> {
 /// What the lists that a call on windows is lent hold before it and after it.
 struct Lent {
     held: Vec<u64>,
-    /// The lists that take answers, of each column the doubles and then the bytes.
-    outputs: Vec<Vec<u64>>,
+    figures: Vec<u64>,
+    present: Vec<u64>,
+    /// The lowest, its bytes, the highest, its bytes, where the call gives them.
+    extremes: Option<[Vec<u64>; 4]>,
 }
 impl Lent {
     /// Every list holds before the call the first words of `held`; of a NaN the program cannot see the bits, so one there is
-    /// the one it reads. What the lists are longer than they were before document 02's requests 4 and 5, where the work slice had so many
+    /// the one it reads. What the lists are longer than they were before document 02's request 4, where the work slice had so many
     /// doubles, is drawn by a generator of its own, so that the other records stay the same.
-    fn new(r: &mut Rng, room: Room, work: usize, columns: usize) -> Lent {
+    fn new(r: &mut Rng, room: Room, work: usize, has_extremes: bool) -> Lent {
         let any = |r: &mut Rng| match r.below(4) {
             0 => canon(r.bad()),
             1 => r.reading(2).to_bits(),
@@ -93,23 +96,30 @@ impl Lent {
         let longest = |work: usize| work.max(room.readings).max(room.figures).max(room.present);
         let mut held: Vec<u64> = (0..longest(work)).map(|_| any(r)).collect();
         let mut own = Rng(r.0 ^ 4);
-        let all = room.more.into_iter().fold(longest(room.work), usize::max);
+        let all = room.extremes.into_iter().fold(longest(room.work), usize::max);
         held.resize_with(all, || any(&mut own));
         let doubles = |n: usize| held[..n].to_vec();
         let bytes = |n: usize| held[..n].iter().map(|w| w % 256).collect::<Vec<u64>>();
-        let outputs = room.outs()[..2 * columns].chunks(2).flat_map(|column| [doubles(column[0]), bytes(column[1])]).collect();
-        Lent { held, outputs }
+        let (figures, present, [a, b, c, d]) = (doubles(room.figures), bytes(room.present), room.extremes);
+        let extremes = has_extremes.then(|| [doubles(a), bytes(b), doubles(c), bytes(d)]);
+        Lent { held, figures, present, extremes }
     }
-    fn answered(&mut self, columns: Columns) {
-        for (lists, column) in self.outputs.chunks_mut(2).zip(columns) {
-            for (i, row) in column.into_iter().enumerate() {
-                (lists[0][i], lists[1][i]) = row.map_or((0, 0), |x| (canon(x), 1));
-            }
+    fn answered(&mut self, rows: Vec<Option<f64>>) {
+        for (i, row) in rows.into_iter().enumerate() {
+            (self.figures[i], self.present[i]) = row.map_or((0, 0), |x| (canon(x), 1));
+        }
+    }
+    fn answered_extremes(&mut self, rows: Option<Vec<Extremes>>) {
+        let (Some([lowest, lowest_present, highest, highest_present]), Some(rows)) = (&mut self.extremes, rows) else { return };
+        for (i, row) in rows.into_iter().enumerate() {
+            let [low, high] = row.map(|x| x.map_or((0, 0), |x| (x.to_bits(), 1)));
+            ((lowest[i], lowest_present[i]), (highest[i], highest_present[i])) = (low, high);
         }
     }
     /// The lists that take answers, as they stand in a record.
-    fn outputs(self) -> impl Iterator<Item = Pair> {
-        self.outputs.into_iter().map(list)
+    fn outputs(self) -> Vec<Pair> {
+        let extremes = self.extremes.into_iter().flatten();
+        [self.figures, self.present].into_iter().chain(extremes).map(list).collect()
     }
 }
 /// Two words of a record on windows: where a list stands and its length, or two numbers that the call is given.
@@ -144,11 +154,12 @@ fn window_record(figure: [u64; 4], min: usize, has_map: bool, number: u32, free:
     }
     words
 }
-/// Of variance 0, ddof, 0, 0, of skewness and kurtosis 1, the kurtosis biased, the skewness biased, fisher.
-fn setting(asked: Asked) -> [u64; 4] {
-    match asked {
-        Asked::Var { ddof } => [0, ddof as u64, 0, 0],
-        Asked::SkewKurtosis { skew_bias, fisher, kurtosis_bias } => [1, kurtosis_bias as u64, skew_bias as u64, fisher as u64],
+/// Figure, ddof, biased, fisher.
+fn setting(figure: Figure) -> [u64; 4] {
+    match figure {
+        Figure::Var { ddof } => [0, ddof as u64, 0, 0],
+        Figure::Skew { bias } => [1, 0, bias as u64, 0],
+        Figure::Kurt { fisher, bias } => [2, 0, bias as u64, fisher as u64],
     }
 }
 /// A trace's bytes, eight a word, lowest first.
@@ -161,7 +172,7 @@ fn wide(v: &[u32]) -> Vec<u64> {
 }
 fn plan_record(r: &mut Rng, case: &Case) -> Vec<u64> {
     let (call, room) = (case.call(), case.room);
-    let mut lent = Lent::new(r, room, case.drawn_work(), call.asked.columns());
+    let mut lent = Lent::new(r, room, case.drawn_work(), call.figure.has_extremes());
     let mut readings = lent.held[..room.readings].to_vec();
     let number = call.refusal(room);
     let mut free = 0;
@@ -171,6 +182,7 @@ fn plan_record(r: &mut Rng, case: &Case) -> Vec<u64> {
             *to = canon(x);
         }
         lent.answered(call.answers());
+        lent.answered_extremes(call.extremes());
     }
     let mut pairs = vec![
         packed(call.trace),
@@ -181,17 +193,18 @@ fn plan_record(r: &mut Rng, case: &Case) -> Vec<u64> {
         list(readings),
     ];
     pairs.extend(lent.outputs());
-    window_record(setting(call.asked), call.min, call.has_map, number, free, pairs)
+    window_record(setting(call.figure), call.min, call.has_map, number, free, pairs)
 }
 /// A record of fixed or weighted.
 fn fixed_record(r: &mut Rng, case: &windows::Case) -> Vec<u64> {
     let (call, room) = (case.call(), case.room);
-    let mut lent = Lent::new(r, room, case.drawn_work(), call.columns());
+    let mut lent = Lent::new(r, room, case.drawn_work(), call.has_extremes());
     let number = call.refusal(room);
     let mut free = 0;
     if number == 0 {
         free = call.need();
         lent.answered(call.answers());
+        lent.answered_extremes(call.extremes());
     }
     let mut pairs = vec![
         list(bits(call.x)),
@@ -202,14 +215,14 @@ fn fixed_record(r: &mut Rng, case: &windows::Case) -> Vec<u64> {
         Pair::Numbers(0, 0),
     ];
     pairs.extend(lent.outputs());
-    let figure = if call.weights.is_some() { [3, 0, 0, 0] } else { setting(call.asked) };
+    let figure = if call.weights.is_some() { [3, 0, 0, 0] } else { setting(call.figure) };
     window_record(figure, call.min, call.has_map, number, free, pairs)
 }
 /// A record of paired or paired_fixed: as those of one trace, with the second trace, its map and its readings behind the first's lists.
 fn pair_record(r: &mut Rng, case: &pairs::Case) -> Vec<u64> {
     let [first, second] = [&case.x, &case.y].map(|trace| if case.decodes() { trace.decoded } else { 0 });
     let room = Room { readings: first.max(second), work: case.work, figures: case.figures, present: case.present, ..Room::default() };
-    let mut lent = Lent::new(r, room, case.work, 1);
+    let mut lent = Lent::new(r, room, case.work, false);
     let number = case.refusal();
     let decoded = |trace: &pairs::Trace, places: usize| {
         if !case.decodes() {
@@ -225,7 +238,7 @@ fn pair_record(r: &mut Rng, case: &pairs::Case) -> Vec<u64> {
     let mut free = 0;
     if number == 0 {
         free = case.need();
-        lent.answered(vec![case.answers()]);
+        lent.answered(case.answers());
     }
     let (starts, ends) = match &case.windows {
         pairs::Windows::Plan { starts, ends } => (list(wide(starts)), list(wide(ends))),
@@ -233,10 +246,19 @@ fn pair_record(r: &mut Rng, case: &pairs::Case) -> Vec<u64> {
     };
     let trace = |trace: &pairs::Trace| if case.decodes() { packed(trace.bytes()) } else { list(bits(&trace.readings())) };
     let map = |trace: &pairs::Trace| list(bytes(Some(&trace.map)));
-    let held = Pair::List(case.work, std::mem::take(&mut lent.held));
-    let mut pairs = vec![trace(&case.x), map(&case.x), starts, ends, held, x_readings];
-    pairs.extend(lent.outputs());
-    pairs.extend([trace(&case.y), map(&case.y), y_readings]);
+    let pairs = vec![
+        trace(&case.x),
+        map(&case.x),
+        starts,
+        ends,
+        Pair::List(case.work, lent.held),
+        x_readings,
+        list(lent.figures),
+        list(lent.present),
+        trace(&case.y),
+        map(&case.y),
+        y_readings,
+    ];
     let second = case.y.has_map as u64;
     let figure = match case.figure {
         PairFigure::Cov { ddof } => [0, ddof as u64, second, 0],
@@ -475,18 +497,33 @@ fn records(r: &mut Rng, kind: &str) -> Vec<Vec<u64>> {
             other_range_maps(r, &mut out);
         }
         "plan" => {
-            for cases in [cases, other_plan_maps, extreme_cases, both_cases] {
-                out.extend(cases(r).iter().map(|case| plan_record(r, case)));
+            for case in cases(r) {
+                out.push(plan_record(r, &case));
+            }
+            for case in other_plan_maps(r) {
+                out.push(plan_record(r, &case));
+            }
+            for case in extreme_cases(r) {
+                out.push(plan_record(r, &case));
             }
         }
         "fixed" => {
-            for cases in [fixed_cases, other_fixed_maps, extreme_fixed_cases, both_fixed_cases] {
-                out.extend(cases(r).iter().map(|case| fixed_record(r, case)));
+            for case in fixed_cases(r) {
+                out.push(fixed_record(r, &case));
+            }
+            for case in other_fixed_maps(r) {
+                out.push(fixed_record(r, &case));
+            }
+            for case in extreme_fixed_cases(r) {
+                out.push(fixed_record(r, &case));
             }
         }
         "weighted" => {
-            for cases in [weighted_cases, other_weighted_maps] {
-                out.extend(cases(r).iter().map(|case| fixed_record(r, case)));
+            for case in weighted_cases(r) {
+                out.push(fixed_record(r, &case));
+            }
+            for case in other_weighted_maps(r) {
+                out.push(fixed_record(r, &case));
             }
         }
         "paired" => out.extend(pair_cases::plans(r).iter().map(|case| pair_record(r, case))),

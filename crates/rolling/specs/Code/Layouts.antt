@@ -1,12 +1,13 @@
 -- How the states of the moments lie on the front stack: their members in the source's order, and of variance the lowest and highest
--- reading behind them. The states of kurtosis serve skewness too. Assumes nothing.
+-- reading behind them. Assumes nothing.
 use Rattle.std.specs.Prelude.{[], ◌∷◌, slice_index_or, refl, Float}
 use Rattle.std.specs.Float.{nan}
+use Rattle.moment.specs.declared.skew_state.SkewState.{SkewState}
 use Rattle.moment.specs.declared.kurtosis_state.KurtosisState.{KurtosisState}
 use Rattle.moment.specs.declared.cov_state.CovState.{CovState}
 use Rattle.moment.specs.declared.pearson_state.PearsonState.{PearsonState}
 use Rattle.window.specs.Code.Memory.{Layout, Stored, ReadingStates, of_readings, PairStates, of_pairs}
-use Rattle.rolling.specs.Moments.{kurtosis, covariance, correlation}
+use Rattle.rolling.specs.Moments.{skewness, kurtosis, covariance, correlation}
 use Rattle.rolling.specs.Code.Extremes.{variance_extremes}
 use Rattle.rolling.specs.declared.extremes.VarExtremes.{VarExtremes}
 
@@ -21,6 +22,16 @@ var_layout =
             lowest = slice_index_or l 3 nan;
             highest = slice_index_or l 4 nan;
           };
+      stored = λ s. refl;
+      loaded = λ s rest. refl;
+    }
+
+abbrev pub skew_layout : Layout Float SkewState
+skew_layout =
+    record {
+      width = 4;
+      store = λ s. s.weight ∷ s.mean ∷ s.m2 ∷ s.m3 ∷ [];
+      load = λ l. record { weight = slice_index_or l 0 nan; mean = slice_index_or l 1 nan; m2 = slice_index_or l 2 nan; m3 = slice_index_or l 3 nan };
       stored = λ s. refl;
       loaded = λ s rest. refl;
     }
@@ -66,12 +77,18 @@ pearson_layout =
 abbrev pub var_states : ReadingStates
 var_states = record { moment = variance_extremes; in_front = var_layout }
 
+abbrev pub skew_states : ReadingStates
+skew_states = record { moment = skewness; in_front = skew_layout }
+
 abbrev pub kurtosis_states : ReadingStates
 kurtosis_states = record { moment = kurtosis; in_front = kurtosis_layout }
 
 -- each with readings on the back stack
 abbrev pub var_stored : Stored Float Float
 var_stored = of_readings var_states
+
+abbrev pub skew_stored : Stored Float Float
+skew_stored = of_readings skew_states
 
 abbrev pub kurtosis_stored : Stored Float Float
 kurtosis_stored = of_readings kurtosis_states

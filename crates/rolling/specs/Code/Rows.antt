@@ -1,5 +1,5 @@
 -- What the row loops of every moment say of a call's rows: where they may begin, and what they leave. Assumes nothing.
-use Rattle.std.specs.Prelude.{◌≡◌, ℕ, ◌+◌, ◌-◌, ◌*◌, ◌^◌, ◌<◌, ◌≤◌, min, Bool, true, false, List, [], ◌∷◌, length, Float}
+use Rattle.std.specs.Prelude.{◌≡◌, ℕ, ◌+◌, ◌*◌, ◌^◌, ◌<◌, ◌≤◌, min, Bool, List, [], ◌∷◌, length, Float}
 use Rattle.trace.specs.Slices.{Slice, entering}
 use Rattle.moment.specs.declared.Figure.{Figure}
 use Rattle.plan.specs.Plan.{Plan, rows, row_start, row_end}
@@ -66,15 +66,6 @@ TalliesBelow t w s valid nonfinite = s < w.end → Tallied t w.start s valid non
 -- the rows of a call over n places, of fixed windows or as they are listed
 abbrev pub plan_by : Rows → ℕ → List ℕ → List ℕ → Plan
 plan_by r n starts ends = rows_of r.fixed r.left r.right n starts ends
-
--- the rows of a plan
-abbrev pub listed_rows : ℕ → ℕ → Rows
-listed_rows min_periods wide = record { fixed = false; left = 0; right = 0; min_periods = min_periods; widest = wide }
-
--- the rows of fixed windows, by how far they reach to the right
-abbrev pub fixed_rows : ℕ → ℕ → ℕ → ℕ → Rows
-fixed_rows right size min_periods wide =
-    record { fixed = true; left = size - right; right = right; min_periods = min_periods; widest = wide }
 
 -- as many starts as ends
 abbrev pub SameMany : Rows → ℕ → List ℕ → List ℕ → Type 0
@@ -162,10 +153,6 @@ abbrev pub Works : {A : Type 0} → (M : Stored Float A) → (M.moment.State →
 Works M final t n r starts ends first until work₀ figures₀ present₀ w agg work figures present =
     WorksColumns M t n r starts ends ((λ k. row_answer M final t n r starts ends k) ∷ []) first until work₀ (column figures₀ present₀ ∷ [])
     w agg work (column figures present ∷ [])
-
--- the length of the shortest of two figures' lists
-abbrev pub shortest_two : List Float → List ℕ → List Float → List ℕ → ℕ
-shortest_two d b d' b' = shortest_of (answer_lengths (column d b ∷ column d' b' ∷ []))
 
 -- the length of the shortest of three figures' lists
 abbrev pub shortest_three : List Float → List ℕ → List Float → List ℕ → List Float → List ℕ → ℕ

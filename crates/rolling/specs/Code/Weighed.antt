@@ -1,8 +1,8 @@
--- The weights of a window's states count its readings, as the private contracts of `VarianceMoment` and `SkewKurtosisMoment` state it.
--- Assumes nothing.
+-- The weights of a window's states count its readings, as the private contracts of `VarianceMoment` and `SkewMoment` state it. Assumes
+-- nothing.
 use Rattle.std.specs.Prelude.{◌≡◌, ℕ, ◌+◌, ◌*◌, ◌^◌, ◌≤◌, List, length, Float}
 use Rattle.float.specs.Operators.{of_nat64}
-use Rattle.moment.specs.declared.kurtosis_state.KurtosisState.{KurtosisState}
+use Rattle.moment.specs.declared.skew_state.SkewState.{SkewState}
 use Rattle.window.specs.Code.Memory.{ReadingStates, of_readings}
 use Rattle.window.specs.Code.Stacks.{top_of}
 use Rattle.window.specs.declared.Window.{Window}
@@ -12,8 +12,8 @@ use Rattle.rolling.specs.declared.extremes.VarExtremes.{VarExtremes}
 abbrev pub var_weight : VarExtremes → Float
 var_weight s = s.var.weight
 
-abbrev pub kurtosis_weight : KurtosisState → Float
-kurtosis_weight s = s.weight
+abbrev pub skew_weight : SkewState → Float
+skew_weight s = s.weight
 
 -- the weights of a window's two states count its readings, and the front state lies in the work slice
 pub record Weighed (m : ReadingStates) (weight : m.moment.State → Float) (w : Window) (agg : m.moment.State) (work : List Float) : Type 0 where

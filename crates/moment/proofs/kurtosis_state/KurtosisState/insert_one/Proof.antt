@@ -8,5 +8,5 @@ pub insert-one-spec : {M : Type 1} → statement M
 unfolding kurtosis_clear
 insert-one-spec =
     let met = tie.spec (λ c κs. search rules) (λ c. rw c.before.if1.true c.zero-weight.ensures)
-    (λ c κs. search rules) (λ c. rw c.before.if1.false c.inserted.ensures) in
+    (λ c. rw c.before.before.before.before.before.before.before.before.before.before.if1.false) in
     tie.close met

@@ -1,0 +1,170 @@
+-- `root::settle` meets its contract: where there is no doubt no difference has wrapped around, so what is left of x * 2 ^ 52
+-- and r is exact, and below four times r it puts the rounded root at r or at the next number. Assumes nothing.
+use Rattle.std.proofs.Common.{◌≡◌, ℕ, ◌+◌, ◌-◌, ◌*◌, ◌/◌, ◌%◌, ◌^◌, ◌<◌, ◌≤◌, sym, ap, mul-le-mul, lt_of_not-le, arith, rules}
+use native.Mathlib.Decide.{dec_le}
+use Rattle.root.specs.Root.{rounded_root}
+use Rattle.root.proofs.IntegerRoot.{rounded_to}
+use Rattle.root.proofs.settle.Statement.{statement}
+use Rattle.root.proofs.settle.Tie as tie
+
+-- the products of the two parts of r fit a word
+record Parts (high low : ℕ) : Type 0 where
+  top : high * high < 2 ^ 54
+  cross : high * low < 2 ^ 53
+  bottom : low * low < 2 ^ 52
+
+parts : (r : ℕ) → r < 2 ^ 53 → Parts (r / 0x4000000) (r % 0x4000000)
+parts r b =
+    let H : r / 0x4000000 ≤ 2 ^ 27 - 1 = omega arith in
+    let L : r % 0x4000000 ≤ 2 ^ 26 - 1 = omega arith in
+    record {
+      top = omega (arith, mul-le-mul H H);
+      cross = omega (arith, mul-le-mul H L);
+      bottom = omega (arith, mul-le-mul L L);
+    }
+
+-- the last of the doubts is small
+fits_sum : {t d : ℕ} → t < 2 ^ 63 → d < 2 ^ 63 → t + d / 2 ^ 60 < 2 ^ 64
+fits_sum h g = omega arith
+
+-- what is left of x * 2 ^ 52
+exactly : (x r h l upper lower rest : ℕ) → r ≡ h * 2 ^ 26 + l → upper + h * h ≡ x + 1 → lower + h * l ≡ upper * 2 ^ 25
+    → rest + (l * l + (2 ^ 52 + 1)) ≡ lower * 2 ^ 27 + r → x * 2 ^ 52 + r ≡ r * r + rest + 1
+exactly x r h l upper lower rest e a b d =
+    let f : r * r ≡ (h * 2 ^ 26 + l) * (h * 2 ^ 26 + l) = ap (λ (z : ℕ). z * z) e in
+    omega arith
+
+-- a difference below 2 ^ 63 of a number below 2 ^ 63 has not wrapped around
+unwrapped : (d a b : ℕ) → d < 2 ^ 63 → b < 2 ^ 63 → (d + b) % 2 ^ 64 ≡ a → d + b ≡ a
+unwrapped d a b h g e = omega arith
+
+-- n is r * r + rest + 1 - r
+module _ (n r rest : ℕ) (few : n < 2 ^ 106) (e : n + r ≡ r * r + rest + 1) where
+  same : rest < r * 2 → r ≡ rounded_root 0 n
+  same h = sym (rounded_to n r few (omega arith) (omega arith) (omega arith))
+
+  one_more : r * 2 ≤ rest → rest < r * 4 + 2 → r + 1 ≡ rounded_root 0 n
+  one_more h g = sym (rounded_to n (r + 1) few (omega arith) (omega arith) (omega arith))
+
+-- what is left is exact where no difference is too large
+left : (c : tie.After-wrapping-sub-u643) → let s = c.before.before.before in
+    let rest = c.wrapping-sub-u643.result in
+    c.before.before.wrapping-sub-u64.result < 2 ^ 29 → c.before.wrapping-sub-u642.result < 2 ^ 30 → rest < 2 ^ 57
+    → s.args.x * 2 ^ 52 + s.args.r ≡ s.args.r * s.args.r + rest + 1
+left c h k l =
+    let s = c.before.before.before in
+    let r = s.args.r in
+    let p = parts r s.requires.1 in
+    let upper = c.before.before.wrapping-sub-u64 in
+    let lower = c.before.wrapping-sub-u642 in
+    let rest = c.wrapping-sub-u643 in
+    exactly s.args.x r (r / 0x4000000) (r % 0x4000000) upper.result lower.result rest.result (omega arith)
+    (unwrapped upper.result _ _ (omega arith) (omega (arith, p)) upper.ensures)
+    (omega (arith, unwrapped lower.result _ _ (omega arith) (omega (arith, p)) lower.ensures))
+    (omega (arith, unwrapped rest.result _ _ (omega arith) (omega (arith, p)) rest.ensures))
+
+add-wrapping-sub-u64 : tie.Need-overflow-add-wrapping-sub-u64
+add-wrapping-sub-u64 c = search rules
+
+mul-wrapping-sub-u64 : tie.Need-overflow-mul-wrapping-sub-u64
+mul-wrapping-sub-u64 c = omega (arith, parts c.args.r c.requires.1)
+
+wrapping-sub-u64-requires : tie.Need-wrapping-sub-u64-requires
+wrapping-sub-u64-requires c κs = search rules
+
+mul-wrapping-sub-u64-2 : tie.Need-overflow-mul-wrapping-sub-u64-2
+mul-wrapping-sub-u64-2 c = search rules
+
+mul-wrapping-sub-u64-3 : tie.Need-overflow-mul-wrapping-sub-u64-3
+mul-wrapping-sub-u64-3 c = omega (arith, parts c.before.args.r c.before.requires.1)
+
+wrapping-sub-u64-requires-2 : tie.Need-wrapping-sub-u64-requires-2
+wrapping-sub-u64-requires-2 c κs = search rules
+
+mul-wrapping-sub-u64-4 : tie.Need-overflow-mul-wrapping-sub-u64-4
+mul-wrapping-sub-u64-4 c = search rules
+
+add-wrapping-sub-u64-2 : tie.Need-overflow-add-wrapping-sub-u64-2
+add-wrapping-sub-u64-2 c = search rules
+
+mul-wrapping-sub-u64-5 : tie.Need-overflow-mul-wrapping-sub-u64-5
+mul-wrapping-sub-u64-5 c = omega (arith, parts c.before.before.args.r c.before.before.requires.1)
+
+add-wrapping-sub-u64-3 : tie.Need-overflow-add-wrapping-sub-u64-3
+add-wrapping-sub-u64-3 c = omega (arith, parts c.before.before.args.r c.before.before.requires.1)
+
+wrapping-sub-u64-requires-3 : tie.Need-wrapping-sub-u64-requires-3
+wrapping-sub-u64-requires-3 c κs = search rules
+
+add-more : tie.Need-overflow-add-more
+add-more c = search rules
+
+mul-more : tie.Need-overflow-mul-more
+mul-more c = search rules
+
+sub_more : tie.Need-overflow-sub-more
+sub_more c = search rules
+
+add-far : tie.Need-overflow-add-far
+add-far c = search rules
+
+mul-far : tie.Need-overflow-mul-far
+mul-far c = search rules
+
+sub-far : tie.Need-overflow-sub-far
+sub-far c = search rules
+
+add-t14 : tie.Need-overflow-add-t14
+add-t14 c = search rules
+
+add-t13 : tie.Need-overflow-add-t13
+add-t13 c = search rules
+
+add-t16 : tie.Need-overflow-add-t16
+add-t16 c = record { fits = fits_sum (omega arith) (omega arith) }
+
+returns : tie.Need-returns
+returns c =
+    let s = c.before.before.before in
+    let r = s.args.r in
+    let n = s.args.x * 2 ^ 52 in
+    let rest = c.wrapping-sub-u643.result in (
+      omega arith,
+      omega arith,
+      λ e.
+          let top : c.before.before.wrapping-sub-u64.result < 2 ^ 29 = omega arith in
+          let middle : c.before.wrapping-sub-u642.result < 2 ^ 30 = omega arith in
+          let cut : rest < 2 ^ 57 = omega arith in
+          let close : rest < r * 4 + 2 = omega arith in
+          let few : n < 2 ^ 106 = omega arith in
+          elim (dec_le (r * 2) rest) [
+            | yes h ↦ omega (arith, one_more n r rest few (left c top middle cut) h close)
+            | no h ↦ omega (arith, same n r rest few (left c top middle cut) (lt_of_not-le h))
+          ],
+    )
+
+pub settle-spec : {M : Type 1} → statement M
+settle-spec =
+    tie.close
+    (tie.spec
+    add-wrapping-sub-u64
+    mul-wrapping-sub-u64
+    wrapping-sub-u64-requires
+    mul-wrapping-sub-u64-2
+    mul-wrapping-sub-u64-3
+    wrapping-sub-u64-requires-2
+    mul-wrapping-sub-u64-4
+    add-wrapping-sub-u64-2
+    mul-wrapping-sub-u64-5
+    add-wrapping-sub-u64-3
+    wrapping-sub-u64-requires-3
+    add-more
+    mul-more
+    sub_more
+    add-far
+    mul-far
+    sub-far
+    add-t14
+    add-t13
+    add-t16
+    returns)
