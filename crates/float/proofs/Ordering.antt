@@ -309,6 +309,8 @@ eq_other s m e =
 signed : (s b : Bool) → T b → (s && b) ≡ s
 signed true true t = refl
 signed false true t = refl
+signed true false t = elim t [ ]
+signed false false t = elim t [ ]
 
 by_cases : (x : Float) → T (fits binary64 x) → finite x ≡ true → x ⊕ zero64 ≡ cond (eq x plus_zero) plus_zero x
 by_cases nan t f = absurd (false≢true f)

@@ -1,5 +1,7 @@
 // 64-bit floats: the one NaN that figures are written with, the finiteness test, the way between a float and its bits for every
 // pattern, and readings that are lent as bytes. Contracts are in the logic's own IEEE 754 (lib.Ieee), where there is one NaN.
+#![tactic(auto)]
+
 ghost use Rattle.std.specs.Prelude.{◌≡◌, min, ◌+◌, ◌≤◌, ◌<◌, length};
 ghost use Rattle.std.specs.Float.{nan, binary64};
 ghost use Rattle.std.specs.Float.Ieee.{of_bits, to_bits};

@@ -1,0 +1,18 @@
+-- One reading more of a table. Assumes nothing.
+use Prim.Native.Nat.{◌-◌, ◌≤◌}
+use mathlib.Core.Path.{◌≡◌, refl, ◌∙◌}
+use mathlib.Core.List.{◌++◌}
+use native.Mathlib.Omega.{arith}
+use borrow.Author.Rules.{rules}
+use lib.ListN.{length, drop, length-set}
+use Rattle.float.specs.Tables.{table}
+use Rattle.float.specs.Bytes.{reading_at, decoded_into}
+use Rattle.float.proofs.Tables.{table_more}
+use Rattle.float.proofs.decode.Given as goal
+
+abbrev pub invariant-loop-i : goal.invariant-loop-i
+invariant-loop-i l =
+    (l.i ≤ l.n) × (length l.readings ≡ length l.initial.readings) × (l.readings ≡ table (reading_at l.trace) l.i ++ drop l.i l.initial.readings)
+
+abbrev pub decreases-loop-i : goal.decreases-loop-i
+decreases-loop-i l = l.n - l.i
