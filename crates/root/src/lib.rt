@@ -1,5 +1,7 @@
 // The square root of a double, correctly rounded (document 01, "Root"). A guess is worked out in floats, since that is
 // quick, then checked and rounded in whole numbers; where it is too far off the root is found digit by digit.
+#![tactic(auto)]
+
 ghost use Rattle.std.specs.Prelude.{◌≡◌, ◌+◌, ◌*◌, ◌/◌, ◌%◌, ◌^◌, ◌<◌, ◌≤◌, map, length, from_bits};
 ghost use Rattle.std.specs.Float.{binary64};
 ghost use Rattle.root.specs.Root.{root as root_of, roots_into, root_of_units, rounded_root};

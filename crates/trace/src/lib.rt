@@ -1,5 +1,7 @@
 // A trace's places and the refusals of its sender and of the asker of a range. Every function is total, so that the crates
 // above share them.
+#![tactic(auto)]
+
 ghost use Rattle.std.specs.Prelude.{◌≡◌, ◌||◌, ◌+◌, ltb};
 ghost use Rattle.trace.specs.Trace.{valid_at, both_at};
 ghost use Rattle.trace.specs.Refusals.{refusal, ◌or_else◌, wrong_map, array_refusal, pair_refusal, range_refusal};

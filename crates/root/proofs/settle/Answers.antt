@@ -4,8 +4,7 @@ use Rattle.std.proofs.Common.{◌≡◌, ℕ, ◌+◌, ◌-◌, ◌*◌, ◌/◌
 use native.Mathlib.Decide.{dec_le}
 use Rattle.root.specs.Root.{rounded_root}
 use Rattle.root.proofs.IntegerRoot.{rounded_to}
-use Rattle.root.proofs.settle.Statement.{statement}
-use Rattle.root.proofs.settle.Tie as tie
+use Rattle.root.proofs.settle.Goals as goal
 
 -- the products of the two parts of r fit a word
 record Parts (high low : ℕ) : Type 0 where
@@ -47,93 +46,48 @@ module _ (n r rest : ℕ) (few : n < 2 ^ 106) (e : n + r ≡ r * r + rest + 1) w
   one_more h g = sym (rounded_to n (r + 1) few (omega arith) (omega arith) (omega arith))
 
 -- what is left is exact where no difference is too large
-left : (c : tie.After-wrapping-sub-u643) → let s = c.before.before.before in
-    let rest = c.wrapping-sub-u643.result in
-    c.before.before.wrapping-sub-u64.result < 2 ^ 29 → c.before.wrapping-sub-u642.result < 2 ^ 30 → rest < 2 ^ 57
+left : (c : goal.After-wrapping_sub_u64-rest) → let s = c in
     → s.args.x * 2 ^ 52 + s.args.r ≡ s.args.r * s.args.r + rest + 1
+    let rest = c.wrapping_sub_u64-rest.result in
+    c.wrapping_sub_u64-upper.result < 2 ^ 29 → c.wrapping_sub_u64-lower.result < 2 ^ 30 → rest < 2 ^ 57
 left c h k l =
-    let s = c.before.before.before in
+    let s = c in
     let r = s.args.r in
     let p = parts r s.requires.1 in
-    let upper = c.before.before.wrapping-sub-u64 in
-    let lower = c.before.wrapping-sub-u642 in
-    let rest = c.wrapping-sub-u643 in
+    let upper = c.wrapping_sub_u64-upper in
+    let lower = c.wrapping_sub_u64-lower in
+    let rest = c.wrapping_sub_u64-rest in
     exactly s.args.x r (r / 0x4000000) (r % 0x4000000) upper.result lower.result rest.result (omega arith)
     (unwrapped upper.result _ _ (omega arith) (omega (arith, p)) upper.ensures)
     (omega (arith, unwrapped lower.result _ _ (omega arith) (omega (arith, p)) lower.ensures))
     (omega (arith, unwrapped rest.result _ _ (omega arith) (omega (arith, p)) rest.ensures))
 
-add-wrapping-sub-u64 : tie.Need-overflow-add-wrapping-sub-u64
-add-wrapping-sub-u64 c = search rules
+pub overflow_mul-high : goal.overflow_mul-high
+overflow_mul-high c = omega (arith, parts c.args.r c.requires.1)
 
-mul-wrapping-sub-u64 : tie.Need-overflow-mul-wrapping-sub-u64
-mul-wrapping-sub-u64 c = omega (arith, parts c.args.r c.requires.1)
+pub overflow_mul-high-2 : goal.overflow_mul-high-2
+overflow_mul-high-2 c = omega (arith, parts c.args.r c.requires.1)
 
-wrapping-sub-u64-requires : tie.Need-wrapping-sub-u64-requires
-wrapping-sub-u64-requires c κs = search rules
+pub overflow_mul-low : goal.overflow_mul-low
+overflow_mul-low c = omega (arith, parts c.args.r c.requires.1)
 
-mul-wrapping-sub-u64-2 : tie.Need-overflow-mul-wrapping-sub-u64-2
-mul-wrapping-sub-u64-2 c = search rules
+pub overflow_add-low : goal.overflow_add-low
+overflow_add-low c = omega (arith, parts c.args.r c.requires.1)
 
-mul-wrapping-sub-u64-3 : tie.Need-overflow-mul-wrapping-sub-u64-3
-mul-wrapping-sub-u64-3 c = omega (arith, parts c.before.args.r c.before.requires.1)
+pub overflow_add-result-3 : goal.overflow_add-result-3
+overflow_add-result-3 c = record { fits = fits_sum (omega arith) (omega arith) }
 
-wrapping-sub-u64-requires-2 : tie.Need-wrapping-sub-u64-requires-2
-wrapping-sub-u64-requires-2 c κs = search rules
-
-mul-wrapping-sub-u64-4 : tie.Need-overflow-mul-wrapping-sub-u64-4
-mul-wrapping-sub-u64-4 c = search rules
-
-add-wrapping-sub-u64-2 : tie.Need-overflow-add-wrapping-sub-u64-2
-add-wrapping-sub-u64-2 c = search rules
-
-mul-wrapping-sub-u64-5 : tie.Need-overflow-mul-wrapping-sub-u64-5
-mul-wrapping-sub-u64-5 c = omega (arith, parts c.before.before.args.r c.before.before.requires.1)
-
-add-wrapping-sub-u64-3 : tie.Need-overflow-add-wrapping-sub-u64-3
-add-wrapping-sub-u64-3 c = omega (arith, parts c.before.before.args.r c.before.before.requires.1)
-
-wrapping-sub-u64-requires-3 : tie.Need-wrapping-sub-u64-requires-3
-wrapping-sub-u64-requires-3 c κs = search rules
-
-add-more : tie.Need-overflow-add-more
-add-more c = search rules
-
-mul-more : tie.Need-overflow-mul-more
-mul-more c = search rules
-
-sub_more : tie.Need-overflow-sub-more
-sub_more c = search rules
-
-add-far : tie.Need-overflow-add-far
-add-far c = search rules
-
-mul-far : tie.Need-overflow-mul-far
-mul-far c = search rules
-
-sub-far : tie.Need-overflow-sub-far
-sub-far c = search rules
-
-add-t14 : tie.Need-overflow-add-t14
-add-t14 c = search rules
-
-add-t13 : tie.Need-overflow-add-t13
-add-t13 c = search rules
-
-add-t16 : tie.Need-overflow-add-t16
-add-t16 c = record { fits = fits_sum (omega arith) (omega arith) }
-
-returns : tie.Need-returns
+pub returns : goal.returns
 returns c =
-    let s = c.before.before.before in
+    let s = c in
     let r = s.args.r in
     let n = s.args.x * 2 ^ 52 in
-    let rest = c.wrapping-sub-u643.result in (
+    let rest = c.wrapping_sub_u64-rest.result in (
       omega arith,
       omega arith,
       λ e.
-          let top : c.before.before.wrapping-sub-u64.result < 2 ^ 29 = omega arith in
-          let middle : c.before.wrapping-sub-u642.result < 2 ^ 30 = omega arith in
+          let top : c.wrapping_sub_u64-upper.result < 2 ^ 29 = omega arith in
+          let middle : c.wrapping_sub_u64-lower.result < 2 ^ 30 = omega arith in
           let cut : rest < 2 ^ 57 = omega arith in
           let close : rest < r * 4 + 2 = omega arith in
           let few : n < 2 ^ 106 = omega arith in
@@ -142,29 +96,3 @@ returns c =
             | no h ↦ omega (arith, same n r rest few (left c top middle cut) (lt_of_not-le h))
           ],
     )
-
-pub settle-spec : {M : Type 1} → statement M
-settle-spec =
-    tie.close
-    (tie.spec
-    add-wrapping-sub-u64
-    mul-wrapping-sub-u64
-    wrapping-sub-u64-requires
-    mul-wrapping-sub-u64-2
-    mul-wrapping-sub-u64-3
-    wrapping-sub-u64-requires-2
-    mul-wrapping-sub-u64-4
-    add-wrapping-sub-u64-2
-    mul-wrapping-sub-u64-5
-    add-wrapping-sub-u64-3
-    wrapping-sub-u64-requires-3
-    add-more
-    mul-more
-    sub_more
-    add-far
-    mul-far
-    sub-far
-    add-t14
-    add-t13
-    add-t16
-    returns)

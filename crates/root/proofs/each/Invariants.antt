@@ -1,0 +1,11 @@
+-- `root::each` meets its contract: each turn writes one root more. Assumes nothing.
+use Rattle.std.proofs.Common.{◌≡◌, ◌-◌, ◌<◌, ◌≤◌, length, refl, arith, length-set, rules}
+use Rattle.root.specs.Root.{root}
+use Rattle.root.proofs.Lists.{Mapped, mapped-more, mapped-all}
+use Rattle.root.proofs.each.Given as goal
+
+abbrev pub invariant-loop-i : goal.invariant-loop-i
+invariant-loop-i l = (length l.out ≡ length l.x) × Mapped root l.x l.out l.i
+
+abbrev pub decreases-loop-i : goal.decreases-loop-i
+decreases-loop-i l = length l.x - l.i
