@@ -1,5 +1,7 @@
 // The states of the moments of a trace, the whole-array drivers and ranges: document 01's 000, for 64-bit floats. A state is
 // a struct of floats by value; every operation is rounded once, in the source's order.
+#![tactic(auto)]
+
 ghost use Rattle.std.specs.Prelude.{◌≡◌, length};
 ghost use Rattle.trace.specs.Trace.{valid_readings, valid_pairs};
 ghost use Rattle.moment.specs.Skew.{is_zero};

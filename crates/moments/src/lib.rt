@@ -1,5 +1,7 @@
 // The library's face to other languages: each entry of docs/ABI.md, with the whole contract of what stands behind it. Nothing is
 // required of a caller. A figure that is NaN has the bits 7FF8000000000000; a member of a state may be any NaN.
+#![tactic(auto)]
+
 ghost use Rattle.std.specs.Prelude.{◌≡◌};
 ghost use Rattle.root.specs.Root.{root as root_of};
 ghost use Rattle.moment.specs.Var.{var_insert, var_combine, var_finalize};

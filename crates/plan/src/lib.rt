@@ -1,5 +1,7 @@
 // Plans and fixed windows: which rows they have, and what refuses a call with them. Every function is total, so that the crates
 // above share them: a check knows no list but the plan's, only the lengths of what is lent.
+#![tactic(auto)]
+
 ghost use Rattle.std.specs.Prelude.{◌≡◌, ◌*◌, min, nat_lt};
 ghost use Rattle.plan.specs.Plan.{planning};
 ghost use Rattle.plan.specs.Code.Accepted.{Checks, ChecksFixed};

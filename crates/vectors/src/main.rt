@@ -4,6 +4,8 @@
 // The lists were made by `words 1 crates/vectors/data` of oracle/ (seed 1), whose FORMAT.md, 'Word
 // lists', has the form; that command makes them again. What a call of C's reads is not known to a
 // contract, so what this program prints is tested, not proved.
+#![tactic(auto)]
+
 ghost use Rattle.std.specs.Prelude.{◌≡◌, length};
 
 use libc::STDOUT_FILENO;

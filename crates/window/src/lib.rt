@@ -1,5 +1,7 @@
 // Windows that move over a series: the theory of two stacks in a work slice, over any moment and any kind of entry (specs/ and
 // proofs/), and the leaves that every moment shares. Every function is total, so that the crates above share them.
+#![tactic(auto)]
+
 ghost use Rattle.std.specs.Prelude.{◌≡◌};
 ghost use Rattle.window.specs.Window.{or_nan};
 ghost use Rattle.window.specs.Code.Stacks.{empty_at, grown};
