@@ -11,7 +11,7 @@ pub mod states;
 pub mod windows;
 
 // the numbers that two calls answer
-#[derive(Drop)]
+#[derive(Clone, Copy)]
 pub struct Numbers {
     pub first: u32,
     pub second: u32,

@@ -14,7 +14,7 @@ use crate::Numbers;
 use plan::Offsets;
 
 // the windows of a row and of the row behind it
-#[derive(Drop)]
+#[derive(Clone, Copy)]
 pub struct Steps {
     pub at: Offsets,
     pub next: Offsets,

@@ -27,7 +27,7 @@ pub use var_state::VarState;
 const EPSILON: f64 = 2.220446049250313e-16;
 
 // What `finalize` answers: a figure, or that it is missing.
-#[derive(Drop)]
+#[derive(Clone, Copy)]
 pub enum Figure {
     Missing,
     Present(f64),
@@ -42,7 +42,7 @@ pub fn is_zero(m2: f64, mean: f64) -> bool
 
 // Whole arrays: the valid readings in chunks of 128, each made a state by `new` and combined in order. A refusal is document
 // 01's number.
-#[derive(Drop)]
+#[derive(Clone, Copy)]
 pub enum VarAnswer {
     State(VarState),
     Refused(u32),
@@ -73,7 +73,7 @@ pub fn var(values: &[f64], has_map: bool, map: &[u8]) -> VarAnswer
     VarAnswer::State(var_chunks(values, has_map, map))
 }
 
-#[derive(Drop)]
+#[derive(Clone, Copy)]
 pub enum CovAnswer {
     State(CovState),
     Refused(u32),
@@ -132,7 +132,7 @@ pub fn cov(
     CovAnswer::State(cov_chunks(x, x_has_map, x_map, y, y_has_map, y_map))
 }
 
-#[derive(Drop)]
+#[derive(Clone, Copy)]
 pub enum PearsonAnswer {
     State(PearsonState),
     Refused(u32),
@@ -191,7 +191,7 @@ pub fn pearson_corr(
     PearsonAnswer::State(pearson_chunks(x, x_has_map, x_map, y, y_has_map, y_map))
 }
 
-#[derive(Drop)]
+#[derive(Clone, Copy)]
 pub enum SkewAnswer {
     State(SkewState),
     Refused(u32),
@@ -222,7 +222,7 @@ pub fn skew(values: &[f64], has_map: bool, map: &[u8]) -> SkewAnswer
     SkewAnswer::State(skew_chunks(values, has_map, map))
 }
 
-#[derive(Drop)]
+#[derive(Clone, Copy)]
 pub enum KurtosisAnswer {
     State(KurtosisState),
     Refused(u32),

@@ -13,7 +13,7 @@ pub use bounds::{Offsets, det_offsets, end_of, next_offsets, right_window};
 pub use rows::{place, row_refusal};
 
 // The number that refuses a call, or 0, and the widest window of a call that is accepted.
-#[derive(Drop)]
+#[derive(Clone, Copy)]
 pub struct Checked {
     pub number: u32,
     pub widest: usize,

@@ -23,20 +23,20 @@ use moment::{CovState, Figure};
 use plan::Offsets;
 use window::Window;
 
-#[derive(Drop)]
+#[derive(Clone, Copy)]
 pub struct CovMoment {
     pub ddof: u8,
 }
 
 // A window with the state of its back part.
-#[derive(Drop)]
+#[derive(Clone, Copy)]
 pub struct CovWindow {
     pub window: Window,
     pub agg_back: CovState,
 }
 
 // The back stack grown: how many pairs stand in it, how many in the window are not finite, and its state.
-#[derive(Drop)]
+#[derive(Clone, Copy)]
 pub struct CovAppended {
     pub back: usize,
     pub nonfinite: usize,

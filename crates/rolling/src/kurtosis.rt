@@ -21,21 +21,21 @@ use moment::{Figure, KurtosisState};
 use plan::Offsets;
 use window::Window;
 
-#[derive(Drop)]
+#[derive(Clone, Copy)]
 pub struct KurtosisMoment {
     pub fisher: bool,
     pub bias: bool,
 }
 
 // A window with the state of its back part.
-#[derive(Drop)]
+#[derive(Clone, Copy)]
 pub struct KurtosisWindow {
     pub window: Window,
     pub agg_back: KurtosisState,
 }
 
 // The back stack grown: how many readings stand in it, how many in the window are not finite, and its state.
-#[derive(Drop)]
+#[derive(Clone, Copy)]
 pub struct KurtosisAppended {
     pub back: usize,
     pub nonfinite: usize,

@@ -10,14 +10,14 @@ ghost use Rattle.rolling.specs.Code.Rows.{Range, LeavingRange, Below, TalliesBel
 use window::Window;
 
 // A window without the places that leave, and whether the back stack goes to the front stack first.
-#[derive(Drop)]
+#[derive(Clone, Copy)]
 pub struct Trim {
     pub window: Window,
     pub flips: bool,
 }
 
 // How many places are valid, and how many of those hold a reading that is not finite.
-#[derive(Drop)]
+#[derive(Clone, Copy)]
 pub struct Tally {
     pub valid: usize,
     pub nonfinite: usize,

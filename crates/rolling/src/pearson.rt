@@ -23,18 +23,18 @@ use moment::{Figure, PearsonState};
 use plan::Offsets;
 use window::Window;
 
-#[derive(Drop)]
+#[derive(Clone, Copy)]
 pub struct PearsonMoment {}
 
 // A window with the state of its back part.
-#[derive(Drop)]
+#[derive(Clone, Copy)]
 pub struct PearsonWindow {
     pub window: Window,
     pub agg_back: PearsonState,
 }
 
 // The back stack grown: how many pairs stand in it, how many in the window are not finite, and its state.
-#[derive(Drop)]
+#[derive(Clone, Copy)]
 pub struct PearsonAppended {
     pub back: usize,
     pub nonfinite: usize,

@@ -26,20 +26,20 @@ use moment::SkewState;
 use plan::Offsets;
 use window::Window;
 
-#[derive(Drop)]
+#[derive(Clone, Copy)]
 pub struct SkewMoment {
     pub bias: bool,
 }
 
 // A window with the state of its back part.
-#[derive(Drop)]
+#[derive(Clone, Copy)]
 pub struct SkewWindow {
     pub window: Window,
     pub agg_back: SkewState,
 }
 
 // The back stack grown: how many readings stand in it, how many in the window are not finite, and its state.
-#[derive(Drop)]
+#[derive(Clone, Copy)]
 pub struct SkewAppended {
     pub back: usize,
     pub nonfinite: usize,
@@ -47,14 +47,14 @@ pub struct SkewAppended {
 }
 
 // What stands behind a block of rows: the window, and the next row's bounds.
-#[derive(Drop)]
+#[derive(Clone, Copy)]
 pub struct SkewBlock {
     pub w: SkewWindow,
     pub at: Offsets,
 }
 
 // A row whose window is done: the state to finalise, or that the row is missing.
-#[derive(Drop)]
+#[derive(Clone, Copy)]
 pub enum SkewPending {
     Missing,
     State(SkewState),

@@ -24,20 +24,20 @@ use moment::{Figure, VarState};
 use plan::Offsets;
 use window::Window;
 
-#[derive(Drop)]
+#[derive(Clone, Copy)]
 pub struct VarianceMoment {
     pub ddof: u8,
 }
 
 // A window with the state of its back part.
-#[derive(Drop)]
+#[derive(Clone, Copy)]
 pub struct VarWindow {
     pub window: Window,
     pub agg_back: VarExtremes,
 }
 
 // The back stack grown: how many readings stand in it, how many in the window are not finite, and its state.
-#[derive(Drop)]
+#[derive(Clone, Copy)]
 pub struct VarAppended {
     pub back: usize,
     pub nonfinite: usize,

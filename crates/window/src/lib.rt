@@ -9,7 +9,7 @@ ghost use Rattle.window.specs.Code.Stacks.{empty_at, grown};
 use moment::Figure;
 
 // The split account (start, end, split), with how many entries stand in each stack and how many in the window are not finite.
-#[derive(Drop)]
+#[derive(Clone, Copy)]
 pub struct Window {
     pub start: usize,
     pub end: usize,
