@@ -38,7 +38,7 @@ loop-row-preserved c =
       omega arith,
       scan-row r.args.n (let a = r.args in plan_of a.starts.now a.ends.now) r.loop-row.row _ l.invariant.1 (let i = r.loop-row.invariant in own r.args.n (let a = r.args in plan_of a.starts.now a.ends.now) r.loop-row.row _ _ _ _ _ i.3 i.4 r.place-start.ensures r.place-end.ensures r.row_refusal-number.ensures) c.if-number-ne0.false,
       scan-wide r.args.n (let a = r.args in plan_of a.starts.now a.ends.now) r.loop-row.row _ _ l.invariant.2
-          (elim c.if-widest-wide.branch [ then-widest-wide w ↦ let a = w.if-widest-wide.true in let b = w.widest-is in omega arith | else-widest-wide w ↦ let a = w.if-widest-wide.false in let b = w.widest-is in omega arith ],
+          (elim c.if-widest-wide.branch [ then-widest-wide w ↦ let a = w.if-widest-wide.true in let b = w.widest-is in omega arith | else-widest-wide w ↦ let a = w.if-widest-wide.false in let b = w.widest-is in omega arith ]),
       s ∙ rw add-one,
       e ∙ rw add-one,
     )
