@@ -1,6 +1,5 @@
 // The places that leave a window, tallied, and the window without them: what every moment shares of it.
 ghost use Rattle.std.specs.Prelude.{◌≡◌, ◌<◌, ◌≤◌, length};
-ghost use Rattle.trace.specs.Slices.{entering};
 ghost use Rattle.trace.specs.Trace.{valid_at};
 ghost use Rattle.window.specs.Places.{chosen_count};
 ghost use Rattle.window.specs.Readings.{places_by, nonfinite_at};
@@ -25,7 +24,7 @@ pub struct Tally {
 
 fn is_nonfinite(values: &[f64], has_map: bool, map: &[u8], i: usize) -> bool
     requires { i < length values.now }
-    ensures { result ≡ nonfinite_at has_map (entering map) (entering values) i }
+    ensures { result ≡ nonfinite_at has_map map.now values.now i }
 {
     if trace::valid(has_map, map, i) {
         return !float::is_finite(values[i]);
@@ -50,7 +49,7 @@ fn tally_range(values: &[f64], has_map: bool, map: &[u8], a: usize, b: usize) ->
 
 fn count_valid(has_map: bool, map: &[u8], a: usize, b: usize) -> usize
     requires { a ≤ b }
-    ensures { result ≡ chosen_count (valid_at has_map (entering map)) a b }
+    ensures { result ≡ chosen_count (valid_at has_map map.now) a b }
 {
     let mut valid: usize = 0;
     let mut i = a;
