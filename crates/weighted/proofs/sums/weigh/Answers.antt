@@ -12,8 +12,8 @@ returns-then-to-from c =
     let s = f in
     weighed-none _ _ _ _ _ _ _ _ _ s.requires.sums f.first_row-from.ensures l.last_row-to.ensures c.if-to-from.true
 
-pub OLD-slice-bounds-add-end : goal.OLD-slice-bounds-add-end
-OLD-slice-bounds-add-end c = let h = c.before.last_row.ensures.inside (omega arith) in omega arith
+pub slice_bounds-add-count : goal.slice_bounds-add-count
+slice_bounds-add-count c = let h = c.last_row-to.ensures.inside (omega arith) in omega arith
 
 pub add-requires : goal.add-requires
 add-requires c =
