@@ -5,5 +5,4 @@ use Rattle.demands.proofs.Demanded.{host_meets}
 use Rattle.demands.proofs.hosts.plan_cov.Goals as goal
 
 pub returns : goal.returns
-returns c =
-    host_meets c.moments_plan_cov.ensures (omega arith)
+returns c = host_meets c.moments_plan_cov.ensures (omega arith)

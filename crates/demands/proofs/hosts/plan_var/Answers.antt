@@ -5,8 +5,4 @@ use Rattle.demands.proofs.Demanded.{host_meets}
 use Rattle.demands.proofs.hosts.plan_var.Goals as goal
 
 pub returns : goal.returns
-returns c =
-    let made = c in
-    let before = made in
-    let fits = before.ranges in
-    host_meets made.moments_plan_var.ensures (omega (arith, fits))
+returns c = host_meets c.moments_plan_var.ensures (omega arith)

@@ -5,10 +5,4 @@ use Rattle.demands.proofs.Demanded.{two_hosts_meet}
 use Rattle.demands.proofs.hosts.two_plans_cov.Goals as goal
 
 pub returns : goal.returns
-returns c =
-    let second = c in
-    let between = second in
-    let first = between in
-    let before = first in
-    let fits = before.ranges in
-    two_hosts_meet first.moments_plan_cov-first.ensures second.moments_plan_cov-second.ensures (omega (arith, fits))
+returns c = two_hosts_meet c.moments_plan_cov-first.ensures c.moments_plan_cov-second.ensures (omega arith)

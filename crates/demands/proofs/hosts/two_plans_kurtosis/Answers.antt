@@ -4,7 +4,4 @@ use Rattle.demands.proofs.Demanded.{two_hosts_meet}
 use Rattle.demands.proofs.hosts.two_plans_kurtosis.Goals as goal
 
 pub returns : goal.returns
-returns c =
-    let second = c in
-    let first = second in
-    two_hosts_meet first.moments_plan_kurtosis-first.ensures second.moments_plan_kurtosis-second.ensures tt
+returns c = two_hosts_meet c.moments_plan_kurtosis-first.ensures c.moments_plan_kurtosis-second.ensures tt

@@ -4,8 +4,4 @@ use Rattle.demands.proofs.Demanded.{two_hosts_meet}
 use Rattle.demands.proofs.hosts.two_plans_pearson_corr.Goals as goal
 
 pub returns : goal.returns
-returns c =
-    let second = c in
-    let between = second in
-    let first = between in
-    two_hosts_meet first.moments_plan_pearson_corr-first.ensures second.moments_plan_pearson_corr-second.ensures tt
+returns c = two_hosts_meet c.moments_plan_pearson_corr-first.ensures c.moments_plan_pearson_corr-second.ensures tt

@@ -5,11 +5,4 @@ use Rattle.demands.proofs.Demanded.{two_hosts_meet}
 use Rattle.demands.proofs.hosts.two_plans_var.Goals as goal
 
 pub returns : goal.returns
-returns c =
-    let second = c in
-    let between = second in
-    let first = between in
-    let before = first in
-    let known = before in
-    let fits = known.ranges in
-    two_hosts_meet first.moments_plan_var-first.ensures second.moments_plan_var-second.ensures (omega (arith, fits))
+returns c = two_hosts_meet c.moments_plan_var-first.ensures c.moments_plan_var-second.ensures (omega arith)

@@ -5,8 +5,4 @@ use Rattle.demands.proofs.Demanded.{plan_meets}
 use Rattle.demands.proofs.plans.plan_var.Goals as goal
 
 pub returns : goal.returns
-returns c =
-    let made = c in
-    let before = made in
-    let fits = before.ranges in
-    plan_meets made.plan_var.ensures (omega (arith, fits))
+returns c = plan_meets c.plan_var.ensures (omega arith)

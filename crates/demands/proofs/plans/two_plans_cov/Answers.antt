@@ -5,9 +5,4 @@ use Rattle.demands.proofs.Demanded.{two_plans_meet}
 use Rattle.demands.proofs.plans.two_plans_cov.Goals as goal
 
 pub returns : goal.returns
-returns c =
-    let second = c in
-    let first = second in
-    let before = first in
-    let fits = before.ranges in
-    two_plans_meet first.plan_cov-first.ensures second.plan_cov-second.ensures (omega (arith, fits))
+returns c = two_plans_meet c.plan_cov-first.ensures c.plan_cov-second.ensures (omega arith)

@@ -4,7 +4,4 @@ use Rattle.demands.proofs.Demanded.{two_plans_meet}
 use Rattle.demands.proofs.plans.two_plans_kurtosis.Goals as goal
 
 pub returns : goal.returns
-returns c =
-    let second = c in
-    let first = second in
-    two_plans_meet first.plan_kurtosis-first.ensures second.plan_kurtosis-second.ensures tt
+returns c = two_plans_meet c.plan_kurtosis-first.ensures c.plan_kurtosis-second.ensures tt

@@ -4,7 +4,4 @@ use Rattle.demands.proofs.Demanded.{two_plans_meet}
 use Rattle.demands.proofs.plans.two_plans_pearson_corr.Goals as goal
 
 pub returns : goal.returns
-returns c =
-    let second = c in
-    let first = second in
-    two_plans_meet first.plan_pearson_corr-first.ensures second.plan_pearson_corr-second.ensures tt
+returns c = two_plans_meet c.plan_pearson_corr-first.ensures c.plan_pearson_corr-second.ensures tt

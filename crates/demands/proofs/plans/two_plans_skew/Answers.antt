@@ -4,7 +4,4 @@ use Rattle.demands.proofs.Demanded.{two_plans_meet}
 use Rattle.demands.proofs.plans.two_plans_skew.Goals as goal
 
 pub returns : goal.returns
-returns c =
-    let second = c in
-    let first = second in
-    two_plans_meet first.plan_skew-first.ensures second.plan_skew-second.ensures tt
+returns c = two_plans_meet c.plan_skew-first.ensures c.plan_skew-second.ensures tt

@@ -5,11 +5,4 @@ use Rattle.demands.proofs.Demanded.{two_plans_meet}
 use Rattle.demands.proofs.plans.two_plans_var.Goals as goal
 
 pub returns : goal.returns
-returns c =
-    let second = c in
-    let between = second in
-    let first = between in
-    let before = first in
-    let known = before in
-    let fits = known.ranges in
-    two_plans_meet first.plan_var-first.ensures second.plan_var-second.ensures (omega (arith, fits))
+returns c = two_plans_meet c.plan_var-first.ensures c.plan_var-second.ensures (omega arith)

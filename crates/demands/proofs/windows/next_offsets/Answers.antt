@@ -6,7 +6,5 @@ use Rattle.demands.proofs.Demanded.{step_meets}
 use Rattle.demands.proofs.windows.next_offsets.Goals as goal
 
 pub returns : goal.returns
-returns c =
-    let s = c in
-    let few : s.args.len < 2 ^ 64 = omega (arith, s.ranges) in
+returns c = let few : c.args.len < 2 ^ 64 = omega (arith, c.ranges) in
     step_meets c.right_window.ensures.0 few c.det_offsets-at.ensures c.next_offsets-next.ensures

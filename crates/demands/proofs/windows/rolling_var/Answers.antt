@@ -5,8 +5,4 @@ use Rattle.demands.proofs.Demanded.{fixed-meets}
 use Rattle.demands.proofs.windows.rolling_var.Goals as goal
 
 pub returns : goal.returns
-returns c =
-    let made = c in
-    let before = made in
-    let fits = before.ranges in
-    fixed-meets made.moments_rolling_var.ensures (omega (arith, fits)) (omega (arith, fits))
+returns c = fixed-meets c.moments_rolling_var.ensures (omega (arith, fits)) (omega arith)

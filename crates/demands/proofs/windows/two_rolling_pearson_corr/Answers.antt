@@ -5,9 +5,4 @@ use Rattle.demands.proofs.Demanded.{two-fixed-meet}
 use Rattle.demands.proofs.windows.two_rolling_pearson_corr.Goals as goal
 
 pub returns : goal.returns
-returns c =
-    let second = c in
-    let first = second in
-    let before = first in
-    let fits = before.ranges in
-    two-fixed-meet first.moments_rolling_pearson_corr-first.ensures second.moments_rolling_pearson_corr-second.ensures (omega (arith, fits)) tt
+returns c = two-fixed-meet c.moments_rolling_pearson_corr-first.ensures c.moments_rolling_pearson_corr-second.ensures (omega arith) tt

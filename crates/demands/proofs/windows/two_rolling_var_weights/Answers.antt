@@ -5,8 +5,4 @@ use Rattle.demands.proofs.Demanded.{two_weights_meet}
 use Rattle.demands.proofs.windows.two_rolling_var_weights.Goals as goal
 
 pub returns : goal.returns
-returns c =
-    let second = c in
-    let first = second in
-    let fits = first.ranges in
-    two_weights_meet first.moments_rolling_var_weights-first.ensures second.moments_rolling_var_weights-second.ensures (omega (arith, fits))
+returns c = two_weights_meet c.moments_rolling_var_weights-first.ensures c.moments_rolling_var_weights-second.ensures (omega arith)
