@@ -8,7 +8,7 @@ src/, exported names, strings of the hosts, names of the library and those that 
 import collections, glob, os, re, sys
 
 KIT = sys.argv[1] if len(sys.argv) > 1 else os.environ.get("RATTLE_KIT", "/opt/rattle/rattle")
-TOKEN = re.compile(r"[A-Za-z_◌][\w'◌]*(?:[-·][\w'◌]+)*")
+TOKEN = re.compile(r"(?<![\w'])[A-Za-z_◌][\w'◌]*(?:[-·][\w'◌]+)*")
 DECLARED = re.compile(r"(?:(?:abbrev|unfoldable|pub|data|record|irreducible) )*([^\s:(){}=]+)(?: \([^)]*\)| \{[^}]*\})* :(?: |$)")
 FIELD = re.compile(r"  (?:pub )?([^\s:(){}=|λ]+) :(?: |$)")
 # The lemmas whose new name a definition has already, where both stand in one file.

@@ -7,7 +7,7 @@
 -- nothing.
 use Rattle.std.specs.Prelude.{ℕ, ◌+◌, ◌<◌, ◌≡◌, Bool, List, [], ◌∷◌, length, Float}
 use Rattle.root.specs.Root.{root}
-use Rattle.trace.specs.Slices.{Slice, entering, leaving}
+use Rattle.trace.specs.Slices.{MutSlice, entering_mut, leaving}
 use Rattle.trace.specs.Trace.{Trace}
 use Rattle.moment.specs.declared.Figure.{Figure}
 use Rattle.moment.specs.Skew.{skew_new}
@@ -186,8 +186,8 @@ pub record MeetsArray (a : ArrayCall) (before after : List Float) (number : ℕ)
   pub two : number ≡ 0 → (rust : Rust) → after ≡ source_of rust a
 
 -- a state that is lent, before and after
-abbrev pub holding : Slice Float → List Float × List Float
-holding state = (entering state, leaving state)
+abbrev pub holding : MutSlice Float → List Float × List Float
+holding state = (entering_mut state, leaving state)
 
 -- two, where Same says that their maps say the same
 pub record MeetTwoArrays (a a' : ArrayCall) (Same : Type 0) (state state' : List Float × List Float) (number number' : ℕ) : Type 0 where

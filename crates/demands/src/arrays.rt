@@ -1,5 +1,4 @@
 // Whole arrays, pairs and ranges, of which demands 1 and 2 speak; and two calls with either of two maps, of which the law of maps does.
-ghost use Rattle.trace.specs.Slices.{entering, leaving};
 ghost use Rattle.trace.specs.Trace.{tracing};
 ghost use Rattle.demands.specs.Meets.{of_var, of_skew, of_kurtosis, of_cov, of_pearson, of_skew_range, of_kurtosis_range, MeetsArray};
 ghost use Rattle.demands.specs.Meets.{MeetTwoMaps, MeetTwoPairs, holding};
@@ -7,19 +6,19 @@ ghost use Rattle.demands.specs.Meets.{MeetTwoMaps, MeetTwoPairs, holding};
 use crate::Numbers;
 
 pub fn var(trace: &[f64], has_map: bool, map: &[u8], state: &mut [f64; 3]) -> u32
-    ensures { MeetsArray (of_var (tracing trace has_map map)) (entering state) (leaving state) result }
+    ensures { MeetsArray (of_var (tracing trace has_map map)) state.old state.new result }
 {
     moments::moments_var(trace, has_map, map, state)
 }
 
 pub fn skew(trace: &[f64], has_map: bool, map: &[u8], state: &mut [f64; 4]) -> u32
-    ensures { MeetsArray (of_skew (tracing trace has_map map)) (entering state) (leaving state) result }
+    ensures { MeetsArray (of_skew (tracing trace has_map map)) state.old state.new result }
 {
     moments::moments_skew(trace, has_map, map, state)
 }
 
 pub fn kurtosis(trace: &[f64], has_map: bool, map: &[u8], state: &mut [f64; 5]) -> u32
-    ensures { MeetsArray (of_kurtosis (tracing trace has_map map)) (entering state) (leaving state) result }
+    ensures { MeetsArray (of_kurtosis (tracing trace has_map map)) state.old state.new result }
 {
     moments::moments_kurtosis(trace, has_map, map, state)
 }
@@ -34,7 +33,7 @@ pub fn cov(
     state: &mut [f64; 4],
 ) -> u32
     ensures { MeetsArray (of_cov (tracing x x_has_map x_map) (tracing y y_has_map y_map))
-        (entering state) (leaving state) result }
+        state.old state.new result }
 {
     moments::moments_cov(x, x_has_map, x_map, y, y_has_map, y_map, state)
 }
@@ -49,7 +48,7 @@ pub fn pearson_corr(
     state: &mut [f64; 6],
 ) -> u32
     ensures { MeetsArray (of_pearson (tracing x x_has_map x_map) (tracing y y_has_map y_map))
-        (entering state) (leaving state) result }
+        state.old state.new result }
 {
     moments::moments_pearson_corr(x, x_has_map, x_map, y, y_has_map, y_map, state)
 }
@@ -62,7 +61,7 @@ pub fn skew_range(
     length: usize,
     state: &mut [f64; 4],
 ) -> u32
-    ensures { MeetsArray (of_skew_range (tracing trace has_map map) start length) (entering state) (leaving state) result }
+    ensures { MeetsArray (of_skew_range (tracing trace has_map map) start length) state.old state.new result }
 {
     moments::moments_skew_range(trace, has_map, map, start, length, state)
 }
@@ -75,7 +74,7 @@ pub fn kurtosis_range(
     length: usize,
     state: &mut [f64; 5],
 ) -> u32
-    ensures { MeetsArray (of_kurtosis_range (tracing trace has_map map) start length) (entering state) (leaving state) result }
+    ensures { MeetsArray (of_kurtosis_range (tracing trace has_map map) start length) state.old state.new result }
 {
     moments::moments_kurtosis_range(trace, has_map, map, start, length, state)
 }

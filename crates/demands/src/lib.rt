@@ -2,6 +2,8 @@
 // each function here makes calls of the entries, of `moments` and for plans of doubles of `rolling`, and has as its contract what they
 // say of them; one steps from row to row as the row loops do, by `plan`. Were the contract of an entry weaker than they are, its function
 // here could not be proved. No host calls this crate.
+#![tactic(auto)]
+
 pub mod arrays;
 pub mod hosts;
 pub mod plans;
@@ -9,7 +11,7 @@ pub mod states;
 pub mod windows;
 
 // the numbers that two calls answer
-#[derive(Drop)]
+#[derive(Clone, Copy)]
 pub struct Numbers {
     pub first: u32,
     pub second: u32,

@@ -2,7 +2,6 @@
 // and those of two traces, as a host's; and with weights, of which the first two speak. Of two calls the law of maps speaks too, with
 // weights as well, and of a variance without weights its lowest and highest reading are spoken of. Last a step from a row's bounds to
 // the next row's.
-ghost use Rattle.trace.specs.Slices.{entering};
 ghost use Rattle.trace.specs.Trace.{tracing};
 ghost use Rattle.window.specs.Pairs.{pairing};
 ghost use Rattle.rolling.specs.Moments.{Variance, Skewness, Kurtosis, Covariance, Correlation};
@@ -14,7 +13,7 @@ use crate::Numbers;
 use plan::Offsets;
 
 // the windows of a row and of the row behind it
-#[derive(Drop)]
+#[derive(Clone, Copy)]
 pub struct Steps {
     pub at: Offsets,
     pub next: Offsets,
@@ -483,7 +482,7 @@ pub fn rolling_var_weights(
     figures: &mut [f64],
     present: &mut [u8],
 ) -> u32
-    ensures { MeetsWeights center window_size min_periods (entering weights) (tracing trace has_map map)
+    ensures { MeetsWeights center window_size min_periods weights.now (tracing trace has_map map)
         (lending_column figures present) result }
 {
     moments::moments_rolling_var_weights(
@@ -513,7 +512,7 @@ pub fn two_rolling_var_weights(
     other_figures: &mut [f64],
     other_present: &mut [u8],
 ) -> Numbers
-    ensures { MeetTwoWeights center window_size min_periods (entering weights)
+    ensures { MeetTwoWeights center window_size min_periods weights.now
         (tracing trace has_map map) (tracing trace has_map other_map)
         (lending_column figures present) (lending_column other_figures other_present) result.first result.second }
 {

@@ -7,7 +7,7 @@ ghost use Rattle.moment.specs.Code.Filling.{Filled, Fillable, FilledBoth};
 const CHUNK_SIZE: usize = 128;
 
 // Where filling stopped: the first place not looked at, and how many readings the chunk holds.
-#[derive(Drop)]
+#[derive(Clone, Copy)]
 pub(crate) struct Stop {
     pub(crate) place: usize,
     pub(crate) count: usize,

@@ -6,7 +6,7 @@ ghost use Rattle.moment.specs.Cov.{cov_empty, cov_about, cov_new, cov_insert, co
 use crate::{Figure, sums};
 
 #[repr(C)]
-#[derive(Drop)]
+#[derive(Clone, Copy)]
 pub struct CovState {
     pub weight: f64,
     pub mean_x: f64,

@@ -9,7 +9,7 @@ ghost use Rattle.moment.specs.Arrays.{kurtosis_range};
 use crate::{Figure, KurtosisAnswer, is_zero, sums};
 
 #[repr(C)]
-#[derive(Drop)]
+#[derive(Clone, Copy)]
 pub struct KurtosisState {
     pub weight: f64,
     pub mean: f64,

@@ -1,5 +1,7 @@
 // The states of the moments of a trace, the whole-array drivers and ranges: document 01's 000, for 64-bit floats. A state is
 // a struct of floats by value; every operation is rounded once, in the source's order.
+#![tactic(auto)]
+
 ghost use Rattle.std.specs.Prelude.{◌≡◌, length};
 ghost use Rattle.trace.specs.Trace.{valid_readings, valid_pairs};
 ghost use Rattle.moment.specs.Skew.{is_zero};
@@ -25,7 +27,7 @@ pub use var_state::VarState;
 const EPSILON: f64 = 2.220446049250313e-16;
 
 // What `finalize` answers: a figure, or that it is missing.
-#[derive(Drop)]
+#[derive(Clone, Copy)]
 pub enum Figure {
     Missing,
     Present(f64),
@@ -40,7 +42,7 @@ pub fn is_zero(m2: f64, mean: f64) -> bool
 
 // Whole arrays: the valid readings in chunks of 128, each made a state by `new` and combined in order. A refusal is document
 // 01's number.
-#[derive(Drop)]
+#[derive(Clone, Copy)]
 pub enum VarAnswer {
     State(VarState),
     Refused(u32),
@@ -71,7 +73,7 @@ pub fn var(values: &[f64], has_map: bool, map: &[u8]) -> VarAnswer
     VarAnswer::State(var_chunks(values, has_map, map))
 }
 
-#[derive(Drop)]
+#[derive(Clone, Copy)]
 pub enum CovAnswer {
     State(CovState),
     Refused(u32),
@@ -130,7 +132,7 @@ pub fn cov(
     CovAnswer::State(cov_chunks(x, x_has_map, x_map, y, y_has_map, y_map))
 }
 
-#[derive(Drop)]
+#[derive(Clone, Copy)]
 pub enum PearsonAnswer {
     State(PearsonState),
     Refused(u32),
@@ -189,7 +191,7 @@ pub fn pearson_corr(
     PearsonAnswer::State(pearson_chunks(x, x_has_map, x_map, y, y_has_map, y_map))
 }
 
-#[derive(Drop)]
+#[derive(Clone, Copy)]
 pub enum SkewAnswer {
     State(SkewState),
     Refused(u32),
@@ -220,7 +222,7 @@ pub fn skew(values: &[f64], has_map: bool, map: &[u8]) -> SkewAnswer
     SkewAnswer::State(skew_chunks(values, has_map, map))
 }
 
-#[derive(Drop)]
+#[derive(Clone, Copy)]
 pub enum KurtosisAnswer {
     State(KurtosisState),
     Refused(u32),

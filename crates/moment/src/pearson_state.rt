@@ -7,7 +7,7 @@ ghost use Rattle.moment.specs.Pearson.{pearson_merge, pearson_combine, pearson_f
 use crate::sums;
 
 #[repr(C)]
-#[derive(Drop)]
+#[derive(Clone, Copy)]
 pub struct PearsonState {
     pub weight: f64,
     pub mean_x: f64,

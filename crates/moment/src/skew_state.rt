@@ -9,7 +9,7 @@ ghost use Rattle.moment.specs.Arrays.{skew_range};
 use crate::{Figure, SkewAnswer, is_zero, sums};
 
 #[repr(C)]
-#[derive(Drop)]
+#[derive(Clone, Copy)]
 pub struct SkewState {
     pub weight: f64,
     pub mean: f64,

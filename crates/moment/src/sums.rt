@@ -29,7 +29,7 @@ pub(crate) fn squares(x: &[f64], mean: f64) -> f64
 }
 
 // How many readings there are, and their sum.
-#[derive(Drop)]
+#[derive(Clone, Copy)]
 pub(crate) struct Total {
     pub(crate) count: usize,
     pub(crate) sum: f64,

@@ -6,7 +6,7 @@ ghost use Rattle.moment.specs.Var.{var_empty, var_new, var_inserted, var_insert,
 use crate::{Figure, sums};
 
 #[repr(C)]
-#[derive(Drop)]
+#[derive(Clone, Copy)]
 pub struct VarState {
     pub weight: f64,
     pub mean: f64,

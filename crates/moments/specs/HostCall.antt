@@ -3,7 +3,7 @@
 use Rattle.std.specs.Prelude.{ℕ, ◌/◌, ◌%◌, ◌≡◌, Bool, not, ◌||◌, List, eqb, ltb, length, Float}
 use Rattle.float.specs.Tables.{table}
 use Rattle.float.specs.Bytes.{reading_at}
-use Rattle.trace.specs.Slices.{Slice, entering, leaving}
+use Rattle.trace.specs.Slices.{Slice, MutSlice, entering, entering_mut, leaving}
 use Rattle.trace.specs.Trace.{Trace, trace_of}
 use Rattle.trace.specs.Refusals.{refusal, ◌or_else◌}
 use Rattle.window.specs.Pairs.{TracePair}
@@ -93,12 +93,12 @@ abbrev pub hosting_pair : Slice ℕ → Bool → Slice ℕ → Slice ℕ → Boo
 hosting_pair x has_x map_x y has_y map_y = record { x = hosting x has_x map_x; y = hosting y has_y map_y }
 
 -- the list that is decoded into, before and after
-abbrev pub decoding : Slice Float → List Float × List Float
-decoding readings = (entering readings, leaving readings)
+abbrev pub decoding : MutSlice Float → List Float × List Float
+decoding readings = (entering_mut readings, leaving readings)
 
 -- the two lists
-abbrev pub decoding_pair : Slice Float → Slice Float → (List Float × List Float) × (List Float × List Float)
-decoding_pair x y = ((entering x, entering y), (leaving x, leaving y))
+abbrev pub decoding_pair : MutSlice Float → MutSlice Float → (List Float × List Float) × (List Float × List Float)
+decoding_pair x y = ((entering_mut x, entering_mut y), (leaving x, leaving y))
 
 abbrev pub CallsBytes : (q : Query) → Host (kind_of q.statistic)
     → ReadingLists (kind_of q.statistic) × ReadingLists (kind_of q.statistic) → Lent × Lent → ℕ → Type 0

@@ -1,5 +1,7 @@
 // The library's face to other languages: each entry of docs/ABI.md, with the whole contract of what stands behind it. Nothing is
 // required of a caller. A figure that is NaN has the bits 7FF8000000000000; a member of a state may be any NaN.
+#![tactic(auto)]
+
 ghost use Rattle.std.specs.Prelude.{◌≡◌};
 ghost use Rattle.root.specs.Root.{root as root_of};
 ghost use Rattle.moment.specs.Var.{var_insert, var_combine, var_finalize};
@@ -12,7 +14,6 @@ ghost use Rattle.moment.specs.Arrays.{cov_answer, cov_number, cov_members};
 ghost use Rattle.moment.specs.Arrays.{pearson_answer, pearson_number, pearson_members};
 ghost use Rattle.moment.specs.Arrays.{skew_answer, skew_range, skew_number, skew_members};
 ghost use Rattle.moment.specs.Arrays.{kurtosis_answer, kurtosis_range, kurtosis_number, kurtosis_members};
-ghost use Rattle.trace.specs.Slices.{entering, leaving};
 ghost use Rattle.trace.specs.Trace.{tracing};
 ghost use Rattle.window.specs.Pairs.{pairing};
 ghost use Rattle.rolling.specs.Moments.{Variance, Skewness, Kurtosis, Covariance, Correlation};
@@ -519,7 +520,7 @@ pub extern "C" fn moments_rolling_var_weights(
 
 // Whole arrays and ranges: 0 and the state's members, or a refusal's number and the state as it was.
 fn store_var(answer: VarAnswer, state: &mut [f64; 3]) -> u32
-    ensures { StateResult var_number var_members answer (entering state) result (leaving state) }
+    ensures { StateResult var_number var_members answer state.old result state.new }
 {
     match answer {
         VarAnswer::State(s) => {
@@ -532,14 +533,14 @@ fn store_var(answer: VarAnswer, state: &mut [f64; 3]) -> u32
 
 #[unsafe(no_mangle)]
 pub extern "C" fn moments_var(trace: &[f64], has_map: bool, map: &[u8], state: &mut [f64; 3]) -> u32
-    ensures { StateResult var_number var_members (var_answer (entering trace) has_map (entering map))
-        (entering state) result (leaving state) }
+    ensures { StateResult var_number var_members (var_answer trace.now has_map map.now)
+        state.old result state.new }
 {
     store_var(moment::var(trace, has_map, map), state)
 }
 
 fn store_skew(answer: SkewAnswer, state: &mut [f64; 4]) -> u32
-    ensures { StateResult skew_number skew_members answer (entering state) result (leaving state) }
+    ensures { StateResult skew_number skew_members answer state.old result state.new }
 {
     match answer {
         SkewAnswer::State(s) => {
@@ -557,8 +558,8 @@ pub extern "C" fn moments_skew(
     map: &[u8],
     state: &mut [f64; 4],
 ) -> u32
-    ensures { StateResult skew_number skew_members (skew_answer (entering trace) has_map (entering map))
-        (entering state) result (leaving state) }
+    ensures { StateResult skew_number skew_members (skew_answer trace.now has_map map.now)
+        state.old result state.new }
 {
     store_skew(moment::skew(trace, has_map, map), state)
 }
@@ -572,8 +573,8 @@ pub extern "C" fn moments_skew_range(
     length: usize,
     state: &mut [f64; 4],
 ) -> u32
-    ensures { StateResult skew_number skew_members (skew_range (entering trace) has_map (entering map) start length)
-        (entering state) result (leaving state) }
+    ensures { StateResult skew_number skew_members (skew_range trace.now has_map map.now start length)
+        state.old result state.new }
 {
     store_skew(
         SkewState::from_array(trace, has_map, map, start, length),
@@ -582,7 +583,7 @@ pub extern "C" fn moments_skew_range(
 }
 
 fn store_kurtosis(answer: KurtosisAnswer, state: &mut [f64; 5]) -> u32
-    ensures { StateResult kurtosis_number kurtosis_members answer (entering state) result (leaving state) }
+    ensures { StateResult kurtosis_number kurtosis_members answer state.old result state.new }
 {
     match answer {
         KurtosisAnswer::State(s) => {
@@ -600,8 +601,8 @@ pub extern "C" fn moments_kurtosis(
     map: &[u8],
     state: &mut [f64; 5],
 ) -> u32
-    ensures { StateResult kurtosis_number kurtosis_members (kurtosis_answer (entering trace) has_map (entering map))
-        (entering state) result (leaving state) }
+    ensures { StateResult kurtosis_number kurtosis_members (kurtosis_answer trace.now has_map map.now)
+        state.old result state.new }
 {
     store_kurtosis(moment::kurtosis(trace, has_map, map), state)
 }
@@ -615,8 +616,8 @@ pub extern "C" fn moments_kurtosis_range(
     length: usize,
     state: &mut [f64; 5],
 ) -> u32
-    ensures { StateResult kurtosis_number kurtosis_members (kurtosis_range (entering trace) has_map (entering map) start length)
-        (entering state) result (leaving state) }
+    ensures { StateResult kurtosis_number kurtosis_members (kurtosis_range trace.now has_map map.now start length)
+        state.old result state.new }
 {
     store_kurtosis(
         KurtosisState::from_array(trace, has_map, map, start, length),
@@ -625,7 +626,7 @@ pub extern "C" fn moments_kurtosis_range(
 }
 
 fn store_cov(answer: CovAnswer, state: &mut [f64; 4]) -> u32
-    ensures { StateResult cov_number cov_members answer (entering state) result (leaving state) }
+    ensures { StateResult cov_number cov_members answer state.old result state.new }
 {
     match answer {
         CovAnswer::State(s) => {
@@ -646,14 +647,14 @@ pub extern "C" fn moments_cov(
     y_map: &[u8],
     state: &mut [f64; 4],
 ) -> u32
-    ensures { StateResult cov_number cov_members (cov_answer (entering x) x_has_map (entering x_map)
-        (entering y) y_has_map (entering y_map)) (entering state) result (leaving state) }
+    ensures { StateResult cov_number cov_members (cov_answer x.now x_has_map x_map.now
+        y.now y_has_map y_map.now) state.old result state.new }
 {
     store_cov(moment::cov(x, x_has_map, x_map, y, y_has_map, y_map), state)
 }
 
 fn store_pearson(answer: PearsonAnswer, state: &mut [f64; 6]) -> u32
-    ensures { StateResult pearson_number pearson_members answer (entering state) result (leaving state) }
+    ensures { StateResult pearson_number pearson_members answer state.old result state.new }
 {
     match answer {
         PearsonAnswer::State(s) => {
@@ -674,8 +675,8 @@ pub extern "C" fn moments_pearson_corr(
     y_map: &[u8],
     state: &mut [f64; 6],
 ) -> u32
-    ensures { StateResult pearson_number pearson_members (pearson_answer (entering x) x_has_map
-        (entering x_map) (entering y) y_has_map (entering y_map)) (entering state) result (leaving state) }
+    ensures { StateResult pearson_number pearson_members (pearson_answer x.now x_has_map
+        x_map.now y.now y_has_map y_map.now) state.old result state.new }
 {
     store_pearson(
         moment::pearson_corr(x, x_has_map, x_map, y, y_has_map, y_map),

@@ -7,7 +7,7 @@ ghost use Rattle.plan.specs.Code.Reaching.{right_of, StepsTo};
 use crate::shorter;
 
 // The window of a row: places start up to but not including end.
-#[derive(Drop)]
+#[derive(Clone, Copy)]
 pub struct Offsets {
     pub start: usize,
     pub end: usize,

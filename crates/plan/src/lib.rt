@@ -1,5 +1,7 @@
 // Plans and fixed windows: which rows they have, and what refuses a call with them. Every function is total, so that the crates
 // above share them: a check knows no list but the plan's, only the lengths of what is lent.
+#![tactic(auto)]
+
 ghost use Rattle.std.specs.Prelude.{◌≡◌, ◌*◌, min, nat_lt};
 ghost use Rattle.plan.specs.Plan.{planning};
 ghost use Rattle.plan.specs.Code.Accepted.{Checks, ChecksFixed};
@@ -11,7 +13,7 @@ pub use bounds::{Offsets, det_offsets, end_of, next_offsets, right_window};
 pub use rows::{place, row_refusal};
 
 // The number that refuses a call, or 0, and the widest window of a call that is accepted.
-#[derive(Drop)]
+#[derive(Clone, Copy)]
 pub struct Checked {
     pub number: u32,
     pub widest: usize,

@@ -66,7 +66,7 @@ fn first_refusal(n: usize, starts: &[u32], ends: &[u32]) -> Checked
 }
 
 // Whether a row of a plan is refused, and the widest window where none is.
-#[derive(Drop)]
+#[derive(Clone, Copy)]
 struct Tested {
     refused: bool,
     widest: u32,

@@ -202,7 +202,7 @@ pub pearson_examples :
     ∷ wholes (pearson_list (PearsonState-insert_one pearson_first (of_nat64 5) (of_nat64 10))) (3 ∷ 3 ∷ 6 ∷ 8 ∷ 16 ∷ 32 ∷ [])
     ∷ wholes (pearson_list (PearsonState-combine pearson_first pearson_second))
     (4 ∷ 4 ∷ 8 ∷ 20 ∷ 40 ∷ 80 ∷ [])
-    ∷ same (PearsonState-finalize half) (of_bits binary64 0x3_fE0000000000000)
+    ∷ same (PearsonState-finalize half) (of_bits binary64 0x3FE0000000000000)
     ∷ same (PearsonState-finalize (PearsonState-new [] [])) nan
     ∷ [])
 unfolding every of_bits to_bits of_int add sub mul div eq lt le zip zip_with root PearsonState-new PearsonState-insert_one
@@ -215,8 +215,8 @@ pub skew_examples :
     (wholes (skew_list (SkewState-insert_one skew24 (of_nat64 9))) (3 ∷ 5 ∷ 26 ∷ 36 ∷ [])
     ∷ doubles (skew_list (SkewState-combine skew24 skew99)) (of_nat64 4 ∷ of_nat64 6 ∷ of_nat64 38 ∷ minus 18 ∷ [])
     ∷ wholes (skew_list (SkewState-combine (SkewState-new []) skew24)) (2 ∷ 3 ∷ 2 ∷ 0 ∷ [])
-    ∷ gives (SkewState-finalize (SkewState-new (reals (0 ∷ 0 ∷ 0 ∷ 0 ∷ 5 ∷ []))) true) 1 (of_bits binary64 0x3_fF8000000000000)
-    ∷ gives (SkewState-finalize (SkewState-new (reals (0 ∷ 0 ∷ 0 ∷ 0 ∷ 5 ∷ []))) false) 1 (of_bits binary64 0x4001_e3779_b97_f4_a8)
+    ∷ gives (SkewState-finalize (SkewState-new (reals (0 ∷ 0 ∷ 0 ∷ 0 ∷ 5 ∷ []))) true) 1 (of_bits binary64 0x3FF8000000000000)
+    ∷ gives (SkewState-finalize (SkewState-new (reals (0 ∷ 0 ∷ 0 ∷ 0 ∷ 5 ∷ []))) false) 1 (of_bits binary64 0x4001E3779B97F4A8)
     ∷ gives (SkewState-finalize skew24 false) 0 zero64
     ∷ gives (SkewState-finalize (SkewState-new (reals (2 ∷ 2 ∷ []))) true) 1 nan
     ∷ [])
@@ -231,7 +231,7 @@ pub kurtosis_examples :
     ∷ doubles (kurtosis_list (KurtosisState-combine kurtosis24 kurtosis99))
     (of_nat64 4 ∷ of_nat64 6 ∷ of_nat64 38 ∷ minus 18 ∷ of_nat64 434 ∷ [])
     ∷ wholes (kurtosis_list (KurtosisState-combine (KurtosisState-new []) kurtosis24)) (2 ∷ 3 ∷ 2 ∷ 0 ∷ 2 ∷ [])
-    ∷ gives (KurtosisState-finalize (KurtosisState-new (reals (0 ∷ 0 ∷ 0 ∷ 0 ∷ 5 ∷ []))) false true) 1 (of_bits binary64 0x400_a000000000000)
+    ∷ gives (KurtosisState-finalize (KurtosisState-new (reals (0 ∷ 0 ∷ 0 ∷ 0 ∷ 5 ∷ []))) false true) 1 (of_bits binary64 0x400A000000000000)
     ∷ gives (KurtosisState-finalize (KurtosisState-new (reals (0 ∷ 0 ∷ 0 ∷ 0 ∷ 5 ∷ []))) false false) 1 (of_nat64 8)
     ∷ gives (KurtosisState-finalize (KurtosisState-new (reals (0 ∷ 0 ∷ 0 ∷ 0 ∷ 5 ∷ []))) true false) 1 (of_nat64 5)
     ∷ gives (KurtosisState-finalize (KurtosisState-new (reals (2 ∷ 4 ∷ 9 ∷ []))) false false) 0 zero64
@@ -508,8 +508,8 @@ ones0122 = trace_of (reals (0 ∷ 1 ∷ 2 ∷ 2 ∷ [])) true (15 ∷ [])
 -- a row without a map, and with one
 pub rows_examples :
     Hold
-    (gives (row trace0122 1 two_rows 1) 1 (of_bits binary64 0x3_fD5555555555556)
-    ∷ gives (row ones0122 1 two_rows 1) 1 (of_bits binary64 0x3_fD5555555555556)
+    (gives (row trace0122 1 two_rows 1) 1 (of_bits binary64 0x3FD5555555555556)
+    ∷ gives (row ones0122 1 two_rows 1) 1 (of_bits binary64 0x3FD5555555555556)
     ∷ [])
 unfolding every of_bits to_bits of_int add sub mul div eq lt le VarState-clear_zero_weight_nan VarState-insert_one VarState-combine
     VarState-finalize valid_at rolling_no_nulls rolling_nulls
@@ -519,7 +519,7 @@ rows_examples = tt
 pub first_row_examples :
     Hold
     (gives (row trace0122 3 two_rows 0) 0 zero64
-    ∷ gives (row trace0122 3 two_rows 1) 1 (of_bits binary64 0x3_fD5555555555556)
+    ∷ gives (row trace0122 3 two_rows 1) 1 (of_bits binary64 0x3FD5555555555556)
     ∷ [])
 unfolding every of_bits to_bits of_int add sub mul div eq lt le VarState-clear_zero_weight_nan VarState-insert_one VarState-combine
     VarState-finalize rolling_no_nulls
@@ -532,9 +532,9 @@ short_row = plan_of (0 ∷ 0 ∷ 1 ∷ []) (0 ∷ 2 ∷ 4 ∷ [])
 -- a row that is too short does not move the window without a map, and does with one
 pub short_row_examples :
     Hold
-    (gives (row trace0122 3 short_row 2) 1 (of_bits binary64 0x3_fD5555555555555)
+    (gives (row trace0122 3 short_row 2) 1 (of_bits binary64 0x3FD5555555555555)
     ∷ gives (row ones0122 3 short_row 1) 0 zero64
-    ∷ gives (row ones0122 3 short_row 2) 1 (of_bits binary64 0x3_fD5555555555556)
+    ∷ gives (row ones0122 3 short_row 2) 1 (of_bits binary64 0x3FD5555555555556)
     ∷ [])
 unfolding every of_bits to_bits of_int add sub mul div eq lt le VarState-clear_zero_weight_nan VarState-insert_one VarState-combine
     VarState-finalize valid_at rolling_no_nulls rolling_nulls
@@ -604,7 +604,7 @@ weighted = rolling_var_weights some_rust (reals (1 ∷ 2 ∷ [])) 2 2 false (rea
 -- the weights are divided by their sum: undivided, the last bits are others (..10)
 pub divided_examples :
     Hold
-    (same (get_or weighted.values 1 nan) (of_bits binary64 0x3_fCC71_c71_c71_c730)
+    (same (get_or weighted.values 1 nan) (of_bits binary64 0x3FCC71C71C71C730)
     ∷ bits weighted.validity (false ∷ true ∷ [])
     ∷ [])
 unfolding every of_bits to_bits of_int add sub mul div eq lt le table zip zip_with offset_fn create_validity compute_var_weights weighted_row

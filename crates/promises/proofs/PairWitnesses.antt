@@ -82,11 +82,11 @@ first_mean_not_copied all =
 abbrev three_pairs : (CovState → Float × Float → CovState) → CovState
 three_pairs insert = insert (insert (insert cov_empty (zero64, zero64)) (one64, zero64)) (one64, one64)
 
-pub state_first : to_bits binary64 (three_pairs covariance.insert).dp_xy ≡ 0x3_fD5555555555556
+pub state_first : to_bits binary64 (three_pairs covariance.insert).dp_xy ≡ 0x3FD5555555555556
 unfolding of_bits to_bits of_int add sub mul div eq cov_new cov_combine
 state_first = refl
 
-pub state_second : to_bits binary64 (three_pairs (λ s p. cov_combine (cov_new (p ∷ [])) s)).dp_xy ≡ 0x3_fD5555555555558
+pub state_second : to_bits binary64 (three_pairs (λ s p. cov_combine (cov_new (p ∷ [])) s)).dp_xy ≡ 0x3FD5555555555558
 unfolding of_bits to_bits of_int add sub mul div eq cov_new cov_combine
 state_second = refl
 
@@ -123,7 +123,7 @@ corr7_accepted = record { number_is = refl; left = leaves refl refl refl refl re
 
 -- nor is it clipped: of 0, 0, 1 and 0, 0, 5 it is rounded to the double after 1
 pub above_one_accepted : Called (correlation_by (plan_of (0 ∷ []) (3 ∷ [])) 1) (both (whole (0 ∷ 0 ∷ 1 ∷ [])) (whole (0 ∷ 0 ∷ 5 ∷ [])))
-    (four_lent 24) (four_left 24 (of_bits binary64 0x3_fF0000000000001 ∷ reals (1 ∷ 1 ∷ 1 ∷ [])) (1 ∷ 7 ∷ 7 ∷ 7 ∷ [])) 0
+    (four_lent 24) (four_left 24 (of_bits binary64 0x3FF0000000000001 ∷ reals (1 ∷ 1 ∷ 1 ∷ [])) (1 ∷ 7 ∷ 7 ∷ 7 ∷ [])) 0
 unfolding table refusal ◌or_else◌ wrong_map plan_refusal filled kept of_bits of_int add sub mul div eq lt root pearson_new pearson_combine
     pearson_finalize entries_from split_after figure_of inserted_pair nonfinite_pair answer_at valid_at both_at
 above_one_accepted = record { number_is = refl; left = leaves refl refl refl refl refl }
@@ -191,7 +191,7 @@ double low high = 0 ∷ 0 ∷ 0 ∷ 0 ∷ 0 ∷ 0 ∷ low ∷ high ∷ []
 abbrev nan_bytes : Host Pairs
 nan_bytes =
     record {
-      x = record { bytes = double 0x_f8 0x7_f ++ double 0 0x40 ++ double 0x10 0x40; mapped = false; map = [] };
+      x = record { bytes = double 0xF8 0x7F ++ double 0 0x40 ++ double 0x10 0x40; mapped = false; map = [] };
       y = record { bytes = double 0x14 0x40 ++ double 0 0x40 ++ double 0x18 0x40; mapped = false; map = [] };
     }
 
@@ -216,7 +216,7 @@ abbrev second_map : TracePair
 second_map = both (whole (1 ∷ 3 ∷ 5 ∷ [])) (mapped (2 ∷ 6 ∷ 4 ∷ []) 6)
 
 abbrev trailing_left : Lent
-trailing_left = four_left 12 (zero64 ∷ zero64 ∷ of_bits binary64 0x_bFF0000000000000 ∷ one64 ∷ []) (0 ∷ 0 ∷ 1 ∷ 7 ∷ [])
+trailing_left = four_left 12 (zero64 ∷ zero64 ∷ of_bits binary64 0xBFF0000000000000 ∷ one64 ∷ []) (0 ∷ 0 ∷ 1 ∷ 7 ∷ [])
 
 pub second_map_accepted : CalledFixed false 2 2 (Covariance 0) second_map (four_lent 12) trailing_left 0
 unfolding table refusal ◌or_else◌ wrong_map plan_refusal bounds fixed_refusal filled kept of_bits of_int add sub mul div eq le cov_new cov_combine
@@ -225,14 +225,14 @@ second_map_accepted = record { number_is = refl; plan_call = record { number_is 
 
 -- likewise where the first alone has it
 pub first_map_accepted : CalledFixed false 2 2 Correlation (both (mapped (1 ∷ 3 ∷ 5 ∷ []) 6) (whole (2 ∷ 6 ∷ 4 ∷ []))) (four_lent 16)
-    (four_left 16 (zero64 ∷ zero64 ∷ of_bits binary64 0x_bFF0000000000000 ∷ one64 ∷ []) (0 ∷ 0 ∷ 1 ∷ 7 ∷ [])) 0
+    (four_left 16 (zero64 ∷ zero64 ∷ of_bits binary64 0xBFF0000000000000 ∷ one64 ∷ []) (0 ∷ 0 ∷ 1 ∷ 7 ∷ [])) 0
 unfolding table refusal ◌or_else◌ wrong_map plan_refusal bounds fixed_refusal filled kept of_bits of_int add sub mul div eq lt root pearson_new
     pearson_combine pearson_finalize entries_from split_after figure_of inserted_pair nonfinite_pair answer_at valid_at both_at
 first_map_accepted = record { number_is = refl; plan_call = record { number_is = refl; left = leaves refl refl refl refl refl } }
 
 -- without a map row 1 is there
 pub neither_map_accepted : CalledFixed false 2 2 (Covariance 0) (both (whole (1 ∷ 3 ∷ 5 ∷ [])) (whole (2 ∷ 6 ∷ 4 ∷ []))) (four_lent 12)
-    (four_left 12 (zero64 ∷ two64 ∷ of_bits binary64 0x_bFF0000000000000 ∷ one64 ∷ []) (0 ∷ 1 ∷ 1 ∷ 7 ∷ [])) 0
+    (four_left 12 (zero64 ∷ two64 ∷ of_bits binary64 0xBFF0000000000000 ∷ one64 ∷ []) (0 ∷ 1 ∷ 1 ∷ 7 ∷ [])) 0
 unfolding table refusal ◌or_else◌ wrong_map plan_refusal bounds fixed_refusal filled kept of_bits of_int add sub mul div eq le cov_new cov_combine
     cov_finalize entries_from split_after figure_of inserted_pair nonfinite_pair answer_at valid_at both_at
 neither_map_accepted = record { number_is = refl; plan_call = record { number_is = refl; left = leaves refl refl refl refl refl } }
@@ -263,7 +263,7 @@ abbrev other7 : TracePair
 other7 = both (whole (2 ∷ 4 ∷ 6 ∷ 8 ∷ [])) (whole (9 ∷ 5 ∷ 7 ∷ 9 ∷ []))
 
 abbrev other7_left : Lent
-other7_left = four_left 12 (of_bits binary64 0x_c010000000000000 ∷ two64 ∷ zero64 ∷ one64 ∷ []) (1 ∷ 1 ∷ 0 ∷ 7 ∷ [])
+other7_left = four_left 12 (of_bits binary64 0xC010000000000000 ∷ two64 ∷ zero64 ∷ one64 ∷ []) (1 ∷ 1 ∷ 0 ∷ 7 ∷ [])
 
 other7_accepted : Called (covariance_by p7 1 1) other7 (four_lent 12) other7_left 0
 unfolding table refusal ◌or_else◌ wrong_map plan_refusal filled kept of_bits of_int add sub mul div eq le cov_new cov_combine cov_finalize
@@ -284,7 +284,7 @@ agree_pairs (suc (suc (suc i))) s e v = absurd (omega arith)
 pub disagree_pairs : Agree Pairs pair7 other7 0 2 → ⊥
 unfolding valid_at both_at of_bits to_bits of_int
 disagree_pairs all =
-    let bits : ◌≡◌ {A = ℕ} 0x3_fF0000000000000 0x4022000000000000 = ap (to_bits binary64) (all 0 (omega arith) (omega arith) refl).1 in
+    let bits : ◌≡◌ {A = ℕ} 0x3FF0000000000000 0x4022000000000000 = ap (to_bits binary64) (all 0 (omega arith) (omega arith) refl).1 in
     omega arith
 
 -- so row 1's answers are the same ..
@@ -297,7 +297,7 @@ same_pair_rows =
 pub differ_pair_rows : answers_in cov7_left.outputs.answers 0 ≡ answers_in other7_left.outputs.answers 0 → ⊥
 unfolding of_bits to_bits of_int
 differ_pair_rows same =
-    let bits : ◌≡◌ {A = ℕ} 0x4010000000000000 0x_c010000000000000 = ap first_bits same in
+    let bits : ◌≡◌ {A = ℕ} 0x4010000000000000 0xC010000000000000 = ap first_bits same in
     omega arith
 
 -- ---- what is not enough for the same answers
@@ -336,10 +336,10 @@ abbrev no_maps : TracePair
 no_maps = both (whole (0 ∷ 0 ∷ 0 ∷ 1 ∷ [])) (whole (0 ∷ 0 ∷ 1 ∷ 0 ∷ []))
 
 abbrev ones_left : Lent
-ones_left = four_left 18 (zero64 ∷ zero64 ∷ of_bits binary64 0x_bFC5555555555555 ∷ one64 ∷ []) (0 ∷ 0 ∷ 1 ∷ 7 ∷ [])
+ones_left = four_left 18 (zero64 ∷ zero64 ∷ of_bits binary64 0xBFC5555555555555 ∷ one64 ∷ []) (0 ∷ 0 ∷ 1 ∷ 7 ∷ [])
 
 abbrev no_maps_left : Lent
-no_maps_left = four_left 18 (zero64 ∷ zero64 ∷ of_bits binary64 0x_bFC5555555555556 ∷ one64 ∷ []) (0 ∷ 0 ∷ 1 ∷ 7 ∷ [])
+no_maps_left = four_left 18 (zero64 ∷ zero64 ∷ of_bits binary64 0xBFC5555555555556 ∷ one64 ∷ []) (0 ∷ 0 ∷ 1 ∷ 7 ∷ [])
 
 ones_accepted : Called (covariance_by short_row 3 1) ones (four_lent 18) ones_left 0
 unfolding table refusal ◌or_else◌ wrong_map plan_refusal filled kept of_bits of_int add sub mul div eq le cov_new cov_combine cov_finalize
@@ -370,7 +370,7 @@ unfolding of_bits to_bits
 either_map_counts all =
     let same = all short_row 3 ones no_maps ones_left no_maps_left (plan_call ones_accepted) (plan_call no_maps_accepted) 2 (omega arith)
     (ones_places, λ i s e v. (refl, refl)) in
-    let bits : ◌≡◌ {A = ℕ} 0x_bFC5555555555555 0x_bFC5555555555556 = ap first_bits same in
+    let bits : ◌≡◌ {A = ℕ} 0xBFC5555555555555 0xBFC5555555555556 = ap first_bits same in
     omega arith
 
 -- a map in the first trace of one pair and in the second of the other: both go by the rule for a map, and miss the same place

@@ -157,7 +157,7 @@ fixed_refused =
 
 -- weights 1, -1: 9
 abbrev opposed : List Float
-opposed = one64 ∷ of_bits binary64 0x_bFF0000000000000 ∷ []
+opposed = one64 ∷ of_bits binary64 0xBFF0000000000000 ∷ []
 
 pub weights_refused : CalledWeights false 2 1 opposed trace13 four_column four_column 9
 unfolding table refusal ◌or_else◌ wrong_map weights_refusal filled of_bits of_int add eq
@@ -339,7 +339,7 @@ five_applies = inr (inr (inr (inr (inr (inr (inr (inr (inr (inl (refl, omega ari
 pub refusal_keeps : (Answer : Type 0) → Answered (trace_checks no_bytes) 3 before (reals (8 ∷ 7 ∷ 7 ∷ [])) Answer → ⊥
 unfolding of_int to_bits
 refusal_keeps Answer a =
-    let bits : ◌≡◌ {A = ℕ} 0x4020000000000000 0x401_c000000000000 = ap first_bits (a.unchanged (λ z. omega arith)) in
+    let bits : ◌≡◌ {A = ℕ} 0x4020000000000000 0x401C000000000000 = ap first_bits (a.unchanged (λ z. omega arith)) in
     omega arith
   where
     first_bits : List Float → ℕ

@@ -2,12 +2,12 @@
 -- loop that keeps several sums keeps each as if it were alone. Assumes nothing.
 use Prim.Native.Nat.{ℕ}
 use mathlib.Core.Path.{◌≡◌, refl, ap, ◌∙◌}
-use mathlib.Core.Bool.{Bool, true, false}
+use mathlib.Core.Bool.{Bool, true, false, cond}
 use mathlib.Core.List.{List, [], ◌∷◌, foldl, foldl-map, map, zip, zip_with}
-use lib.Dec.{eqb-suc-zero}
+use lib.Dec.{eqb, eqb-suc-zero}
 use lib.ListN.{length, length-map}
 use lib.Ieee.{Float}
-use Rattle.float.specs.Operators.{◌⊕◌, zero64}
+use Rattle.float.specs.Operators.{◌⊕◌, ◌⊗◌, ◌⊘◌, zero64, one64, of_nat64}
 use Rattle.moment.specs.declared.Figure.{Figure}
 use Rattle.moment.specs.declared.var_state.VarState.{VarState}
 use Rattle.moment.specs.declared.cov_state.CovState.{CovState}
@@ -16,11 +16,11 @@ use Rattle.moment.specs.declared.skew_state.SkewState.{SkewState}
 use Rattle.moment.specs.declared.kurtosis_state.KurtosisState.{KurtosisState}
 use Rattle.moment.specs.Sums.{sum_of, first_of, second_of, square, cube, fourth, deviation_product}
 use Rattle.moment.specs.Var.{mean_of, var_new, var_clear, var_insert, var_combine, var_finalize}
-use Rattle.moment.specs.Cov.{pair_mean, cov_new, cov_insert, cov_combine, cov_finalize}
-use Rattle.moment.specs.Pearson.{square_x, square_y, pearson_new, pearson_insert, pearson_combine, pearson_finalize}
+use Rattle.moment.specs.Cov.{pair_mean, cov_empty, cov_new, cov_insert, cov_combine, cov_finalize}
+use Rattle.moment.specs.Pearson.{square_x, square_y, pearson_empty, pearson_about, pearson_new, pearson_insert, pearson_combine, pearson_finalize}
 use Rattle.moment.specs.Skew.{skew_new, skew_clear, skew_insert, skew_combine, skew_biased, skew_finalize}
 use Rattle.moment.specs.Kurtosis.{kurtosis_new, kurtosis_clear, kurtosis_insert, kurtosis_combine, kurtosis_biased, kurtosis_finalize}
-use Rattle.promises.specs.SourceStates.{alg_add, alg_sum, add_products, add_cubes, add_fourths, squared_from, product_from}
+use Rattle.promises.specs.SourceStates.{is_empty, alg_add, alg_sum, add_products, add_cubes, add_fourths, squared_from, product_from}
 use Rattle.promises.specs.SourceStates.{VarState-new, VarState-clear_zero_weight_nan, VarState-insert_one}
 use Rattle.promises.specs.SourceStates.{VarState-combine, VarState-finalize}
 use Rattle.promises.specs.SourceStates.{CovState-new, CovState-insert_one, CovState-combine, CovState-finalize}
@@ -67,19 +67,35 @@ unfolding VarState-finalize var_finalize
 var_finalize_lem = refl
 
 -- ---- `CovState`
+-- a state from how many pairs there are, the sums of their members, and the pairs
+cov_of : ℕ → Float → Float → List (Float × Float) → CovState
+cov_of n x y ps =
+    let mean_x = x ⊗ (one64 ⊘ of_nat64 n) in
+    let mean_y = y ⊗ (one64 ⊘ of_nat64 n) in
+    record { weight = of_nat64 n; mean_x = mean_x; mean_y = mean_y; dp_xy = sum_of (product_from mean_x mean_y) ps }
+
+cov_source : (x y : List Float) → CovState-new x y ≡ cond (is_empty x) cov_empty (cov_of (length x) (alg_sum x) (alg_sum y) (zip x y))
+unfolding CovState-new cov_of
+cov_source x y = rw (sum-map (product_from (alg_sum x ⊗ (one64 ⊘ of_nat64 (length x))) (alg_sum y ⊗ (one64 ⊘ of_nat64 (length x)))) (zip x y))
+
+cov_ours : (p : Float × Float) (ps : List (Float × Float)) →
+    let all = p ∷ ps in cov_of (length all) (sum_of first_of all) (sum_of second_of all) all ≡ cov_new all
+unfolding cov_new cov_of
+cov_ours p ps = rw (eqb-suc-zero (length ps))
+
+cov_alike : (n n' : ℕ) (x x' y y' : Float) (ps ps' : List (Float × Float)) → n ≡ n' → x ≡ x' → y ≡ y' → ps ≡ ps' → cov_of n x y ps ≡ cov_of n' x' y' ps'
+cov_alike n n' x x' y y' ps ps' e f g h = cc
+
 pub cov_new_lem : (ps : List (Float × Float)) → CovState-new (map first_of ps) (map second_of ps) ≡ cov_new ps
 unfolding CovState-new cov_new zip zip_with
 cov_new_lem [] = refl
 cov_new_lem (p ∷ ps) =
     let all = p ∷ ps in
-    rw (
-      length-map ps first_of,
-      sum-map first_of all,
-      sum-map second_of all,
-      zip_members ps,
-      eqb-suc-zero (length ps),
-      sum-map (product_from (pair_mean first_of all) (pair_mean second_of all)) all,
-    )
+    let x = map first_of all in
+    let y = map second_of all in
+    cov_source x y
+    ∙ cov_alike (length x) (length all) (alg_sum x) (sum_of first_of all) (alg_sum y) (sum_of second_of all) (zip x y) all (length-map all first_of) (sum-map first_of all) (sum-map second_of all) (zip_members all)
+    ∙ cov_ours p ps
 
 pub cov_insert_lem : ◌≡◌ {A = CovState → Float → Float → CovState} CovState-insert_one cov_insert
 unfolding CovState-insert_one
@@ -94,24 +110,40 @@ unfolding CovState-finalize cov_finalize
 cov_finalize_lem = refl
 
 -- ---- `PearsonState`
+-- a state from how many pairs there are, the sums of their members, and the pairs
+pearson_of : ℕ → Float → Float → List (Float × Float) → PearsonState
+pearson_of n x y ps = pearson_about (of_nat64 n) (x ⊗ (one64 ⊘ of_nat64 n)) (y ⊗ (one64 ⊘ of_nat64 n)) ps
+
+pearson_source : (x y : List Float) → PearsonState-new x y ≡ cond (is_empty x) pearson_empty (pearson_of (length x) (alg_sum x) (alg_sum y) (zip x y))
+unfolding PearsonState-new pearson_of
+pearson_source x y =
+    let mean_x = alg_sum x ⊗ (one64 ⊘ of_nat64 (length x)) in
+    let mean_y = alg_sum y ⊗ (one64 ⊘ of_nat64 (length x)) in
+    let none : Float × Float × Float = (zero64, zero64, zero64) in
+    rw (
+      kept_sum (λ s. s.0) (add_products mean_x mean_y) (square_x mean_x) (λ s p. refl) none (zip x y),
+      kept_sum (λ s. s.1) (add_products mean_x mean_y) (deviation_product mean_x mean_y) (λ s p. refl) none (zip x y),
+      kept_sum (λ s. s.2) (add_products mean_x mean_y) (square_y mean_y) (λ s p. refl) none (zip x y),
+    )
+
+pearson_ours : (p : Float × Float) (ps : List (Float × Float)) →
+    let all = p ∷ ps in pearson_of (length all) (sum_of first_of all) (sum_of second_of all) all ≡ pearson_new all
+unfolding pearson_new pearson_of
+pearson_ours p ps = rw (eqb-suc-zero (length ps))
+
+pearson_alike : (n n' : ℕ) (x x' y y' : Float) (ps ps' : List (Float × Float)) → n ≡ n' → x ≡ x' → y ≡ y' → ps ≡ ps' → pearson_of n x y ps ≡ pearson_of n' x' y' ps'
+pearson_alike n n' x x' y y' ps ps' e f g h = cc
+
 pub pearson_new_lem : (ps : List (Float × Float)) → PearsonState-new (map first_of ps) (map second_of ps) ≡ pearson_new ps
 unfolding PearsonState-new pearson_new zip zip_with
 pearson_new_lem [] = refl
 pearson_new_lem (p ∷ ps) =
     let all = p ∷ ps in
-    let mean_x = pair_mean first_of all in
-    let mean_y = pair_mean second_of all in
-    let none : Float × Float × Float = (zero64, zero64, zero64) in
-    rw (
-      length-map ps first_of,
-      sum-map first_of all,
-      sum-map second_of all,
-      zip_members ps,
-      eqb-suc-zero (length ps),
-      kept_sum (λ s. s.0) (add_products mean_x mean_y) (square_x mean_x) (λ s p. refl) none all,
-      kept_sum (λ s. s.1) (add_products mean_x mean_y) (deviation_product mean_x mean_y) (λ s p. refl) none all,
-      kept_sum (λ s. s.2) (add_products mean_x mean_y) (square_y mean_y) (λ s p. refl) none all,
-    )
+    let x = map first_of all in
+    let y = map second_of all in
+    pearson_source x y
+    ∙ pearson_alike (length x) (length all) (alg_sum x) (sum_of first_of all) (alg_sum y) (sum_of second_of all) (zip x y) all (length-map all first_of) (sum-map first_of all) (sum-map second_of all) (zip_members all)
+    ∙ pearson_ours p ps
 
 pub pearson_insert_lem : ◌≡◌ {A = PearsonState → Float → Float → PearsonState} PearsonState-insert_one pearson_insert
 unfolding PearsonState-insert_one

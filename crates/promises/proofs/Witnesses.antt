@@ -109,7 +109,7 @@ p7_accepted = record { number_is = refl; left = leaves refl refl refl refl refl 
 -- P8's readings as bytes: NaN, 4, 6
 abbrev bytes8 : List ℕ
 bytes8 =
-    0 ∷ 0 ∷ 0 ∷ 0 ∷ 0 ∷ 0 ∷ 0x_f8 ∷ 0x7_f ∷ 0 ∷ 0 ∷ 0 ∷ 0 ∷ 0 ∷ 0 ∷ 0x10 ∷ 0x40 ∷ 0 ∷ 0 ∷ 0 ∷ 0 ∷ 0 ∷ 0 ∷ 0x18 ∷ 0x40 ∷ []
+    0 ∷ 0 ∷ 0 ∷ 0 ∷ 0 ∷ 0 ∷ 0xF8 ∷ 0x7F ∷ 0 ∷ 0 ∷ 0 ∷ 0 ∷ 0 ∷ 0 ∷ 0x10 ∷ 0x40 ∷ 0 ∷ 0 ∷ 0 ∷ 0 ∷ 0 ∷ 0 ∷ 0x18 ∷ 0x40 ∷ []
 
 abbrev p8_left : Lent
 p8_left = var_left 12 trace8 p8 1 (nan ∷ two64 ∷ one64 ∷ one64 ∷ []) (1 ∷ 1 ∷ 7 ∷ 7 ∷ [])
@@ -162,10 +162,10 @@ abbrev p5 : Plan
 p5 = plan_of (0 ∷ []) (5 ∷ [])
 
 abbrev skew_left : Lent
-skew_left = four_left 25 (of_bits binary64 0x3_fF8000000000000 ∷ one64 ∷ one64 ∷ one64 ∷ []) (1 ∷ 7 ∷ 7 ∷ 7 ∷ [])
+skew_left = four_left 25 (of_bits binary64 0x3FF8000000000000 ∷ one64 ∷ one64 ∷ one64 ∷ []) (1 ∷ 7 ∷ 7 ∷ 7 ∷ [])
 
 abbrev kurtosis_left : Lent
-kurtosis_left = four_left 30 (of_bits binary64 0x400_a000000000000 ∷ one64 ∷ one64 ∷ one64 ∷ []) (1 ∷ 7 ∷ 7 ∷ 7 ∷ [])
+kurtosis_left = four_left 30 (of_bits binary64 0x400A000000000000 ∷ one64 ∷ one64 ∷ one64 ∷ []) (1 ∷ 7 ∷ 7 ∷ 7 ∷ [])
 
 pub skewness_accepted : Called (query p5 1 (Skewness true)) trace5 (four_lent 25) skew_left 0
 unfolding table refusal ◌or_else◌ wrong_map plan_refusal filled kept of_bits of_int add sub mul div eq lt le root skew_clear skew_combine
@@ -455,10 +455,10 @@ no_map = trace_of (of_nat64 2 ∷ of_nat64 0 ∷ of_nat64 1 ∷ of_nat64 3 ∷ [
 
 -- the two calls' lists, which differ in one bit of row 2's double
 abbrev ones_left : Lent
-ones_left = var_left 18 ones short_row.plan 3 (zero64 ∷ zero64 ∷ of_bits binary64 0x4002_aAAAAAAAAAAB ∷ one64 ∷ []) (0 ∷ 0 ∷ 1 ∷ 7 ∷ [])
+ones_left = var_left 18 ones short_row.plan 3 (zero64 ∷ zero64 ∷ of_bits binary64 0x4002AAAAAAAAAAAB ∷ one64 ∷ []) (0 ∷ 0 ∷ 1 ∷ 7 ∷ [])
 
 abbrev no_map_left : Lent
-no_map_left = var_left 18 no_map short_row.plan 3 (zero64 ∷ zero64 ∷ of_bits binary64 0x4002_aAAAAAAAAAAA ∷ one64 ∷ []) (0 ∷ 0 ∷ 1 ∷ 7 ∷ [])
+no_map_left = var_left 18 no_map short_row.plan 3 (zero64 ∷ zero64 ∷ of_bits binary64 0x4002AAAAAAAAAAAA ∷ one64 ∷ []) (0 ∷ 0 ∷ 1 ∷ 7 ∷ [])
 
 ones_accepted : Called short_row ones (var_lent 18) ones_left 0
 unfolding table refusal ◌or_else◌ wrong_map plan_refusal filled kept of_bits of_int add sub mul div eq lt le var_clear var_combine var_finalize
@@ -491,7 +491,7 @@ unfolding of_bits to_bits
 ones_are_a_map all =
     let same = all short_row.plan 3 ones no_map ones_left no_map_left (plan_call ones_accepted) (plan_call no_map_accepted) 2 (omega arith)
     (refl, ones_places, λ i s e v. refl) in
-    let bits : ◌≡◌ {A = ℕ} 0x4002_aAAAAAAAAAAB 0x4002_aAAAAAAAAAAA = ap first_bits same in
+    let bits : ◌≡◌ {A = ℕ} 0x4002AAAAAAAAAAAB 0x4002AAAAAAAAAAAA = ap first_bits same in
     omega arith
 
 -- `Alike` is said of none of these: traces of other lengths, that miss other places, with a map and without one
@@ -662,7 +662,7 @@ no_nan_ones (suc (suc zero), s, e, v, f) = apart (sym f)
 no_nan_ones (suc (suc (suc zero)), s, e, v, f) = apart (sym f)
 no_nan_ones (suc (suc (suc (suc i))), s, e, v, f) = absurd (omega arith)
 
-ones_row : VarianceRow ones 1 4 3 1 (answer (of_bits binary64 0x4002_aAAAAAAAAAAB) 1)
+ones_row : VarianceRow ones 1 4 3 1 (answer (of_bits binary64 0x4002AAAAAAAAAAAB) 1)
 unfolding entries_from valid_at of_bits le
 ones_row =
     record {

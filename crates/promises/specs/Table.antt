@@ -158,7 +158,7 @@ cases =
     ∷ var_gives (var_combine var_empty infinite_mean) (VarState-combine VarState-default infinite_mean) 0 1 nan
     ∷ pearson_gives (of_nat64 1 ∷ of_nat64 3 ∷ []) (of_nat64 2 ∷ of_nat64 4 ∷ []) (of_nat64 1)
     ∷ pearson_gives (of_nat64 1 ∷ []) (of_nat64 2 ∷ []) nan
-    ∷ skew_gives (of_nat64 0 ∷ of_nat64 0 ∷ of_nat64 0 ∷ of_nat64 0 ∷ of_nat64 5 ∷ []) (of_bits binary64 0x3_fF8000000000000)
+    ∷ skew_gives (of_nat64 0 ∷ of_nat64 0 ∷ of_nat64 0 ∷ of_nat64 0 ∷ of_nat64 5 ∷ []) (of_bits binary64 0x3FF8000000000000)
     ∷ kurtosis_gives (of_nat64 1 ∷ of_nat64 3 ∷ []) false (of_nat64 1)
     ∷ kurtosis_gives (of_nat64 1 ∷ of_nat64 3 ∷ []) true (of_int binary64 (negsuc 1))
     ∷ accepted p7 trace7
@@ -171,6 +171,6 @@ cases =
     ∷ accepted p9 trace9
     ∷ row_gives p9 2 trace9 0 1 (of_nat64 2)
     ∷ row_gives p9 3 trace9 0 0 zero64
-    ∷ same (root (of_nat64 2)) (of_bits binary64 0x3_fF6_a09_e667_f3_bCD)
-    ∷ same (root (of_bits binary64 1)) (of_bits binary64 0x1_e60000000000000)
+    ∷ same (root (of_nat64 2)) (of_bits binary64 0x3FF6A09E667F3BCD)
+    ∷ same (root (of_bits binary64 1)) (of_bits binary64 0x1E60000000000000)
     ∷ []

@@ -1,7 +1,7 @@
 -- Document 01, "A plan call, from bytes to figures": what a call without weights is asked and given, what it answers and what it leaves
 -- in the lists that it is lent. The contract of each plan call of this crate is `Calls`. Assumes nothing.
 use Rattle.std.specs.Prelude.{◌≡◌, ℕ, Bool, false, List, [], ◌∷◌, ◌++◌, length, Float}
-use Rattle.trace.specs.Slices.{Slice, entering, leaving}
+use Rattle.trace.specs.Slices.{Slice, MutSlice, entering_mut, leaving}
 use Rattle.moment.specs.declared.Figure.{Figure}
 use Rattle.plan.specs.Plan.{Plan, rows, planning}
 use Rattle.plan.specs.Refusals.{needed, plan_refusal}
@@ -86,28 +86,28 @@ abbrev pub querying : Slice ℕ → Slice ℕ → ℕ → Statistic → Query
 querying starts ends min_periods statistic = query (planning starts ends) min_periods statistic
 
 -- the columns that lists of doubles and bytes are, before a call
-abbrev pub columns_before : List (Slice Float × Slice ℕ) → List Column
+abbrev pub columns_before : List (MutSlice Float × MutSlice ℕ) → List Column
 columns_before [] = []
-columns_before (c ∷ cs) = column (entering c.0) (entering c.1) ∷ columns_before cs
+columns_before (c ∷ cs) = column (entering_mut c.0) (entering_mut c.1) ∷ columns_before cs
 
 -- and after it
-abbrev pub columns_after : List (Slice Float × Slice ℕ) → List Column
+abbrev pub columns_after : List (MutSlice Float × MutSlice ℕ) → List Column
 columns_after [] = []
 columns_after (c ∷ cs) = column (leaving c.0) (leaving c.1) ∷ columns_after cs
 
 -- what is lent, before and after: the work slice, then the two lists of each figure
-abbrev pub lending_all : Slice Float → List (Slice Float × Slice ℕ) → Lent × Lent
+abbrev pub lending_all : MutSlice Float → List (MutSlice Float × MutSlice ℕ) → Lent × Lent
 lending_all work cs = (
-  record { outputs = outputs_of (columns_before cs) []; work = entering work },
+  record { outputs = outputs_of (columns_before cs) []; work = entering_mut work },
   record { outputs = outputs_of (columns_after cs) []; work = leaving work },
 )
 
 -- of one figure
-abbrev pub lending : Slice Float → Slice Float → Slice ℕ → Lent × Lent
+abbrev pub lending : MutSlice Float → MutSlice Float → MutSlice ℕ → Lent × Lent
 lending work figures present = lending_all work ((figures, present) ∷ [])
 
 -- of a variance, its lowest and its highest reading
-abbrev pub lending_three : Slice Float → Slice Float → Slice ℕ → Slice Float → Slice ℕ → Slice Float → Slice ℕ → Lent × Lent
+abbrev pub lending_three : MutSlice Float → MutSlice Float → MutSlice ℕ → MutSlice Float → MutSlice ℕ → MutSlice Float → MutSlice ℕ → Lent × Lent
 lending_three work figures present lowest lowest_present highest highest_present =
     lending_all work ((figures, present) ∷ (lowest, lowest_present) ∷ (highest, highest_present) ∷ [])
 

@@ -1,7 +1,6 @@
 // Covariance of two traces over moving windows: a moment of pairs, and 001's `MomentWindow` over it. The two stacks lie in the work slice,
 // states of the front stack from its beginning, pairs of the back stack from `base` on.
 ghost use Rattle.std.specs.Prelude.{◌≡◌, ◌*◌, ◌≤◌, min, ◌||◌, [], ◌∷◌, length};
-ghost use Rattle.trace.specs.Slices.{entering, leaving};
 ghost use Rattle.moment.specs.Cov.{cov_empty, cov_new, cov_combine, cov_finalize};
 ghost use Rattle.trace.specs.Trace.{both_at};
 ghost use Rattle.window.specs.Places.{chosen_count};
@@ -23,20 +22,20 @@ use moment::{CovState, Figure};
 use plan::Offsets;
 use window::Window;
 
-#[derive(Drop)]
+#[derive(Clone, Copy)]
 pub struct CovMoment {
     pub ddof: u8,
 }
 
 // A window with the state of its back part.
-#[derive(Drop)]
+#[derive(Clone, Copy)]
 pub struct CovWindow {
     pub window: Window,
     pub agg_back: CovState,
 }
 
 // The back stack grown: how many pairs stand in it, how many in the window are not finite, and its state.
-#[derive(Drop)]
+#[derive(Clone, Copy)]
 pub struct CovAppended {
     pub back: usize,
     pub nonfinite: usize,
@@ -67,7 +66,7 @@ impl CovMoment {
     // The n pairs of the back stack become the front stack, the last of them at its bottom.
     fn flip(work: &mut [f64], base: usize, n: usize)
         requires { Flippable cov_stored base n work.old }
-        ensures { Flipped cov_stored base n (entering work) (leaving work) }
+        ensures { Flipped cov_stored base n work.old work.new }
     {
         let mut agg = CovMoment::empty();
         let mut at: usize = 0;
@@ -101,8 +100,8 @@ impl CovMoment {
     ) -> CovAppended
         requires { Appendable cov_stored (pair_series x_has_map x_map.now x.now y_has_map y_map.now y.now)
             a b (both_have x.now y.now) n nonfinite back.old }
-        ensures { Appended cov_stored (pair_series_in x_has_map x_map x y_has_map y_map y) (entering back) n nonfinite
-            agg_back a b (leaving back) result.back result.nonfinite result.agg_back }
+        ensures { Appended cov_stored (pair_series_in x_has_map x_map x y_has_map y_map y) back.old n nonfinite
+            agg_back a b back.new result.back result.nonfinite result.agg_back }
     {
         let mut state = agg_back;
         let mut many = n;
@@ -137,7 +136,7 @@ impl CovMoment {
     // The state on the top of the front stack's n, or the empty one.
     fn last(work: &[f64], n: usize) -> CovState
         requires { 4 * n ≤ length work.now }
-        ensures { result ≡ top_of cov_stored (entering work) n }
+        ensures { result ≡ top_of cov_stored work.now n }
     {
         if n == 0 {
             return CovMoment::empty();
@@ -186,7 +185,7 @@ impl CovMoment {
         b: usize,
     ) -> usize
         requires { a ≤ b }
-        ensures { result ≡ chosen_count (both_at x_has_map (entering x_map) y_has_map (entering y_map)) a b }
+        ensures { result ≡ chosen_count (both_at x_has_map x_map.now y_has_map y_map.now) a b }
     {
         let mut valid: usize = 0;
         let mut i = a;
@@ -279,7 +278,7 @@ impl CovMoment {
         requires { Trimmable cov_stored (pair_series x_has_map x_map.now x.now y_has_map y_map.now y.now)
             base start (both_have x.now y.now) w.window w.agg_back work.old }
         ensures { Trimmed cov_stored (pair_series_in x_has_map x_map x y_has_map y_map y) base start
-            w.window (entering work) result.window result.agg_back (leaving work) }
+            w.window work.old result.window result.agg_back work.new }
     {
         let window = w.window;
         let agg_back = w.agg_back;
@@ -325,7 +324,7 @@ impl CovMoment {
         requires { Extendable cov_stored (pair_series x_has_map x_map.now x.now y_has_map y_map.now y.now)
             base widest end (both_have x.now y.now) w.window w.agg_back work.old }
         ensures { Extended cov_stored (pair_series_in x_has_map x_map x y_has_map y_map y) base widest end
-            w.window (entering work) result.window result.agg_back (leaving work) }
+            w.window work.old result.window result.agg_back work.new }
     {
         let window = w.window;
         let agg_back = w.agg_back;
@@ -367,7 +366,7 @@ impl CovMoment {
         requires { Movable cov_stored (pair_series x_has_map x_map.now x.now y_has_map y_map.now y.now)
             start end (both_have x.now y.now) widest w.window w.agg_back work.old }
         ensures { Updated cov_stored (pair_series_in x_has_map x_map x y_has_map y_map y) widest start end
-            w.window (entering work) result.window result.agg_back (leaving work) }
+            w.window work.old result.window result.agg_back work.new }
     {
         let base = CovMoment::STATE * widest;
         let trimmed = CovMoment::trim(
@@ -396,7 +395,7 @@ impl CovMoment {
         requires { Movable cov_stored (pair_series x_has_map x_map.now x.now y_has_map y_map.now y.now)
             start end (both_have x.now y.now) rows.widest w.window w.agg_back work.old }
         ensures { Stepped cov_stored (pair_series_in x_has_map x_map x y_has_map y_map y) rows.widest
-            rows.min_periods row start end w.window (entering work) result.window result.agg_back (leaving work) }
+            rows.min_periods row start end w.window work.old result.window result.agg_back work.new }
     {
         if row::moves(
             trace::either(x_has_map, y_has_map),
@@ -426,7 +425,7 @@ impl CovMoment {
     fn get_moment(self, work: &[f64], w: CovWindow) -> Figure
         requires { 4 * w.window.front ≤ length work.now }
         ensures { result ≡ or_nan w.window.nonfinite
-            (cov_finalize (cov_combine w.agg_back (top_of cov_stored (entering work) w.window.front)) self.ddof) }
+            (cov_finalize (cov_combine w.agg_back (top_of cov_stored work.now w.window.front)) self.ddof) }
     {
         let agg_back = w.agg_back;
         let state = agg_back.combine(CovMoment::last(work, w.window.front));
@@ -446,7 +445,7 @@ impl CovMoment {
     ) -> Figure
         requires { Answerable 4 w.window (length work.now) start end }
         ensures { result ≡ answer_by cov_stored (λ z. cov_finalize z self.ddof) (x_has_map || y_has_map) min_periods
-            start end w.window w.agg_back (entering work) }
+            start end w.window w.agg_back work.now }
     {
         let mapped = trace::either(x_has_map, y_has_map);
         let valid = w.window.front + w.window.back;
@@ -482,8 +481,8 @@ impl CovMoment {
             rows starts.now ends.now (min (length figures.old) (length present.old)) first until at opening.window
             opening.agg_back work.old }
         ensures { Works cov_stored (λ z. cov_finalize z self.ddof) (pair_series_in x_has_map x_map x y_has_map y_map y)
-            (length (entering x)) rows (entering starts) (entering ends) first until (entering work) (entering figures)
-            (entering present) result.window result.agg_back (leaving work) (leaving figures) (leaving present) }
+            (length x.now) rows starts.now ends.now first until work.old figures.old
+            present.old result.window result.agg_back work.new figures.new present.new }
     {
         let mut w = opening;
         let mut next = at;

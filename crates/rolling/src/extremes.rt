@@ -9,7 +9,7 @@ ghost use Rattle.rolling.specs.Code.Extremes.{no_extremes, extremes_inserted, ex
 use moment::{Figure, VarState};
 
 // A state of readings with the lowest and the highest of those that are finite; where none is, infinities beyond which every reading lies.
-#[derive(Drop)]
+#[derive(Clone, Copy)]
 pub struct VarExtremes {
     pub var: VarState,
     pub lowest: f64,

@@ -5,7 +5,6 @@ ghost use Rattle.trace.specs.Trace.{tracing};
 ghost use Rattle.moment.specs.Kurtosis.{kurtosis_empty, kurtosis_combine, kurtosis_finalize};
 ghost use Rattle.window.specs.Window.{or_nan};
 ghost use Rattle.window.specs.Code.Stacks.{answer_by};
-ghost use Rattle.trace.specs.Slices.{entering, leaving};
 ghost use Rattle.window.specs.Readings.{series};
 ghost use Rattle.window.specs.Code.Stacks.{Flippable, Flipped, Appendable, Appended, top_of};
 ghost use Rattle.window.specs.Code.Stacks.{Trimmable, Trimmed, Extendable, Extended, Movable, Updated, Stepped};
@@ -21,21 +20,21 @@ use moment::{Figure, KurtosisState};
 use plan::Offsets;
 use window::Window;
 
-#[derive(Drop)]
+#[derive(Clone, Copy)]
 pub struct KurtosisMoment {
     pub fisher: bool,
     pub bias: bool,
 }
 
 // A window with the state of its back part.
-#[derive(Drop)]
+#[derive(Clone, Copy)]
 pub struct KurtosisWindow {
     pub window: Window,
     pub agg_back: KurtosisState,
 }
 
 // The back stack grown: how many readings stand in it, how many in the window are not finite, and its state.
-#[derive(Drop)]
+#[derive(Clone, Copy)]
 pub struct KurtosisAppended {
     pub back: usize,
     pub nonfinite: usize,
@@ -59,7 +58,7 @@ impl KurtosisMoment {
     // The n readings of the back stack become the front stack, the last of them at its bottom.
     fn flip(work: &mut [f64], base: usize, n: usize)
         requires { Flippable kurtosis_stored base n work.old }
-        ensures { Flipped kurtosis_stored base n (entering work) (leaving work) }
+        ensures { Flipped kurtosis_stored base n work.old work.new }
     {
         let mut agg = KurtosisMoment::empty();
         let mut at: usize = 0;
@@ -90,8 +89,8 @@ impl KurtosisMoment {
     ) -> KurtosisAppended
         requires { Appendable kurtosis_stored (series has_map map.now values.now) a b (length values.now)
             n nonfinite back.old }
-        ensures { Appended kurtosis_stored (series_in has_map map values) (entering back) n nonfinite agg_back a b
-            (leaving back) result.back result.nonfinite result.agg_back }
+        ensures { Appended kurtosis_stored (series_in has_map map values) back.old n nonfinite agg_back a b
+            back.new result.back result.nonfinite result.agg_back }
     {
         let mut state = agg_back;
         let mut at = n;
@@ -122,7 +121,7 @@ impl KurtosisMoment {
     // The state on the top of the front stack's n, or the empty one.
     fn last(work: &[f64], n: usize) -> KurtosisState
         requires { 5 * n ≤ length work.now }
-        ensures { result ≡ top_of kurtosis_stored (entering work) n }
+        ensures { result ≡ top_of kurtosis_stored work.now n }
     {
         if n == 0 {
             return KurtosisMoment::empty();
@@ -149,8 +148,8 @@ impl KurtosisMoment {
     ) -> KurtosisWindow
         requires { Trimmable kurtosis_stored (series has_map map.now values.now) base start (length values.now)
             w.window w.agg_back work.old }
-        ensures { Trimmed kurtosis_stored (series_in has_map map values) base start w.window (entering work)
-            result.window result.agg_back (leaving work) }
+        ensures { Trimmed kurtosis_stored (series_in has_map map values) base start w.window work.old
+            result.window result.agg_back work.new }
     {
         let window = w.window;
         let agg_back = w.agg_back;
@@ -190,8 +189,8 @@ impl KurtosisMoment {
     ) -> KurtosisWindow
         requires { Extendable kurtosis_stored (series has_map map.now values.now) base widest end (length values.now)
             w.window w.agg_back work.old }
-        ensures { Extended kurtosis_stored (series_in has_map map values) base widest end w.window (entering work)
-            result.window result.agg_back (leaving work) }
+        ensures { Extended kurtosis_stored (series_in has_map map values) base widest end w.window work.old
+            result.window result.agg_back work.new }
     {
         let window = w.window;
         let agg_back = w.agg_back;
@@ -226,8 +225,8 @@ impl KurtosisMoment {
     ) -> KurtosisWindow
         requires { Movable kurtosis_stored (series has_map map.now values.now) start end (length values.now) widest
             w.window w.agg_back work.old }
-        ensures { Updated kurtosis_stored (series_in has_map map values) widest start end w.window (entering work)
-            result.window result.agg_back (leaving work) }
+        ensures { Updated kurtosis_stored (series_in has_map map values) widest start end w.window work.old
+            result.window result.agg_back work.new }
     {
         let base = KurtosisMoment::STATE * widest;
         let trimmed = KurtosisMoment::trim(work, base, values, has_map, map, w, start);
@@ -249,7 +248,7 @@ impl KurtosisMoment {
         requires { Movable kurtosis_stored (series has_map map.now values.now) start end (length values.now) rows.widest
             w.window w.agg_back work.old }
         ensures { Stepped kurtosis_stored (series_in has_map map values) rows.widest rows.min_periods row start end
-            w.window (entering work) result.window result.agg_back (leaving work) }
+            w.window work.old result.window result.agg_back work.new }
     {
         if row::moves(has_map, rows.min_periods, row, start, end) {
             return KurtosisMoment::update(work, rows.widest, values, has_map, map, w, start, end);
@@ -261,7 +260,7 @@ impl KurtosisMoment {
     fn get_moment(self, work: &[f64], w: KurtosisWindow) -> Figure
         requires { 5 * w.window.front ≤ length work.now }
         ensures { result ≡ or_nan w.window.nonfinite
-            (kurtosis_finalize (kurtosis_combine w.agg_back (top_of kurtosis_stored (entering work) w.window.front))
+            (kurtosis_finalize (kurtosis_combine w.agg_back (top_of kurtosis_stored work.now w.window.front))
             self.fisher self.bias) }
     {
         let agg_back = w.agg_back;
@@ -281,7 +280,7 @@ impl KurtosisMoment {
     ) -> Figure
         requires { Answerable 5 w.window (length work.now) start end }
         ensures { result ≡ answer_by kurtosis_stored (λ z. kurtosis_finalize z self.fisher self.bias) has_map min_periods
-            start end w.window w.agg_back (entering work) }
+            start end w.window w.agg_back work.now }
     {
         let valid = w.window.front + w.window.back;
         if row::is_valid(has_map, min_periods, valid, start, end) {
@@ -311,8 +310,8 @@ impl KurtosisMoment {
         requires { CanWork kurtosis_stored (series has_map map.now values.now) (length values.now) rows starts.now ends.now
             (min (length figures.old) (length present.old)) first until at opening.window opening.agg_back work.old }
         ensures { Works kurtosis_stored (λ z. kurtosis_finalize z self.fisher self.bias) (series_in has_map map values)
-            (length (entering values)) rows (entering starts) (entering ends) first until (entering work) (entering figures)
-            (entering present) result.window result.agg_back (leaving work) (leaving figures) (leaving present) }
+            (length values.now) rows starts.now ends.now first until work.old figures.old
+            present.old result.window result.agg_back work.new figures.new present.new }
     {
         let mut w = opening;
         let mut next = at;

@@ -1,6 +1,5 @@
 // The places that leave a window, tallied, and the window without them: what every moment shares of it.
 ghost use Rattle.std.specs.Prelude.{◌≡◌, ◌<◌, ◌≤◌, length};
-ghost use Rattle.trace.specs.Slices.{entering};
 ghost use Rattle.trace.specs.Trace.{valid_at};
 ghost use Rattle.window.specs.Places.{chosen_count};
 ghost use Rattle.window.specs.Readings.{places_by, nonfinite_at};
@@ -10,14 +9,14 @@ ghost use Rattle.rolling.specs.Code.Rows.{Range, LeavingRange, Below, TalliesBel
 use window::Window;
 
 // A window without the places that leave, and whether the back stack goes to the front stack first.
-#[derive(Drop)]
+#[derive(Clone, Copy)]
 pub struct Trim {
     pub window: Window,
     pub flips: bool,
 }
 
 // How many places are valid, and how many of those hold a reading that is not finite.
-#[derive(Drop)]
+#[derive(Clone, Copy)]
 pub struct Tally {
     pub valid: usize,
     pub nonfinite: usize,
@@ -25,7 +24,7 @@ pub struct Tally {
 
 fn is_nonfinite(values: &[f64], has_map: bool, map: &[u8], i: usize) -> bool
     requires { i < length values.now }
-    ensures { result ≡ nonfinite_at has_map (entering map) (entering values) i }
+    ensures { result ≡ nonfinite_at has_map map.now values.now i }
 {
     if trace::valid(has_map, map, i) {
         return !float::is_finite(values[i]);
@@ -50,7 +49,7 @@ fn tally_range(values: &[f64], has_map: bool, map: &[u8], a: usize, b: usize) ->
 
 fn count_valid(has_map: bool, map: &[u8], a: usize, b: usize) -> usize
     requires { a ≤ b }
-    ensures { result ≡ chosen_count (valid_at has_map (entering map)) a b }
+    ensures { result ≡ chosen_count (valid_at has_map map.now) a b }
 {
     let mut valid: usize = 0;
     let mut i = a;

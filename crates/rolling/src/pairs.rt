@@ -1,6 +1,5 @@
 // Pairs of readings: which enter as they are, and which of two traces' places hold one that does not.
 ghost use Rattle.std.specs.Prelude.{◌≡◌, ◌<◌};
-ghost use Rattle.trace.specs.Slices.{entering};
 ghost use Rattle.window.specs.Pairs.{finite_pair, nonfinite_pair};
 ghost use Rattle.rolling.specs.Code.Rows.{both_have};
 
@@ -25,7 +24,7 @@ pub(crate) fn is_nonfinite(
     i: usize,
 ) -> bool
     requires { i < both_have x.now y.now }
-    ensures { result ≡ nonfinite_pair x_has_map (entering x_map) (entering x) y_has_map (entering y_map) (entering y) i }
+    ensures { result ≡ nonfinite_pair x_has_map x_map.now x.now y_has_map y_map.now y.now i }
 {
     if trace::both(x_has_map, x_map, y_has_map, y_map, i) {
         return !is_finite(x[i], y[i]);

@@ -1,7 +1,6 @@
 // Correlation of two traces over moving windows: a moment of pairs, and 001's `MomentWindow` over it. The two stacks lie in the work slice,
 // states of the front stack from its beginning, pairs of the back stack from `base` on.
 ghost use Rattle.std.specs.Prelude.{◌≡◌, ◌*◌, ◌≤◌, min, ◌||◌, [], ◌∷◌, length};
-ghost use Rattle.trace.specs.Slices.{entering, leaving};
 ghost use Rattle.moment.specs.Pearson.{pearson_empty, pearson_new, pearson_combine};
 ghost use Rattle.trace.specs.Trace.{both_at};
 ghost use Rattle.window.specs.Places.{chosen_count};
@@ -23,18 +22,18 @@ use moment::{Figure, PearsonState};
 use plan::Offsets;
 use window::Window;
 
-#[derive(Drop)]
+#[derive(Clone, Copy)]
 pub struct PearsonMoment {}
 
 // A window with the state of its back part.
-#[derive(Drop)]
+#[derive(Clone, Copy)]
 pub struct PearsonWindow {
     pub window: Window,
     pub agg_back: PearsonState,
 }
 
 // The back stack grown: how many pairs stand in it, how many in the window are not finite, and its state.
-#[derive(Drop)]
+#[derive(Clone, Copy)]
 pub struct PearsonAppended {
     pub back: usize,
     pub nonfinite: usize,
@@ -65,7 +64,7 @@ impl PearsonMoment {
     // The n pairs of the back stack become the front stack, the last of them at its bottom.
     fn flip(work: &mut [f64], base: usize, n: usize)
         requires { Flippable pearson_stored base n work.old }
-        ensures { Flipped pearson_stored base n (entering work) (leaving work) }
+        ensures { Flipped pearson_stored base n work.old work.new }
     {
         let mut agg = PearsonMoment::empty();
         let mut at: usize = 0;
@@ -101,8 +100,8 @@ impl PearsonMoment {
     ) -> PearsonAppended
         requires { Appendable pearson_stored (pair_series x_has_map x_map.now x.now y_has_map y_map.now y.now)
             a b (both_have x.now y.now) n nonfinite back.old }
-        ensures { Appended pearson_stored (pair_series_in x_has_map x_map x y_has_map y_map y) (entering back) n nonfinite
-            agg_back a b (leaving back) result.back result.nonfinite result.agg_back }
+        ensures { Appended pearson_stored (pair_series_in x_has_map x_map x y_has_map y_map y) back.old n nonfinite
+            agg_back a b back.new result.back result.nonfinite result.agg_back }
     {
         let mut state = agg_back;
         let mut many = n;
@@ -137,7 +136,7 @@ impl PearsonMoment {
     // The state on the top of the front stack's n, or the empty one.
     fn last(work: &[f64], n: usize) -> PearsonState
         requires { 6 * n ≤ length work.now }
-        ensures { result ≡ top_of pearson_stored (entering work) n }
+        ensures { result ≡ top_of pearson_stored work.now n }
     {
         if n == 0 {
             return PearsonMoment::empty();
@@ -188,7 +187,7 @@ impl PearsonMoment {
         b: usize,
     ) -> usize
         requires { a ≤ b }
-        ensures { result ≡ chosen_count (both_at x_has_map (entering x_map) y_has_map (entering y_map)) a b }
+        ensures { result ≡ chosen_count (both_at x_has_map x_map.now y_has_map y_map.now) a b }
     {
         let mut valid: usize = 0;
         let mut i = a;
@@ -281,7 +280,7 @@ impl PearsonMoment {
         requires { Trimmable pearson_stored (pair_series x_has_map x_map.now x.now y_has_map y_map.now y.now)
             base start (both_have x.now y.now) w.window w.agg_back work.old }
         ensures { Trimmed pearson_stored (pair_series_in x_has_map x_map x y_has_map y_map y) base start
-            w.window (entering work) result.window result.agg_back (leaving work) }
+            w.window work.old result.window result.agg_back work.new }
     {
         let window = w.window;
         let agg_back = w.agg_back;
@@ -327,7 +326,7 @@ impl PearsonMoment {
         requires { Extendable pearson_stored (pair_series x_has_map x_map.now x.now y_has_map y_map.now y.now)
             base widest end (both_have x.now y.now) w.window w.agg_back work.old }
         ensures { Extended pearson_stored (pair_series_in x_has_map x_map x y_has_map y_map y) base widest end
-            w.window (entering work) result.window result.agg_back (leaving work) }
+            w.window work.old result.window result.agg_back work.new }
     {
         let window = w.window;
         let agg_back = w.agg_back;
@@ -369,7 +368,7 @@ impl PearsonMoment {
         requires { Movable pearson_stored (pair_series x_has_map x_map.now x.now y_has_map y_map.now y.now)
             start end (both_have x.now y.now) widest w.window w.agg_back work.old }
         ensures { Updated pearson_stored (pair_series_in x_has_map x_map x y_has_map y_map y) widest start end
-            w.window (entering work) result.window result.agg_back (leaving work) }
+            w.window work.old result.window result.agg_back work.new }
     {
         let base = PearsonMoment::STATE * widest;
         let trimmed = PearsonMoment::trim(
@@ -398,7 +397,7 @@ impl PearsonMoment {
         requires { Movable pearson_stored (pair_series x_has_map x_map.now x.now y_has_map y_map.now y.now)
             start end (both_have x.now y.now) rows.widest w.window w.agg_back work.old }
         ensures { Stepped pearson_stored (pair_series_in x_has_map x_map x y_has_map y_map y) rows.widest
-            rows.min_periods row start end w.window (entering work) result.window result.agg_back (leaving work) }
+            rows.min_periods row start end w.window work.old result.window result.agg_back work.new }
     {
         if row::moves(
             trace::either(x_has_map, y_has_map),
@@ -438,7 +437,7 @@ impl PearsonMoment {
     fn get_moment(work: &[f64], w: PearsonWindow) -> Figure
         requires { 6 * w.window.front ≤ length work.now }
         ensures { result ≡ or_nan w.window.nonfinite
-            (correlation_finalize (pearson_combine w.agg_back (top_of pearson_stored (entering work) w.window.front))) }
+            (correlation_finalize (pearson_combine w.agg_back (top_of pearson_stored work.now w.window.front))) }
     {
         let agg_back = w.agg_back;
         let state = agg_back.combine(PearsonMoment::last(work, w.window.front));
@@ -457,7 +456,7 @@ impl PearsonMoment {
     ) -> Figure
         requires { Answerable 6 w.window (length work.now) start end }
         ensures { result ≡ answer_by pearson_stored correlation_finalize (x_has_map || y_has_map) min_periods
-            start end w.window w.agg_back (entering work) }
+            start end w.window w.agg_back work.now }
     {
         let mapped = trace::either(x_has_map, y_has_map);
         let valid = w.window.front + w.window.back;
@@ -492,8 +491,8 @@ impl PearsonMoment {
             rows starts.now ends.now (min (length figures.old) (length present.old)) first until at opening.window
             opening.agg_back work.old }
         ensures { Works pearson_stored correlation_finalize (pair_series_in x_has_map x_map x y_has_map y_map y)
-            (length (entering x)) rows (entering starts) (entering ends) first until (entering work) (entering figures)
-            (entering present) result.window result.agg_back (leaving work) (leaving figures) (leaving present) }
+            (length x.now) rows starts.now ends.now first until work.old figures.old
+            present.old result.window result.agg_back work.new figures.new present.new }
     {
         let mut w = opening;
         let mut next = at;

@@ -11,7 +11,7 @@ use plan::Offsets;
 
 // The rows of a call and what they are tested for: of fixed windows by how many places they reach to the left and to the right of their
 // own, of a plan by its lists. No window is wider than `widest`.
-#[derive(Drop)]
+#[derive(Clone, Copy)]
 pub struct Rows {
     pub fixed: bool,
     pub left: usize,

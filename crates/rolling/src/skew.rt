@@ -7,7 +7,6 @@ ghost use Rattle.float.specs.Tables.{table};
 ghost use Rattle.trace.specs.Trace.{tracing};
 ghost use Rattle.moment.specs.Skew.{skew_empty, skew_combine, skew_correction, skew_finalize};
 ghost use Rattle.window.specs.Code.Stacks.{answer_by};
-ghost use Rattle.trace.specs.Slices.{entering, leaving};
 ghost use Rattle.window.specs.Readings.{series};
 ghost use Rattle.window.specs.Code.Stacks.{Flippable, Flipped, Appendable, Appended, top_of};
 ghost use Rattle.window.specs.Code.Stacks.{Trimmable, Trimmed, Extendable, Extended, Movable, Updated, Stepped};
@@ -26,20 +25,20 @@ use moment::SkewState;
 use plan::Offsets;
 use window::Window;
 
-#[derive(Drop)]
+#[derive(Clone, Copy)]
 pub struct SkewMoment {
     pub bias: bool,
 }
 
 // A window with the state of its back part.
-#[derive(Drop)]
+#[derive(Clone, Copy)]
 pub struct SkewWindow {
     pub window: Window,
     pub agg_back: SkewState,
 }
 
 // The back stack grown: how many readings stand in it, how many in the window are not finite, and its state.
-#[derive(Drop)]
+#[derive(Clone, Copy)]
 pub struct SkewAppended {
     pub back: usize,
     pub nonfinite: usize,
@@ -47,14 +46,14 @@ pub struct SkewAppended {
 }
 
 // What stands behind a block of rows: the window, and the next row's bounds.
-#[derive(Drop)]
+#[derive(Clone, Copy)]
 pub struct SkewBlock {
     pub w: SkewWindow,
     pub at: Offsets,
 }
 
 // A row whose window is done: the state to finalise, or that the row is missing.
-#[derive(Drop)]
+#[derive(Clone, Copy)]
 pub enum SkewPending {
     Missing,
     State(SkewState),
@@ -84,7 +83,7 @@ impl SkewMoment {
     // `insert_one` has nothing to clear.
     fn flip(work: &mut [f64], base: usize, n: usize)
         requires { Flippable skew_stored base n work.old }
-        ensures { Flipped skew_stored base n (entering work) (leaving work) }
+        ensures { Flipped skew_stored base n work.old work.new }
     {
         let mut agg = SkewMoment::empty();
         let mut at: usize = 0;
@@ -114,8 +113,8 @@ impl SkewMoment {
     ) -> SkewAppended
         requires appendable { Appendable skew_stored (series has_map map.now values.now) a b (length values.now) n nonfinite back.old }
         requires agg_back_value { agg_back.weight ≡ of_nat64 n }
-        ensures { Appended skew_stored (series_in has_map map values) (entering back) n nonfinite agg_back a b
-            (leaving back) result.back result.nonfinite result.agg_back }
+        ensures { Appended skew_stored (series_in has_map map values) back.old n nonfinite agg_back a b
+            back.new result.back result.nonfinite result.agg_back }
     {
         let mut state = agg_back;
         let mut at = n;
@@ -146,7 +145,7 @@ impl SkewMoment {
     // The state on the top of the front stack's n, or the empty one.
     fn last(work: &[f64], n: usize) -> SkewState
         requires { 4 * n ≤ length work.now }
-        ensures { result ≡ top_of skew_stored (entering work) n }
+        ensures { result ≡ top_of skew_stored work.now n }
     {
         if n == 0 {
             return SkewMoment::empty();
@@ -172,8 +171,8 @@ impl SkewMoment {
     ) -> SkewWindow
         requires { Trimmable skew_stored (series has_map map.now values.now) base start (length values.now)
             w.window w.agg_back work.old }
-        ensures { Trimmed skew_stored (series_in has_map map values) base start w.window (entering work)
-            result.window result.agg_back (leaving work) }
+        ensures { Trimmed skew_stored (series_in has_map map values) base start w.window work.old
+            result.window result.agg_back work.new }
     {
         let window = w.window;
         let agg_back = w.agg_back;
@@ -213,8 +212,8 @@ impl SkewMoment {
     ) -> SkewWindow
         requires { Extendable skew_stored (series has_map map.now values.now) base widest end (length values.now)
             w.window w.agg_back work.old }
-        ensures { Extended skew_stored (series_in has_map map values) base widest end w.window (entering work)
-            result.window result.agg_back (leaving work) }
+        ensures { Extended skew_stored (series_in has_map map values) base widest end w.window work.old
+            result.window result.agg_back work.new }
     {
         let window = w.window;
         let agg_back = w.agg_back;
@@ -249,8 +248,8 @@ impl SkewMoment {
     ) -> SkewWindow
         requires { Movable skew_stored (series has_map map.now values.now) start end (length values.now) widest
             w.window w.agg_back work.old }
-        ensures { Updated skew_stored (series_in has_map map values) widest start end w.window (entering work)
-            result.window result.agg_back (leaving work) }
+        ensures { Updated skew_stored (series_in has_map map values) widest start end w.window work.old
+            result.window result.agg_back work.new }
     {
         let base = SkewMoment::STATE * widest;
         let trimmed = SkewMoment::trim(work, base, values, has_map, map, w, start);
@@ -272,7 +271,7 @@ impl SkewMoment {
         requires { Movable skew_stored (series has_map map.now values.now) start end (length values.now) rows.widest
             w.window w.agg_back work.old }
         ensures { Stepped skew_stored (series_in has_map map values) rows.widest rows.min_periods row start end
-            w.window (entering work) result.window result.agg_back (leaving work) }
+            w.window work.old result.window result.agg_back work.new }
     {
         if row::moves(has_map, rows.min_periods, row, start, end) {
             return SkewMoment::update(work, rows.widest, values, has_map, map, w, start, end);
@@ -283,7 +282,7 @@ impl SkewMoment {
     // The correction for a count of readings. Rows of one count share it: a root and a division less for each.
     fn correction(self, counts: &mut [u64], corrections: &mut [f64], valid: usize) -> f64
         requires { Corrections counts.old corrections.old }
-        ensures { (self.bias ≡ false → result ≡ skew_correction (of_nat64 valid)) × Corrections (leaving counts) (leaving corrections) }
+        ensures { (self.bias ≡ false → result ≡ skew_correction (of_nat64 valid)) × Corrections counts.new corrections.new }
     {
         if self.bias {
             return 0.0;
@@ -302,7 +301,7 @@ impl SkewMoment {
     // The back state combined with the front state. The counts tell which weights are zero.
     fn total(work: &[f64], w: SkewWindow) -> SkewState
         requires { Weighed skew_states skew_weight w.window w.agg_back work.now }
-        ensures { result ≡ skew_combine w.agg_back (top_of skew_stored (entering work) w.window.front) }
+        ensures { result ≡ skew_combine w.agg_back (top_of skew_stored work.now w.window.front) }
     {
         let agg_back = w.agg_back;
         if w.window.front == 0 {
@@ -326,8 +325,8 @@ impl SkewMoment {
         k: usize,
     )
         requires { SlotFree k m2s.old m3s.old factors.old }
-        ensures { (leaving m2s ≡ slice_set (entering m2s) k (m2_of state)) × (leaving m3s ≡ slice_set (entering m3s) k (m3_of state nonfinite))
-            × (leaving factors ≡ slice_set (entering factors) k factor) }
+        ensures { (m2s.new ≡ slice_set m2s.old k (m2_of state)) × (m3s.new ≡ slice_set m3s.old k (m3_of state nonfinite))
+            × (factors.new ≡ slice_set factors.old k factor) }
     {
         let m2 = state.m2 / state.weight;
         m2s[k] = m2;
@@ -363,7 +362,7 @@ impl SkewMoment {
     ) -> SkewPending
         requires { Weighed skew_states skew_weight w.window w.agg_back work.now × (start ≤ end) }
         ensures { result ≡ pending_of self.bias has_map min_periods start end w.window
-            (skew_combine w.agg_back (top_of skew_stored (entering work) w.window.front)) }
+            (skew_combine w.agg_back (top_of skew_stored work.now w.window.front)) }
     {
         let valid = w.window.front + w.window.back;
         if row::is_valid(has_map, min_periods, valid, start, end) {
@@ -393,8 +392,8 @@ impl SkewMoment {
         requires weighed { Weighed skew_states skew_weight w.window w.agg_back work.now × (start ≤ end) }
         requires slot_free { SlotFree k m2s.old m3s.old factors.old × Corrections counts.old corrections.old }
         ensures { SlotHolds self.bias (answer_by skew_stored (λ z. skew_finalize z self.bias) has_map min_periods
-            start end w.window w.agg_back (entering work)) k result (entering m2s) (entering m3s) (entering factors)
-            (leaving m2s) (leaving m3s) (leaving factors) × Corrections (leaving counts) (leaving corrections) }
+            start end w.window w.agg_back work.now) k result m2s.old m3s.old factors.old
+            m2s.new m3s.new factors.new × Corrections counts.new corrections.new }
     {
         let SkewPending::State(state) = self.pending(work, w, has_map, min_periods, start, end)
         else {
@@ -419,8 +418,8 @@ impl SkewMoment {
     // The doubles that the slots come to, by the roots of their second moments.
     fn estimates(self, m2s: &[f64], m3s: &[f64], factors: &[f64], roots: &[f64], out: &mut [f64])
         requires { SlotsFor (length out.old) m2s.now m3s.now factors.now roots.now }
-        ensures { leaving out ≡ table (λ i. estimate self.bias (slice_index_or (entering m2s) i nan) (slice_index_or (entering m3s) i nan)
-            (slice_index_or (entering factors) i nan) (slice_index_or (entering roots) i nan)) (length (entering out)) }
+        ensures { out.new ≡ table (λ i. estimate self.bias (slice_index_or m2s.now i nan) (slice_index_or m3s.now i nan)
+            (slice_index_or factors.now i nan) (slice_index_or roots.now i nan)) (length out.old) }
     {
         let mut i: usize = 0;
         while i < out.len() {
@@ -433,8 +432,8 @@ impl SkewMoment {
     // The figures of a block's rows: the roots of all slots, then what each comes to.
     fn finish(self, m2s: &[f64], m3s: &[f64], factors: &[f64], roots: &mut [f64], out: &mut [f64])
         requires { SlotsFor (length out.old) m2s.now m3s.now factors.now roots.old }
-        ensures { leaving out ≡ table (double_at self.bias (entering m2s) (entering m3s) (entering factors))
-            (length (entering out)) }
+        ensures { out.new ≡ table (double_at self.bias m2s.now m3s.now factors.now)
+            (length out.old) }
     {
         let n = out.len();
         root::roots(&m2s[..n], &mut roots[..n]);
@@ -465,9 +464,9 @@ impl SkewMoment {
     ) -> SkewBlock
         requires { CanFill has_map map.now values.now rows starts.now ends.now (length present.old) first until at
             opening.window opening.agg_back work.old counts.old corrections.old m2s.old m3s.old factors.old }
-        ensures { BlockFilled self.bias has_map (entering map) (entering values) rows (entering starts) (entering ends)
-            first until (entering work) (entering present) result.at result.w.window result.w.agg_back (leaving work)
-            (leaving present) (leaving counts) (leaving corrections) (leaving m2s) (leaving m3s) (leaving factors) }
+        ensures { BlockFilled self.bias has_map map.now values.now rows starts.now ends.now
+            first until work.old present.old result.at result.w.window result.w.agg_back work.new
+            present.new counts.new corrections.new m2s.new m3s.new factors.new }
     {
         let mut w = opening;
         let mut next = at;

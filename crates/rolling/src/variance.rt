@@ -4,7 +4,6 @@ ghost use Rattle.std.specs.Prelude.{◌≡◌, ◌*◌, ◌≤◌, min, length};
 ghost use Rattle.float.specs.Operators.{of_nat64};
 ghost use Rattle.trace.specs.Trace.{tracing};
 ghost use Rattle.moment.specs.Var.{var_finalize};
-ghost use Rattle.trace.specs.Slices.{entering, leaving};
 ghost use Rattle.window.specs.Code.Widening.{raw_series};
 ghost use Rattle.window.specs.Code.Stacks.{answer_from, state_by};
 ghost use Rattle.window.specs.Code.Stacks.{Flippable, Flipped, Appendable, Appended, top_of};
@@ -24,20 +23,20 @@ use moment::{Figure, VarState};
 use plan::Offsets;
 use window::Window;
 
-#[derive(Drop)]
+#[derive(Clone, Copy)]
 pub struct VarianceMoment {
     pub ddof: u8,
 }
 
 // A window with the state of its back part.
-#[derive(Drop)]
+#[derive(Clone, Copy)]
 pub struct VarWindow {
     pub window: Window,
     pub agg_back: VarExtremes,
 }
 
 // The back stack grown: how many readings stand in it, how many in the window are not finite, and its state.
-#[derive(Drop)]
+#[derive(Clone, Copy)]
 pub struct VarAppended {
     pub back: usize,
     pub nonfinite: usize,
@@ -77,7 +76,7 @@ impl VarianceMoment {
     // The n readings of the back stack become the front stack, the last of them at its bottom.
     fn flip(work: &mut [f64], base: usize, n: usize)
         requires { Flippable var_stored base n work.old }
-        ensures { Flipped var_stored base n (entering work) (leaving work) }
+        ensures { Flipped var_stored base n work.old work.new }
     {
         let mut agg = VarianceMoment::empty();
         let mut at: usize = 0;
@@ -108,8 +107,8 @@ impl VarianceMoment {
     ) -> VarAppended
         requires appendable { Appendable var_stored (raw_series has_map map.now values.now) a b (length values.now) n nonfinite back.old }
         requires agg_back_value { var_weight agg_back ≡ of_nat64 n }
-        ensures { Appended var_stored (raw_series_in has_map map values) (entering back) n nonfinite agg_back a b
-            (leaving back) result.back result.nonfinite result.agg_back }
+        ensures { Appended var_stored (raw_series_in has_map map values) back.old n nonfinite agg_back a b
+            back.new result.back result.nonfinite result.agg_back }
     {
         let mut state = agg_back;
         let mut at = n;
@@ -135,7 +134,7 @@ impl VarianceMoment {
     // The state on the top of the front stack's n, or the empty one.
     fn last(work: &[f64], n: usize) -> VarExtremes
         requires { 5 * n ≤ length work.now }
-        ensures { result ≡ top_of var_stored (entering work) n }
+        ensures { result ≡ top_of var_stored work.now n }
     {
         if n == 0 {
             return VarianceMoment::empty();
@@ -164,8 +163,8 @@ impl VarianceMoment {
     ) -> VarWindow
         requires { Trimmable var_stored (raw_series has_map map.now values.now) base start (length values.now)
             w.window w.agg_back work.old }
-        ensures { Trimmed var_stored (raw_series_in has_map map values) base start w.window (entering work)
-            result.window result.agg_back (leaving work) }
+        ensures { Trimmed var_stored (raw_series_in has_map map values) base start w.window work.old
+            result.window result.agg_back work.new }
     {
         let window = w.window;
         let agg_back = w.agg_back;
@@ -205,8 +204,8 @@ impl VarianceMoment {
     ) -> VarWindow
         requires { Extendable var_stored (raw_series has_map map.now values.now) base widest end (length values.now)
             w.window w.agg_back work.old }
-        ensures { Extended var_stored (raw_series_in has_map map values) base widest end w.window (entering work)
-            result.window result.agg_back (leaving work) }
+        ensures { Extended var_stored (raw_series_in has_map map values) base widest end w.window work.old
+            result.window result.agg_back work.new }
     {
         let window = w.window;
         let agg_back = w.agg_back;
@@ -241,8 +240,8 @@ impl VarianceMoment {
     ) -> VarWindow
         requires { Movable var_stored (raw_series has_map map.now values.now) start end (length values.now) widest
             w.window w.agg_back work.old }
-        ensures { Updated var_stored (raw_series_in has_map map values) widest start end w.window (entering work)
-            result.window result.agg_back (leaving work) }
+        ensures { Updated var_stored (raw_series_in has_map map values) widest start end w.window work.old
+            result.window result.agg_back work.new }
     {
         let base = VarianceMoment::STATE * widest;
         let trimmed = VarianceMoment::trim(work, base, values, has_map, map, w, start);
@@ -264,7 +263,7 @@ impl VarianceMoment {
         requires { Movable var_stored (raw_series has_map map.now values.now) start end (length values.now) rows.widest
             w.window w.agg_back work.old }
         ensures { Stepped var_stored (raw_series_in has_map map values) rows.widest rows.min_periods row start end
-            w.window (entering work) result.window result.agg_back (leaving work) }
+            w.window work.old result.window result.agg_back work.new }
     {
         if row::moves(has_map, rows.min_periods, row, start, end) {
             return VarianceMoment::update(work, rows.widest, values, has_map, map, w, start, end);
@@ -275,7 +274,7 @@ impl VarianceMoment {
     // The back state combined with the front state. The count tells whether the front state's weight is zero.
     fn total(work: &[f64], w: VarWindow) -> VarExtremes
         requires { Weighed var_states var_weight w.window w.agg_back work.now }
-        ensures { result ≡ state_by var_stored w.window w.agg_back (entering work) }
+        ensures { result ≡ state_by var_stored w.window w.agg_back work.now }
     {
         let agg_back = w.agg_back;
         if w.window.front == 0 {
@@ -331,8 +330,8 @@ impl VarianceMoment {
         requires { CanWork var_stored (raw_series has_map map.now values.now) (length values.now) rows starts.now ends.now
             (shortest_three figures.old present.old lowest.old lowest_present.old highest.old highest_present.old)
             first until at opening.window opening.agg_back work.old }
-        ensures { WorksLent var_stored (raw_series_in has_map map values) (length (entering values)) rows (entering starts)
-            (entering ends) (yields (driven_query rows values starts ends (Variance self.ddof)) (tracing values has_map map))
+        ensures { WorksLent var_stored (raw_series_in has_map map values) (length values.now) rows starts.now
+            ends.now (yields (driven_query rows values starts ends (Variance self.ddof)) (tracing values has_map map))
             first until (lending_three work figures present lowest lowest_present highest highest_present) result.window
             result.agg_back }
     {

@@ -2,11 +2,15 @@
 // stored in data/, and says for each kind how many agree.
 //
 // The lists were made by `words 1 crates/vectors/data` of oracle/ (seed 1), whose FORMAT.md, 'Word
-// lists', has the form; that command makes them again. What a call of C's reads is not known to a
+// lists', has the form; that command makes them again. What a file gives is not known to a
 // contract, so what this program prints is tested, not proved.
-ghost use Rattle.std.specs.Prelude.{◌≡◌, length};
+#![tactic(auto)]
 
-use libc::STDOUT_FILENO;
+ghost use Rattle.std.specs.Prelude.{◌≡◌, ◌≤◌, length, IfOk};
+
+use std::io::Read;
+use std::rt::Files;
+use std::{fs, io};
 
 mod arrays;
 mod fixed;
@@ -57,14 +61,10 @@ fn agreed(kind: u8, list: &[u8], records: u64) -> u64 {
     agreed
 }
 
-fn report(kind: u8, name: &[u8], list: &[u8]) {
+fn report(rt: &impl Print, kind: u8, name: &str, list: &[u8]) -> io::Result<()> {
     let records = words::word(list, 0);
-    io::write_all(STDOUT_FILENO, name);
-    io::write_all(STDOUT_FILENO, b" ");
-    io::print_decimal(STDOUT_FILENO, agreed(kind, list, records));
-    io::write_all(STDOUT_FILENO, b" of ");
-    io::print_decimal(STDOUT_FILENO, records);
-    io::write_all(STDOUT_FILENO, b" agree\n");
+    let agree = agreed(kind, list, records);
+    println!(rt; "{name} {agree} of {records} agree")
 }
 
 // Room for the longest list. The `ensures` gives only the length, which lending it as a slice needs.
@@ -74,30 +74,49 @@ fn room() -> [u8; 1048576]
     [0; 1048576]
 }
 
-fn replay(kind: u8, name: &[u8]) {
-    let fd = os::open_read(name);
-    if fd < 0 {
-        os::fail(name);
-        return;
+// Reads until the room is full or the file ends, and says how many bytes it put at the room's start.
+fn read_full(file: &mut impl Read, list: &mut [u8]) -> io::Result<usize>
+    ensures { IfOk result (λ n. n ≤ length list.new) }
+{
+    let mut done = 0;
+    while done < list.len() {
+        let n = file.read(&mut list[done..])?;
+        if n == 0 {
+            break;
+        }
+        done += n;
     }
-    let mut list = room();
-    let n = io::read_full(fd, &mut list);
-    libc::close(fd);
-    report(kind, name, &list[..n]);
+    Ok(done)
 }
 
-fn main() {
-    replay(0, b"root");
-    replay(1, b"new");
-    replay(2, b"insert");
-    replay(3, b"combine");
-    replay(4, b"finalize");
-    replay(5, b"whole");
-    replay(6, b"range");
-    replay(7, b"plan");
-    replay(8, b"fixed");
-    replay(9, b"weighted");
-    replay(10, b"bounds");
-    replay(11, b"paired");
-    replay(12, b"paired_fixed");
+fn read_list(rt: &impl Files, name: &str, list: &mut [u8]) -> io::Result<usize>
+    ensures { IfOk result (λ n. n ≤ length list.new) }
+{
+    let mut file = fs::open(rt, name)?;
+    read_full(&mut file, list)
+}
+
+// A list that cannot be read is named with the reason, and the next one's turn comes.
+fn replay(rt: &(impl Files + Print + Eprint), kind: u8, name: &str) -> io::Result<()> {
+    let mut list = room();
+    match read_list(rt, name, &mut list) {
+        Ok(n) => report(rt, kind, name, &list[..n]),
+        Err(error) => eprintln!(rt; "{name}: {error}"),
+    }
+}
+
+fn main(rt: HostRuntime) -> io::Result<()> {
+    replay(&rt, 0, "root")?;
+    replay(&rt, 1, "new")?;
+    replay(&rt, 2, "insert")?;
+    replay(&rt, 3, "combine")?;
+    replay(&rt, 4, "finalize")?;
+    replay(&rt, 5, "whole")?;
+    replay(&rt, 6, "range")?;
+    replay(&rt, 7, "plan")?;
+    replay(&rt, 8, "fixed")?;
+    replay(&rt, 9, "weighted")?;
+    replay(&rt, 10, "bounds")?;
+    replay(&rt, 11, "paired")?;
+    replay(&rt, 12, "paired_fixed")
 }

@@ -6,7 +6,7 @@ use Rattle.std.specs.Float.{nan}
 use Rattle.std.specs.Float.Ieee.{eq}
 use Rattle.float.specs.Operators.{◌⊕◌, ◌⊖◌, ◌⊗◌, ◌⊘◌, zero64}
 use Rattle.float.specs.Tables.{table}
-use Rattle.trace.specs.Slices.{Slice, entering, leaving}
+use Rattle.trace.specs.Slices.{Slice, MutSlice, entering, entering_mut, leaving}
 use Rattle.trace.specs.Trace.{Trace}
 use Rattle.trace.specs.Refusals.{refusal, ◌or_else◌, trace_refusal}
 use Rattle.moment.specs.Sums.{sum_of, itself}
@@ -84,8 +84,8 @@ pub record CalledWeights (center : Bool) (window_size min_periods : ℕ) (weight
 
 -- ---- the same, of a call's parameters
 -- what is lent, before and after
-abbrev pub lending_column : Slice Float → Slice ℕ → Column × Column
-lending_column figures present = (column (entering figures) (entering present), column (leaving figures) (leaving present))
+abbrev pub lending_column : MutSlice Float → MutSlice ℕ → Column × Column
+lending_column figures present = (column (entering_mut figures) (entering_mut present), column (leaving figures) (leaving present))
 
 -- a weighted call
 abbrev pub CallsWeights : Bool → ℕ → ℕ → Slice Float → Trace → Column × Column → ℕ → Type 0

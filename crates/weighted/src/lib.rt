@@ -1,5 +1,7 @@
 // Weighted rolling variance over fixed windows: 004's `rolling_var` with weights, by 002's `rolling_apply_weights` and
 // `compute_var_weights`. The public function takes any lists; what is below it is kept inside the crate.
+#![tactic(auto)]
+
 ghost use Rattle.std.specs.Prelude.{◌≡◌};
 ghost use Rattle.trace.specs.Trace.{tracing};
 ghost use Rattle.weighted.specs.Weights.{weights_refusal, CallsWeights, lending_column};

@@ -3,7 +3,6 @@
 // row.
 ghost use Rattle.std.specs.Prelude.{◌≡◌, ◌≤◌, length};
 ghost use Rattle.weighted.specs.Weights.{variance_of};
-ghost use Rattle.trace.specs.Slices.{entering, leaving};
 ghost use Rattle.moment.specs.Figure.{double_of};
 ghost use Rattle.window.specs.Code.Filling.{Upto};
 ghost use Rattle.weighted.specs.Code.Rows.{validity_at, answer_of, Finishable, Finishes, Workable, Works};
@@ -28,7 +27,7 @@ fn variance(wssq: f64, wsum: f64, wtot: f64) -> f64
 // Which rows have a window that is no shorter than the minimum, as their bytes; named as 006's. A row's window is held and stepped on.
 fn create_validity(n: usize, left: usize, right: usize, min_periods: usize, present: &mut [u8])
     requires { n ≤ length present.old }
-    ensures { Upto (validity_at n left right min_periods) (entering present) (leaving present) n }
+    ensures { Upto (validity_at n left right min_periods) present.old present.new n }
 {
     let mut at = Offsets {
         start: 0,

@@ -1,7 +1,6 @@
 // The three sums of 002's `compute_var_weights`, for a block of rows at once. Each weight is divided once for the block and then added to
 // the sums of all its rows: a row meets the weights in their order, as in 002's fold over its own window.
 ghost use Rattle.std.specs.Prelude.{◌+◌, ◌≤◌, length};
-ghost use Rattle.trace.specs.Slices.{entering};
 ghost use Rattle.weighted.specs.Code.Sums.{Beside, Adds, FirstRow, LastRow, SumsUpTo, Weighable, Weighs};
 
 // A weight's terms in the sums of rows, whose readings at the weight's place are `values`.
@@ -95,7 +94,7 @@ pub(crate) fn of_block(
     wtot: &mut [f64],
 )
     requires { SumsUpTo values.now weights.now total left first until 0 wssq.old wsum.old wtot.old }
-    ensures { Weighs values weights total left first until (length (entering weights)) wssq wsum wtot }
+    ensures { Weighs values weights total left first until (length weights.now) wssq wsum wtot }
 {
     let mut j = 0;
     while j < weights.len() {

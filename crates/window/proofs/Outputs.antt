@@ -176,7 +176,7 @@ all_there k a (c₀ ∷ cs₀) (c ∷ cs) v h =
     let d = v.0.doubles in
     let b = v.0.bytes in
     let o = shortest_first (min (min a (length c₀.doubles)) (length c₀.bytes)) (answer_lengths cs₀) in
-    (record { in_figures = omega arith; in_present = omega arith }, all_there k _ cs₀ cs v.1 h)
+    (record { in_figures = omega arith; in_present = omega arith }, all_there k (min (min a (length c₀.doubles)) (length c₀.bytes)) cs₀ cs v.1 h)
 
 pub columns_there : (k : ℕ) (cs₀ cs : List Column) → AllSameLong cs₀ cs → k < shortest_of (answer_lengths cs₀) → AllThere k cs
 columns_there k [] [] v h = tt

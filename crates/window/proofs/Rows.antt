@@ -175,7 +175,7 @@ module _ {C A : Type 0} (M : Stored C A) (t : Series A) (min_periods n widest : 
     unfolding account_at answer_at
     row-answer final {w'} {agg'} {work'} {f} y held g =
         let u = row-stepped w' y in
-        let a : account w' ≡ account_at t.places.valid t.places.mapped min_periods p (suc k) = as-listed w' y ∙ rw row.at in
+        let a : account w' ≡ account_at t.places.valid t.places.mapped min_periods p (suc k) = as-listed w' y ∙ ap (λ (x : Account). stepped t.places.valid t.places.mapped min_periods k (row_start p k) (row_end p k) x) row.at in
         let m : t.places.mapped ≡ true → (w'.start ≡ s) × (w'.end ≡ e) = λ z. ((u.mapped z).0 ∙ sym s-is, (u.mapped z).1 ∙ sym e-is) in
         g ∙ answer-is M final t (M.in_front.width * widest) w' agg' work' held min_periods s e m
         ∙ rw (s-is, e-is) (ap (answer_of M.moment final t min_periods (row_start p k) (row_end p k)) a)
@@ -184,7 +184,7 @@ module _ {C A : Type 0} (M : Stored C A) (t : Series A) (min_periods n widest : 
     unfolding account_at
     stand-next {w'} {agg'} {work'} y held =
         let u = row-stepped w' y in
-        let a : account w' ≡ account_at t.places.valid t.places.mapped min_periods p (suc k) = as-listed w' y ∙ rw row.at in
+        let a : account w' ≡ account_at t.places.valid t.places.mapped min_periods p (suc k) = as-listed w' y ∙ ap (λ (x : Account). stepped t.places.valid t.places.mapped min_periods k (row_start p k) (row_end p k) x) row.at in
         record {
           upto = omega arith;
           held = held;

@@ -1,5 +1,7 @@
 // Windows that move over a series: the theory of two stacks in a work slice, over any moment and any kind of entry (specs/ and
 // proofs/), and the leaves that every moment shares. Every function is total, so that the crates above share them.
+#![tactic(auto)]
+
 ghost use Rattle.std.specs.Prelude.{◌≡◌};
 ghost use Rattle.window.specs.Window.{or_nan};
 ghost use Rattle.window.specs.Code.Stacks.{empty_at, grown};
@@ -7,7 +9,7 @@ ghost use Rattle.window.specs.Code.Stacks.{empty_at, grown};
 use moment::Figure;
 
 // The split account (start, end, split), with how many entries stand in each stack and how many in the window are not finite.
-#[derive(Drop)]
+#[derive(Clone, Copy)]
 pub struct Window {
     pub start: usize,
     pub end: usize,

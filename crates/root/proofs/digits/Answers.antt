@@ -1,8 +1,9 @@
 -- `root::digits` meets its contract: after i turns `root` and `remainder` are the integer root of the first 2 * i digits
 -- of a * 2 ^ 42 and what is left of them, and at the end the remainder tells which way to round. Assumes nothing.
-use Rattle.std.proofs.Common.{◌≡◌, ℕ, ◌+◌, ◌-◌, ◌*◌, ◌/◌, ◌%◌, ◌^◌, ◌<◌, ◌≤◌, sym, ap, ◌∙◌, ⊎_elim, pow-suc, add-one, arith, pow_mono}
+use Rattle.std.proofs.Common.{◌≡◌, ℕ, ◌+◌, ◌-◌, ◌*◌, ◌/◌, ◌%◌, ◌^◌, ◌<◌, ◌≤◌, sym, ap, ◌∙◌, pow-suc, add-one, arith, pow_mono}
 use Rattle.root.proofs.IntegerRoot.{rounded_down, rounded_up}
 use Rattle.root.proofs.digits.Goals as goal
+use Rattle.root.proofs.digits.Goals.{then-trial-next, else-trial-next}
 use Rattle.root.proofs.digits.Invariants.{State}
 
 next-pow : (n i : ℕ) → n ^ (i + 1) ≡ n * n ^ i
@@ -40,11 +41,6 @@ module _ (a rest root remainder i : ℕ) (s : State a rest root remainder i) (h 
       let p = next-pow 2 i in
       step (root * 2 + 1) (remainder * 4 + rest / 2 ^ 62 - (root * 4 + 1)) (omega arith) (omega arith) (omega arith)
 
-turn : (c : goal.In-loop-i) → c.loop-i.root < 2 ^ 52
-turn c =
-    let l = c.loop-i in
-    root-lt c.args.a l.rest l.root l.remainder l.i l.invariant c.loop-i-test.true
-
 -- the last digit is found
 at-end : (a rest root remainder i : ℕ) → State a rest root remainder i → 53 ≤ i
     → (a * 2 ^ 42 ≡ root * root + remainder) × (root < 2 ^ 53)
@@ -54,54 +50,47 @@ at-end a rest root remainder i s h =
     let z : root < 2 ^ 53 = rw e at s.small in
     omega arith
 
-ended : (c : goal.After-loop-i)
-    → (c.args.a * 2 ^ 42 ≡ c.loop-i.root * c.loop-i.root + c.loop-i.remainder)
-    × (c.loop-i.root < 2 ^ 53)
-ended c =
-    let l = c.loop-i in
-    at-end c.args.a l.rest l.root l.remainder l.i l.invariant c.loop-i-test.false
-
 pub overflow_mul-next : goal.overflow_mul-next
-overflow_mul-next c = omega (arith, turn c)
+overflow_mul-next c = omega (arith, root-lt c.args.a c.loop-i.rest c.loop-i.root c.loop-i.remainder c.loop-i.i c.loop-i.invariant c.loop-i-test.true)
 
 pub overflow_add-next : goal.overflow_add-next
-overflow_add-next c = omega (arith, turn c)
+overflow_add-next c = omega (arith, root-lt c.args.a c.loop-i.rest c.loop-i.root c.loop-i.remainder c.loop-i.i c.loop-i.invariant c.loop-i-test.true)
 
 pub overflow_mul-trial : goal.overflow_mul-trial
-overflow_mul-trial c = omega (arith, turn c)
+overflow_mul-trial c = omega (arith, root-lt c.args.a c.loop-i.rest c.loop-i.root c.loop-i.remainder c.loop-i.i c.loop-i.invariant c.loop-i-test.true)
 
 pub overflow_add-trial : goal.overflow_add-trial
-overflow_add-trial c = omega (arith, turn c)
+overflow_add-trial c = omega (arith, root-lt c.args.a c.loop-i.rest c.loop-i.root c.loop-i.remainder c.loop-i.i c.loop-i.invariant c.loop-i-test.true)
 
 pub overflow_mul-root : goal.overflow_mul-root
-overflow_mul-root c = omega (arith, turn c)
+overflow_mul-root c = omega (arith, root-lt c.args.a c.loop-i.rest c.loop-i.root c.loop-i.remainder c.loop-i.i c.loop-i.invariant c.loop-i-test.true)
 
 pub overflow_add-root : goal.overflow_add-root
-overflow_add-root c = omega (arith, turn (goal.at.overflow_add-root c).In-loop-i)
+overflow_add-root c = omega (arith, root-lt c.args.a c.loop-i.rest c.loop-i.root c.loop-i.remainder c.loop-i.i c.loop-i.invariant c.loop-i-test.true)
 
 pub loop-i-preserved : goal.loop-i-preserved
 loop-i-preserved c =
     let a = c.args.a in
     let l = c.loop-i in
     let h = c.loop-i-test.true in
-    ⊎_elim
-    (λ w. rw (w.1, w.2) (one-digit a l.rest l.root l.remainder l.i l.invariant h w.0.true))
-    (λ w. rw (w.1, w.2) (zero-digit a l.rest l.root l.remainder l.i l.invariant h w.0.false))
-    c.if-trial-next.branch
+    elim c.if-trial-next.branch [
+      | then-trial-next w ↦ rw (w.root-is, w.remainder-is) (one-digit a l.rest l.root l.remainder l.i l.invariant h w.if-trial-next.true)
+      | else-trial-next w ↦ rw (w.root-is, w.remainder-is) (zero-digit a l.rest l.root l.remainder l.i l.invariant h w.if-trial-next.false)
+    ]
 
 pub overflow_add-result : goal.overflow_add-result
-overflow_add-result c = omega (arith, ended (goal.at.overflow_add-result c).After-loop-i)
+overflow_add-result c = omega (arith, at-end c.args.a c.loop-i.rest c.loop-i.root c.loop-i.remainder c.loop-i.i c.loop-i.invariant c.loop-i-test.false)
 
 pub returns-then-remainder-root : goal.returns-then-remainder-root
 returns-then-remainder-root c =
     let l = c.loop-i in
     let n = c.args.a * 2 ^ 42 in
     let b : n < 2 ^ 106 = omega arith in
-    sym (rounded_up n l.root l.remainder b (ended (goal.at.returns-then-remainder-root c).After-loop-i).0 c.if-remainder-root.true l.invariant.short)
+    sym (rounded_up n l.root l.remainder b (at-end c.args.a c.loop-i.rest c.loop-i.root c.loop-i.remainder c.loop-i.i c.loop-i.invariant c.loop-i-test.false).0 c.if-remainder-root.true l.invariant.short)
 
 pub returns-else-remainder-root : goal.returns-else-remainder-root
 returns-else-remainder-root c =
     let l = c.loop-i in
     let n = c.args.a * 2 ^ 42 in
     let b : n < 2 ^ 106 = omega arith in
-    sym (rounded_down n l.root l.remainder b (ended (goal.at.returns-else-remainder-root c).After-loop-i).0 c.if-remainder-root.false)
+    sym (rounded_down n l.root l.remainder b (at-end c.args.a c.loop-i.rest c.loop-i.root c.loop-i.remainder c.loop-i.i c.loop-i.invariant c.loop-i-test.false).0 c.if-remainder-root.false)

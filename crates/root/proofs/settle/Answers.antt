@@ -47,9 +47,9 @@ module _ (n r rest : ℕ) (few : n < 2 ^ 106) (e : n + r ≡ r * r + rest + 1) w
 
 -- what is left is exact where no difference is too large
 left : (c : goal.After-wrapping_sub_u64-rest) → let s = c in
-    → s.args.x * 2 ^ 52 + s.args.r ≡ s.args.r * s.args.r + rest + 1
     let rest = c.wrapping_sub_u64-rest.result in
     c.wrapping_sub_u64-upper.result < 2 ^ 29 → c.wrapping_sub_u64-lower.result < 2 ^ 30 → rest < 2 ^ 57
+    → s.args.x * 2 ^ 52 + s.args.r ≡ s.args.r * s.args.r + rest + 1
 left c h k l =
     let s = c in
     let r = s.args.r in
@@ -58,9 +58,9 @@ left c h k l =
     let lower = c.wrapping_sub_u64-lower in
     let rest = c.wrapping_sub_u64-rest in
     exactly s.args.x r (r / 0x4000000) (r % 0x4000000) upper.result lower.result rest.result (omega arith)
-    (unwrapped upper.result _ _ (omega arith) (omega (arith, p)) upper.ensures)
-    (omega (arith, unwrapped lower.result _ _ (omega arith) (omega (arith, p)) lower.ensures))
-    (omega (arith, unwrapped rest.result _ _ (omega arith) (omega (arith, p)) rest.ensures))
+    (unwrapped upper.result _ _ (omega arith) (omega (arith, p)) upper.ensures.value)
+    (omega (arith, unwrapped lower.result _ _ (omega arith) (omega (arith, p)) lower.ensures.value))
+    (omega (arith, unwrapped rest.result _ _ (omega arith) (omega (arith, p)) rest.ensures.value))
 
 pub overflow_mul-high : goal.overflow_mul-high
 overflow_mul-high c = omega (arith, parts c.args.r c.requires.1)

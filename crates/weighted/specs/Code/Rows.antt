@@ -1,7 +1,7 @@
 -- The answers of rows, of their sums, and the lists that a block of rows and all rows of a call fill. Assumes nothing.
 use Rattle.std.specs.Prelude.{ℕ, ◌+◌, ◌-◌, ◌≤◌, min, ◌≡◌, Bool, cond, List, eqb, ltb, length, get_or, Float}
 use Rattle.float.specs.Tables.{table}
-use Rattle.trace.specs.Slices.{Slice, entering, leaving}
+use Rattle.trace.specs.Slices.{Slice, MutSlice, entering, entering_mut, leaving}
 use Rattle.moment.specs.Figure.{double_of}
 use Rattle.moment.specs.declared.Figure.{Figure}
 use Rattle.moment.specs.declared.Figure.TheVariants.{Missing, Present}
@@ -42,10 +42,10 @@ pub record Finishable (wssq wsum wtot : List Float) (present : List ℕ) (rows :
 abbrev pub double_at : List ℕ → (ℕ → Float) → ℕ → Float
 double_at present variance r = double_of (answer_of (get_or present r 0) (variance r))
 
-abbrev pub Finishes : Slice Float → Slice Float → Slice Float → Slice ℕ → Slice Float → Type 0
+abbrev pub Finishes : Slice Float → Slice Float → Slice Float → Slice ℕ → MutSlice Float → Type 0
 Finishes wssq wsum wtot present figures =
     leaving figures ≡ table (double_at (entering present) (λ r. variance_of (sums_at (entering wssq) (entering wsum) (entering wtot) r)))
-    (length (entering figures))
+    (length (entering_mut figures))
 
 -- ---- the same rows, of the readings
 pub record Workable (n weights left first until : ℕ) (present : List ℕ) (figures : List Float) : Type 0 where
@@ -53,7 +53,7 @@ pub record Workable (n weights left first until : ℕ) (present : List ℕ) (fig
   pub present_long : length present ≡ until - first
   pub figures_long : length figures ≡ until - first
 
-abbrev pub Works : Slice Float → ℕ → Slice Float → Float → ℕ → ℕ → Slice ℕ → Slice Float → Type 0
+abbrev pub Works : Slice Float → ℕ → Slice Float → Float → ℕ → ℕ → Slice ℕ → MutSlice Float → Type 0
 Works values left weights total first until present figures =
     leaving figures ≡ table (double_at (entering present)
     (λ r. variance_by (entering values) (entering weights) total left (length (entering weights) - left) (first + r))) (until - first)
@@ -69,7 +69,7 @@ pub record AcceptedWeights (n : ℕ) (weights : List Float) (total : Float) (fig
 pub record WrittenWeights (center : Bool) (min_periods : ℕ) (weights values : List Float) (c₀ c₁ : Column) : Type 0 where
   pub column-is : c₁ ≡ column_after 0 (weighted_at center (length weights) min_periods weights values) (length values) c₀
 
-abbrev pub WritesWeights : Slice Float → Bool → ℕ → Slice Float → Slice Float → Slice ℕ → Type 0
+abbrev pub WritesWeights : Slice Float → Bool → ℕ → Slice Float → MutSlice Float → MutSlice ℕ → Type 0
 WritesWeights values center min_periods weights figures present =
     let c = lending_column figures present in
     WrittenWeights center min_periods (entering weights) (entering values) c.0 c.1

@@ -6,7 +6,7 @@ use mathlib.Core.List.{List, foldl}
 use Rattle.std.specs.Float.{nan}
 use Rattle.float.specs.Operators.{◌⊕◌, ◌⊗◌, ◌⊘◌}
 use Rattle.float.specs.Tables.{table}
-use Rattle.trace.specs.Slices.{Slice, entering, leaving}
+use Rattle.trace.specs.Slices.{Slice, MutSlice, entering, entering_mut, leaving}
 use Rattle.window.specs.Readings.{reading_of}
 use Rattle.weighted.specs.Weights.{Sums, no_sums, plus}
 
@@ -27,9 +27,9 @@ pub record Added (w : Float) (values wssq₀ wsum₀ wtot₀ wssq wsum wtot : Li
   pub wsum_is : wsum ≡ gained (λ v. v ⊗ w) values wsum₀
   pub wtot_is : wtot ≡ gained (λ v. w) values wtot₀
 
-abbrev pub Adds : Float → Slice Float → Slice Float → Slice Float → Slice Float → Type 0
+abbrev pub Adds : Float → Slice Float → MutSlice Float → MutSlice Float → MutSlice Float → Type 0
 Adds w values wssq wsum wtot =
-    Added w (entering values) (entering wssq) (entering wsum) (entering wtot) (leaving wssq) (leaving wsum) (leaving wtot)
+    Added w (entering values) (entering_mut wssq) (entering_mut wsum) (entering_mut wtot) (leaving wssq) (leaving wsum) (leaving wtot)
 
 -- ---- the rows of a block
 -- the sums of the first c places of row k
@@ -82,6 +82,6 @@ pub record Weighable (values weights : List Float) (total : Float) (left first u
   pub sums : SumsUpTo values weights total left first until j wssq wsum wtot
 
 -- what a call leaves that has worked the first j weights
-abbrev pub Weighs : Slice Float → Slice Float → Float → ℕ → ℕ → ℕ → ℕ → Slice Float → Slice Float → Slice Float → Type 0
+abbrev pub Weighs : Slice Float → Slice Float → Float → ℕ → ℕ → ℕ → ℕ → MutSlice Float → MutSlice Float → MutSlice Float → Type 0
 Weighs values weights total left first until j wssq wsum wtot =
     SumsUpTo (entering values) (entering weights) total left first until j (leaving wssq) (leaving wsum) (leaving wtot)

@@ -1,7 +1,7 @@
 -- A list that is filled row by row, as the loops over rows keep it, and the lists of a call's figures, each so. Assumes nothing.
 use Rattle.std.specs.Prelude.{ℕ, ◌≤◌, ◌<◌, ◌≡◌, List, [], ◌∷◌, ◌++◌, length, drop, set, Float}
 use Rattle.float.specs.Tables.{table}
-use Rattle.trace.specs.Slices.{Slice, entering, leaving}
+use Rattle.trace.specs.Slices.{MutSlice, entering_mut, leaving}
 use Rattle.moment.specs.Figure.{double_of, byte_of}
 use Rattle.moment.specs.declared.Figure.{Figure}
 use Rattle.window.specs.Outputs.{Column}
@@ -25,8 +25,8 @@ pub record RowSet (row : ℕ) (f : Figure) (figures₀ figures : List Float) (pr
   pub figures_are : figures ≡ set figures₀ row (double_of f)
   pub present_are : present ≡ set present₀ row (byte_of f)
 
-abbrev pub SetsRow : ℕ → Figure → Slice Float → Slice ℕ → Type 0
-SetsRow row f figures present = RowSet row f (entering figures) (leaving figures) (entering present) (leaving present)
+abbrev pub SetsRow : ℕ → Figure → MutSlice Float → MutSlice ℕ → Type 0
+SetsRow row f figures present = RowSet row f (entering_mut figures) (leaving figures) (entering_mut present) (leaving present)
 
 -- the same of a figure's two lists
 pub record ColumnFills (f : ℕ → Figure) (first until : ℕ) (c₀ c : Column) : Type 0 where

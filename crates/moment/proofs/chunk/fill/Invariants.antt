@@ -1,0 +1,12 @@
+-- Filled place by place (`Filling`). Assumes nothing.
+use Rattle.std.proofs.Common.{◌-◌, length, arith, rules}
+use lib.Ieee.{nan}
+use Rattle.trace.specs.Trace.{valid_at}
+use Rattle.moment.proofs.Filling.{Filling, filling_start, filling_step, filled-full, filled-end, bit_le}
+use Rattle.moment.proofs.chunk.fill.Given as goal
+
+abbrev pub invariant-loop-at : goal.invariant-loop-at
+invariant-loop-at l = Filling (valid_at l.has_map l.map) l.values l.place l.chunk l.at l.count
+
+abbrev pub decreases-loop-at : goal.decreases-loop-at
+decreases-loop-at l = length l.values - l.at

@@ -1,0 +1,16 @@
+-- A sum over the pairs. Assumes nothing.
+use Rattle.std.proofs.Common.{◌-◌, length, refl, arith}
+use mathlib.Core.List.{zip}
+use Rattle.float.specs.Operators.{zero64}
+use Rattle.moment.specs.Sums.{deviation_product}
+use Rattle.moment.proofs.Pairs.{pair_step, pair_end}
+use Rattle.moment.proofs.Folds.{Summed}
+use Rattle.moment.proofs.cov_state.CovState.about.Goals as goal
+
+pub loop-i-preserved : goal.loop-i-preserved
+loop-i-preserved c = let t = c in let e = t.requires in let h = t.loop-i-test.true in let inv = t.loop-i.invariant in
+    pair_step _ zero64 _ _ _ _ e h inv
+
+pub returns : goal.returns
+returns c = let e = c.requires in let h = c.loop-i-test.false in let inv = c.loop-i.invariant in
+    rw (pair_end _ zero64 _ _ _ _ e h inv)

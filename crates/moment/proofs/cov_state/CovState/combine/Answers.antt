@@ -1,0 +1,16 @@
+-- By the tests of the weights. Assumes nothing.
+use Rattle.std.proofs.Common.{rules}
+use Rattle.moment.specs.Cov.{cov_combine}
+use Rattle.moment.proofs.cov_state.CovState.combine.Goals as goal
+
+pub returns-then-other : goal.returns-then-other
+unfolding cov_combine
+returns-then-other c = rw c.if-other.true
+
+pub returns-then-self : goal.returns-then-self
+unfolding cov_combine
+returns-then-self c = rw (c.if-other.false, c.if-self.true)
+
+pub returns : goal.returns
+unfolding cov_combine
+returns c = rw (c.if-other.false, c.if-self.false) c.merged.ensures

@@ -1,0 +1,15 @@
+-- A sum over the valid ones for each moment. Assumes nothing.
+use Rattle.std.proofs.Common.{◌-◌, length, ⊎_elim, arith, rules}
+use Rattle.float.specs.Operators.{zero64}
+use Rattle.trace.specs.Trace.{valid_at}
+use Rattle.moment.specs.Sums.{square, cube, fourth}
+use Rattle.moment.proofs.Folds.{ValidSummed, valid-start, valid-step, missing-step, valid-end}
+use Rattle.moment.proofs.kurtosis_state.KurtosisState.about_valid.Given as goal
+
+abbrev pub invariant-loop-i : goal.invariant-loop-i
+invariant-loop-i l =
+    let valid = valid_at l.has_map l.map in
+    ValidSummed (square l.mean) valid l.start l.part l.m2 l.i × ValidSummed (cube l.mean) valid l.start l.part l.m3 l.i × ValidSummed (fourth l.mean) valid l.start l.part l.m4 l.i
+
+abbrev pub decreases-loop-i : goal.decreases-loop-i
+decreases-loop-i l = length l.part - l.i

@@ -1,0 +1,13 @@
+-- From the sum and the moments about the mean. Assumes nothing.
+use Rattle.std.proofs.Common.{rules, eq-eqb, ne_eqb}
+use Rattle.moment.specs.Kurtosis.{kurtosis_new}
+use Rattle.moment.proofs.kurtosis_state.KurtosisState.new.Goals as goal
+
+pub returns-then-x-eq0 : goal.returns-then-x-eq0
+unfolding kurtosis_new
+returns-then-x-eq0 c = rw (eq-eqb _ _ c.if-x-eq0.true) c.default.ensures
+
+pub returns : goal.returns
+unfolding kurtosis_new
+returns c = let n = c in
+    rw (ne_eqb _ _ n.if-x-eq0.false, c.about.ensures, c.sum.ensures, n.nearest_u64_to_f64-weight.ensures)

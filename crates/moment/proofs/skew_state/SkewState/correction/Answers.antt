@@ -1,0 +1,6 @@
+-- The root by its callee. Assumes nothing.
+use Rattle.std.proofs.Common.{rules}
+use Rattle.moment.proofs.skew_state.SkewState.correction.Goals as goal
+
+pub returns : goal.returns
+returns c = rw c.root.ensures

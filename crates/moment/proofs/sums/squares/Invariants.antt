@@ -1,0 +1,12 @@
+-- A sum, element by element. Assumes nothing.
+use Rattle.std.proofs.Common.{◌-◌, length, refl, arith, rules}
+use Rattle.float.specs.Operators.{zero64}
+use Rattle.moment.specs.Sums.{square}
+use Rattle.moment.proofs.Folds.{Summed, fold_step, fold_end}
+use Rattle.moment.proofs.sums.squares.Given as goal
+
+abbrev pub invariant-loop-i : goal.invariant-loop-i
+invariant-loop-i l = Summed (square l.mean) l.x l.t l.i
+
+abbrev pub decreases-loop-i : goal.decreases-loop-i
+decreases-loop-i l = length l.x - l.i

@@ -1,0 +1,11 @@
+-- A sum, element by element. Assumes nothing.
+use Rattle.std.proofs.Common.{◌-◌, length, refl, arith, rules}
+use Rattle.float.specs.Operators.{◌⊕◌, zero64}
+use Rattle.moment.proofs.Folds.{Folded, fold_step, fold_end}
+use Rattle.moment.proofs.sums.sum.Goals as goal
+
+pub loop-i-preserved : goal.loop-i-preserved
+loop-i-preserved c = fold_step ◌⊕◌ zero64 _ _ _ _ c.loop-i-test.true c.loop-i.invariant
+
+pub returns : goal.returns
+returns c = fold_end ◌⊕◌ zero64 _ _ _ c.loop-i-test.false c.loop-i.invariant

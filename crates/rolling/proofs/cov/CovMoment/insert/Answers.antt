@@ -1,0 +1,6 @@
+-- By both parts. Assumes nothing.
+use Rattle.std.proofs.Common.{rules}
+use Rattle.rolling.proofs.cov.CovMoment.insert.Goals as goal
+
+pub returns : goal.returns
+returns c = rw (c.combine.ensures, c.of_pair.ensures)

@@ -1,0 +1,45 @@
+-- By the three ends: a flip, an emptied back stack, or a back stack that stays. Assumes nothing.
+use Rattle.window.specs.Code.Stacks.{Trims}
+use Rattle.window.specs.Pairs.{pair_places}
+use Rattle.window.proofs.Moves.{trim-fits}
+use Rattle.window.proofs.Steps.{trim-flips, trim-empties, trim-keeps}
+use Rattle.rolling.specs.Code.Layouts.{cov_stored}
+use Rattle.std.proofs.Common.{rules}
+use Rattle.rolling.proofs.cov.CovMoment.trim.Goals as goal
+
+-- the window without the places that leave
+trims : (a : goal.After-trimmed-trim) → let g = a.args in
+    Trims (pair_places g.x_has_map g.x_map.now g.x.now g.y_has_map g.y_map.now g.y.now) g.w.window g.start
+    a.trimmed-trim.result.window a.trimmed-trim.result.flips
+trims a = let p = a.requires in a.trimmed-trim.ensures _
+    p.held.numbers p.starts a.tally_below-leaving.ensures
+
+pub tally_below-leaving-requires : goal.tally_below-leaving-requires
+tally_below-leaving-requires c =
+    let p = c.requires in record { starts = p.starts; inside = p.start_in; counted = p.held.numbers }
+
+pub trimmed-trim-requires : goal.trimmed-trim-requires
+trimmed-trim-requires c =
+    let p = c.requires in
+    λ h. let t = c.tally_below-leaving.ensures h in trim-fits _ _ _ p.held.numbers p.starts h _ _ t.valid-is t.nonfinite_is
+
+pub flip-requires : goal.flip-requires
+flip-requires c = c.requires.flippable
+
+pub returns-then-trim : goal.returns-then-trim
+returns-then-trim c =
+    trim-flips cov_stored _
+    c.requires (trims (goal.at.returns-then-trim c).After-trimmed-trim)
+    c.if-trim.true c.flip.ensures c.empty.ensures
+
+pub returns-then-kept-eq0 : goal.returns-then-kept-eq0
+returns-then-kept-eq0 c =
+    trim-empties cov_stored _
+    c.requires (trims
+    c) c.if-trim.false c.if-kept-eq0.true c.empty-then-kept-eq0.ensures
+
+pub returns : goal.returns
+returns c =
+    trim-keeps cov_stored _
+    c.requires (trims
+    c) c.if-trim.false c.if-kept-eq0.false

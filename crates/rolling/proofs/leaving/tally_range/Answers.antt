@@ -1,0 +1,36 @@
+-- One place more, twice. Assumes nothing.
+use Rattle.std.proofs.Common.{◌≡◌, ◌-◌, ◌≤◌, sym, arith, rules}
+use Rattle.trace.specs.Trace.{valid_at}
+use Rattle.window.specs.Places.{valid_count, nonfinite_count}
+use Rattle.window.specs.Readings.{places_by, nonfinite_at}
+use Rattle.window.proofs.Places.{entries-self, count-le, count-more}
+use Rattle.rolling.proofs.Rolling.{bit_le}
+use Rattle.rolling.proofs.leaving.tally_range.Goals as goal
+
+pub loop-i-init : goal.loop-i-init
+loop-i-init c = (omega arith, search rules, rw entries-self, rw entries-self)
+
+pub overflow_add-valid : goal.overflow_add-valid
+overflow_add-valid c =
+    let a = c.args in
+    omega (arith, bit_le c.valid.result, count-le (valid_at a.has_map a.map.now) (λ j. j) a.a c.loop-i.i)
+
+pub overflow_add-nonfinite : goal.overflow_add-nonfinite
+overflow_add-nonfinite c =
+    let a = c.args in
+    omega (arith, bit_le c.is_nonfinite.result, count-le (nonfinite_at a.has_map a.map.now a.values.now) (λ j. j) a.a c.loop-i.i)
+
+pub loop-i-preserved : goal.loop-i-preserved
+loop-i-preserved c =
+    let l = c.loop-i in (
+      omega arith,
+      omega arith,
+      rw l.invariant.2 (sym (count-more _ _ _ _ l.invariant.0 _ c.valid.ensures)),
+      rw l.invariant.3 (sym (count-more _ _ _ _ l.invariant.0 _ c.is_nonfinite.ensures)),
+    )
+
+pub returns : goal.returns
+returns c =
+    let l = c.loop-i in
+    let e : l.i ≡ c.args.b = omega arith in
+    rw (← e) (record { valid-is = l.invariant.2; nonfinite_is = l.invariant.3 })

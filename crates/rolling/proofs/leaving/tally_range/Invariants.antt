@@ -1,0 +1,15 @@
+-- One place more, twice. Assumes nothing.
+use Rattle.std.proofs.Common.{◌≡◌, ◌-◌, ◌≤◌, sym, arith, rules}
+use Rattle.trace.specs.Trace.{valid_at}
+use Rattle.window.specs.Places.{valid_count, nonfinite_count}
+use Rattle.window.specs.Readings.{places_by, nonfinite_at}
+use Rattle.window.proofs.Places.{entries-self, count-le, count-more}
+use Rattle.rolling.proofs.Rolling.{bit_le}
+use Rattle.rolling.proofs.leaving.tally_range.Given as goal
+
+abbrev pub invariant-loop-i : goal.invariant-loop-i
+invariant-loop-i l =
+    (l.a ≤ l.i) × (l.i ≤ l.b) × (l.valid ≡ valid_count (places_by l.has_map l.map l.values) l.a l.i) × (l.nonfinite ≡ nonfinite_count (places_by l.has_map l.map l.values) l.a l.i)
+
+abbrev pub decreases-loop-i : goal.decreases-loop-i
+decreases-loop-i l = l.b - l.i

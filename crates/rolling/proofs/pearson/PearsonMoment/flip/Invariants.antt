@@ -1,0 +1,14 @@
+-- By the turns of a flip. Assumes nothing.
+use Rattle.std.proofs.Common.{arith, length-set, rules}
+use Rattle.window.proofs.Pairs.{Flipping, flipping-start, flipping-turn, flipping-done}
+use Rattle.rolling.proofs.Rolling.{puts6}
+use Rattle.rolling.specs.Code.Layouts.{pearson_states}
+use Rattle.rolling.proofs.pearson.PearsonMoment.flip.Given as goal
+
+abbrev pub invariant-loop-j : goal.invariant-loop-j
+invariant-loop-j l =
+    Flipping pearson_states l.initial.work l.base l.n l.work l.agg l.at l.j
+
+abbrev pub decreases-loop-j : goal.decreases-loop-j
+decreases-loop-j l =
+    l.j

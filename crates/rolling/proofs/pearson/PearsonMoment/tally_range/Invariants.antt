@@ -1,0 +1,17 @@
+-- One place more, twice. Assumes nothing.
+use Rattle.std.proofs.Common.{◌≡◌, ◌-◌, ◌≤◌, sym, arith, rules}
+use Rattle.trace.specs.Trace.{both_at}
+use Rattle.window.specs.Places.{valid_count, nonfinite_count}
+use Rattle.window.specs.Pairs.{pair_places, nonfinite_pair}
+use Rattle.window.proofs.Places.{entries-self, count-le, count-more}
+use Rattle.rolling.proofs.Rolling.{bit_le}
+use Rattle.rolling.proofs.pearson.PearsonMoment.tally_range.Given as goal
+
+abbrev pub invariant-loop-i : goal.invariant-loop-i
+invariant-loop-i l =
+    (l.a ≤ l.i) × (l.i ≤ l.b) × (l.valid ≡ valid_count (pair_places l.x_has_map l.x_map l.x l.y_has_map l.y_map l.y) l.a l.i) × (l.nonfinite ≡ nonfinite_count
+    (pair_places l.x_has_map l.x_map l.x l.y_has_map l.y_map l.y) l.a l.i)
+
+abbrev pub decreases-loop-i : goal.decreases-loop-i
+decreases-loop-i l =
+    l.b - l.i

@@ -1,0 +1,15 @@
+-- What is appended to the part that begins after the front stack is the back stack grown. Assumes nothing.
+use Rattle.std.proofs.Common.{le_trans, rules}
+use Rattle.window.proofs.Steps.{extend-appendable, extend-appended}
+use Rattle.rolling.specs.Code.Layouts.{skew_stored, skew_states}
+use Rattle.rolling.proofs.Weighed.{skew_weighs, rising-weight}
+use Rattle.rolling.proofs.skew.SkewMoment.extend.Goals as goal
+
+pub append-appended-requires : goal.append-appended-requires
+append-appended-requires c =
+    let p = c.requires in
+    let a = extend-appendable skew_stored _ p in
+    (a, rising-weight skew_states skew_weighs _ _ c.args.w.window _ _ p.held (le_trans a.many_le (le_trans a.rises a.few)))
+
+pub returns : goal.returns
+returns c = extend-appended skew_stored _ c.requires c.append-appended.ensures c.extended.ensures

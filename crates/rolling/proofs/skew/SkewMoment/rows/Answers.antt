@@ -1,0 +1,107 @@
+-- Block after block the outputs hold the answers of the rows before. Assumes nothing.
+use Rattle.std.proofs.Common.{◌≡◌, ◌+◌, ◌-◌, ◌<◌, ◌≤◌, length, take, drop, sym, refl, ◌∙◌, arith, length-drop, length-take, rules}
+use lib.ListN.{length-replicate}
+use lib.Ieee.{Float}
+use Rattle.float.specs.Operators.{zero64}
+use Rattle.moment.specs.Skew.{skew_finalize}
+use Rattle.plan.specs.Plan.{Plan, rows}
+use Rattle.rolling.specs.Code.Layouts.{skew_stored}
+use Rattle.rolling.specs.Code.Rows.{plan_by}
+use Rattle.rolling.proofs.RowLoops.{many_rows, rows-kept, rows-columns}
+use Rattle.rolling.proofs.Slots.{first_places}
+use Rattle.rolling.proofs.Blocks.{Blocks, blocks_start, blocks-can, blocks-next}
+use Rattle.rolling.proofs.skew.SkewMoment.rows.Goals as goal
+
+-- where a block ends
+ends : (e : goal.After-end_of-until) → let first = e.loop-first.first in let u = e.end_of-until.result in
+    (first ≤ u) × (u ≤ first + 32) × (u ≤ rows (let g = e.args in plan_by g.rows (length g.values.now) g.starts.now g.ends.now)) × (first < u)
+ends e =
+    let m = e.end_of-until.ensures in
+    let h = e.loop-first-test.true in
+    let k = (let g = e.args in e.how_many-many.ensures ∙ many_rows g.rows (length g.values.now) g.starts.now g.ends.now) in
+    (omega arith, omega arith, omega arith, omega arith)
+
+pub first_offsets-at-requires : goal.first_offsets-at-requires
+first_offsets-at-requires c = c.requires.plan.same
+
+pub loop-first-init : goal.loop-first-init
+loop-first-init c =
+    let l = length-replicate {A = Float} 32 zero64 in
+    blocks_start _ _ _ _ _ _ _ _ _ _ c.requires c.empty_at.ensures c.empty.ensures c.first_offsets-at.ensures
+    (record { kept = first_places _ c.correction-none.ensures; m2s_long = l; m3s_long = l; factors_long = l }) l
+
+pub block-block-requires : goal.block-block-requires
+block-block-requires c =
+    let e = c in
+    let x = ends e in
+    let y = e.loop-first.invariant.present-same in
+    blocks-can _ _ _ _ _ _ _ _ _ _ (e).requires e.loop-first.invariant e.end_of-until.result x.0 x.1 x.2 (omega arith)
+
+pub slice_bounds-finish-end-in-loop-first-3 : goal.slice_bounds-finish-end-in-loop-first-3
+slice_bounds-finish-end-in-loop-first-3 c = sym c.loop-first.invariant.roots_long
+
+pub offset_bounds-figures-first : goal.offset_bounds-figures-first
+offset_bounds-figures-first c =
+    let e = c in
+    let x = ends e in
+    let y = e.loop-first.inv.figures_same in
+    let z = (e).pre.outputs_fit in
+    omega (arith, (e).good)
+
+pub slice_bounds-finish-count : goal.slice_bounds-finish-count
+slice_bounds-finish-count c = (ends (goal.at.slice_bounds-finish-count c).After-end_of-until).0
+
+pub OLD-slice-bounds-finish-start : goal.OLD-slice-bounds-finish-start
+OLD-slice-bounds-finish-start c = (ends c.before.before.before.before.before.before.before.before.before.before.before.before.before.before.before.before.before.before.before.before.before.before.before).0
+
+pub OLD-slice-bounds-finish-end : goal.OLD-slice-bounds-finish-end
+OLD-slice-bounds-finish-end c =
+    let e = c.before.before.before.before.before.before.before.before.before.before.before.before.before.before.before.before.before.before.before.before.before.before.before in
+    let x = ends e in
+    let y = e.before.before.loop.inv.figures_same in
+    let z = (e).pre.outputs_fit in
+    omega arith
+
+pub finish-requires : goal.finish-requires
+finish-requires c =
+    let e = c in
+    let v = c.block-block.ensures.slots in
+    let u = e.end_of-until.result in
+    let l = e.loop-first in
+    let x = ends e in
+    let o : length (take (u - l.first) (drop l.first l.figures)) ≤ 32 = rw length-take (omega arith) in
+    let a = v.m2s_long in
+    let b = v.m3s_long in
+    let d = v.factors_long in
+    let w = l.inv.roots_long in
+    record { m2s_long = omega arith; m3s_long = omega arith; factors_long = omega arith; roots_long = omega arith }
+
+pub loop-first-smaller : goal.loop-first-smaller
+loop-first-smaller c = let e = c in let x =
+    ends e in let h = e.loop-first-test.taken in omega arith
+
+pub loop-first-preserved : goal.loop-first-preserved
+loop-first-preserved c =
+    let e = c in
+    let x = ends e in
+    let f = c.finish in
+    let b = c.block-block in
+    blocks-next _ _ _ _ _ _ _ _ _ _ (e).pre e.loop-first.inv e.end_of-until.result x.0 x.1 x.2 (omega arith) b.ensures b.auto.1.1.1.1.1.1.1.0 b.auto.1.1.1.1.1.1.1.1.0 f.auto.1.1.1.1.0 f.ensures refl
+
+pub returns : goal.returns
+returns c =
+    let s = c in
+    let g = s.args in
+    let v = c.loop-first.invariant.works in
+    let h = c.loop-first-test.false in
+    let t = (let g = c.args in c.how_many-many.ensures ∙ many_rows g.rows (length g.values.now) g.starts.now g.ends.now) in
+    let o = v.worked.standing.upto in
+    let u : c.loop-first.first ≡ rows (let g = s.args in plan_by g.rows (length g.values.now) g.starts.now g.ends.now) = omega arith in
+    record {
+      fits = record { answers = refl; counts = refl };
+      written = record {
+        answers_are = rows-columns skew_stored _ _ _ _ _ s.requires _ u v (omega arith);
+        counts_are = refl;
+      };
+      work_kept = rows-kept skew_stored _ _ _ _ _ s.requires v.worked;
+    }

@@ -1,0 +1,34 @@
+-- From a fresh window on, every row. Assumes nothing.
+use Rattle.std.proofs.Common.{◌≡◌, length, refl, ◌∙◌, le_refl, arith, rules}
+use Rattle.plan.specs.Plan.{rows}
+use Rattle.rolling.specs.Code.Layouts.{var_stored}
+use Rattle.rolling.specs.Code.Rows.{plan_by}
+use Rattle.rolling.proofs.RowLoops.{many_rows, rows-can, rows-kept, rows-columns}
+use Rattle.rolling.proofs.variance.VarianceMoment.rows.Goals as goal
+
+-- the block is worked up to the last row
+until-is : (c : goal.After-how_many-until) → let g = (c).args in
+    c.how_many-until.result ≡ rows (plan_by g.rows (length g.values.now) g.starts.now g.ends.now)
+until-is c = let g = (c).args in c.how_many-until.ensures ∙ many_rows g.rows (length g.values.now) g.starts.now g.ends.now
+
+pub first_offsets-at-requires : goal.first_offsets-at-requires
+first_offsets-at-requires c =
+    c.requires.plan.same
+
+pub block-requires : goal.block-requires
+block-requires c =
+    let h = c in
+    let k = h in
+    rows-can var_stored _ _ _ _ _ (h).requires k.empty_at.ensures k.empty.ensures (until-is h)
+    h.first_offsets-at.ensures
+
+pub returns : goal.returns
+returns c =
+    let b = c in
+    let h = b in
+    let v = b.block.ensures in
+    record {
+      fits = record { answers = refl; counts = refl };
+      written = record { answers_are = rows-columns var_stored _ _ _ _ _ (h).requires _ (until-is h) v (le_refl _); counts_are = refl };
+      work_kept = rows-kept var_stored _ _ _ _ _ (h).requires v.worked;
+    }

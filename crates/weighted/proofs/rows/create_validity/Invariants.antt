@@ -1,0 +1,18 @@
+-- Row after row its window is held, and the bytes of the rows before are written. Assumes nothing.
+use Prim.Native.Nat.{ℕ, ◌-◌, ◌^◌, ◌≤◌, ◌<◌}
+use mathlib.Core.Path.{◌≡◌, refl, subst}
+use native.Mathlib.Omega.{arith}
+use borrow.Author.Rules.{rules}
+use Rattle.window.specs.Code.Filling.{Upto}
+use Rattle.window.proofs.Outputs.{upto-start, upto_next}
+use Rattle.weighted.specs.Code.Rows.{validity_at}
+use Rattle.plan.proofs.FixedWindows.{reaches-first, reaches-next}
+use Rattle.weighted.proofs.WeightedRows.{Held, rises, validity-is}
+use Rattle.weighted.proofs.rows.create_validity.Given as goal
+
+abbrev pub invariant-loop-row : goal.invariant-loop-row
+invariant-loop-row l =
+    (l.row ≤ l.n) × Upto (validity_at l.n l.left l.right l.min_periods) l.initial.present l.present l.row × Held l.n l.left l.right l.row l.at
+
+abbrev pub decreases-loop-row : goal.decreases-loop-row
+decreases-loop-row l = l.n - l.row

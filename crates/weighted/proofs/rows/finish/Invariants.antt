@@ -1,0 +1,22 @@
+-- One row more, its double written. Assumes nothing.
+use Prim.Native.Nat.{◌-◌, ◌≤◌}
+use mathlib.Core.Path.{◌≡◌, refl, ap, ◌∙◌}
+use native.Mathlib.Omega.{arith}
+use borrow.Author.Rules.{rules}
+use lib.ListN.{length, get_or}
+use lib.Ieee.{Float}
+use Rattle.float.proofs.Tables.{table-over}
+use Rattle.moment.specs.Figure.{double_of}
+use Rattle.window.specs.Code.Filling.{Upto}
+use Rattle.window.proofs.Outputs.{upto-start, upto_next}
+use Rattle.weighted.specs.Weights.{variance_of}
+use Rattle.weighted.specs.Code.Sums.{sums_at}
+use Rattle.weighted.specs.Code.Rows.{answer_of, double_at}
+use Rattle.weighted.proofs.rows.finish.Given as goal
+
+abbrev pub invariant-loop-r : goal.invariant-loop-r
+invariant-loop-r l =
+    (l.r ≤ length l.initial.figures) × Upto (double_at l.present (λ i. variance_of (sums_at l.wssq l.wsum l.wtot i))) l.initial.figures l.figures l.r
+
+abbrev pub decreases-loop-r : goal.decreases-loop-r
+decreases-loop-r l = length l.initial.figures - l.r

@@ -1,0 +1,22 @@
+-- The bytes of all rows first; then block after block the doubles of the rows before are written. Assumes nothing.
+use Prim.Native.Nat.{◌-◌, ◌≤◌}
+use mathlib.Core.Path.{◌≡◌}
+use native.Mathlib.Omega.{arith}
+use borrow.Author.Rules.{rules}
+use borrow.Rule.Slice.PartMut.{mid_len}
+use lib.ListN.{length}
+use Rattle.float.proofs.Tables.{table_part}
+use Rattle.moment.specs.Figure.{double_of}
+use Rattle.plan.proofs.FixedWindows.{right-some}
+use Rattle.window.specs.Code.Filling.{Upto}
+use Rattle.window.proofs.Outputs.{upto-start}
+use Rattle.weighted.specs.Code.Rows.{weighted_by}
+use Rattle.weighted.proofs.WeightedRows.{block_doubles, rows-done}
+use Rattle.weighted.proofs.rows.write_rows.Given as goal
+
+abbrev pub invariant-loop-first : goal.invariant-loop-first
+invariant-loop-first l =
+    (l.first ≤ length l.values) × Upto (λ k. double_of (weighted_by l.values l.weights l.total l.left l.right l.min_periods k)) l.initial.figures l.figures l.first
+
+abbrev pub decreases-loop-first : goal.decreases-loop-first
+decreases-loop-first l = length l.values - l.first
