@@ -9,7 +9,7 @@ pub returns-then-not-has_map : goal.returns-then-not-has_map
 unfolding valid_at
 returns-then-not-has_map c =
     record {
-      valid-is = rw (not-true c.args.has_map c.if-not-has_map.true) (sym (count-all _ _ (λ i. refl) _ _));
+      valid-is = rw c.if-not-has_map.true (sym (count-all _ _ (λ i. refl) _ _));
       nonfinite_is = sym (c.requires.none c.if-nonfinite-eq0.true);
     }
 

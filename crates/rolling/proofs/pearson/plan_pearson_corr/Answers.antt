@@ -22,7 +22,7 @@ rows-requires c =
     } in
     let e = c.pair_refusal.ensures in
     let a = c.plan_refusal-checked.ensures.accepted c.if-checked-ne0.false in
-    (one_length t (sym e ∙ a.given_is), driven _ Pairs t _ _ e c.shorter.ensures a)
+    record { x_len = one_length t (sym e ∙ a.given_is); driven = driven _ Pairs t _ _ e c.shorter.ensures a }
 
 pub returns : goal.returns
 returns c =

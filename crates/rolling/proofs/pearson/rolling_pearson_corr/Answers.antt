@@ -24,11 +24,8 @@ rows-requires c =
     let e = c.pair_refusal.ensures in
     let a = reach_accepted _ _ _ _ c.right_window-right.ensures.0
     (c.fixed_refusal-checked.ensures.accepted
-    c.if-checked-ne0.false _) in (
-      one_length t (sym e ∙ a.given_is),
-      driven _ Pairs t _ _ e
-          c.shorter.ensures a,
-    )
+    c.if-checked-ne0.false _) in
+    record { x_len = one_length t (sym e ∙ a.given_is); driven = driven _ Pairs t _ _ e c.shorter.ensures a }
 
 pub returns : goal.returns
 returns c =

@@ -5,11 +5,11 @@ use Rattle.float.proofs.Finiteness.{not_itself}
 use Rattle.rolling.proofs.row.write.Goals as goal
 
 pub returns-in_default : goal.returns-in_default
-returns-in_default c = rw c.enum_told-1.given.1 (record { figures_are = refl; present_are = refl })
+returns-in_default c = rw c.in_default.is (record { figures_are = refl; present_are = refl })
 
 pub returns-then-x : goal.returns-then-x
-returns-then-x c = rw c.figure-1.given.1 (record { figures_are = refl; present_are = refl })
+returns-then-x c = rw c.in-Present.is (record { figures_are = refl; present_are = refl })
 
 pub returns : goal.returns
 unfolding div of_bits
-returns c = rw c.figure-1.given.1 (record { figures_are = rw (not_itself _ c.if-x.false); present_are = refl })
+returns c = rw c.in-Present.is (record { figures_are = rw (not_itself _ c.if-x.false); present_are = refl })

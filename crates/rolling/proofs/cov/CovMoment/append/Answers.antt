@@ -10,7 +10,7 @@ pub loop-i-init : goal.loop-i-init
 loop-i-init c = appending-start cov_states _ _ _ _ _ _ _ _ _ _ _ _ c.requires.rises
 
 pub overflow_mul-at : goal.overflow_mul-at
-overflow_mul-at c = let h = room (c) in omega arith
+overflow_mul-at c = let h = (appending-room cov_states _ _ _ _ _ _ _ _ _ _ _ _ c.loop-i.invariant c.loop-i-test.true c.requires (sym c.both.ensures ∙ c.if-both.true)) in omega arith
 
 pub offset_bounds-back-at : goal.offset_bounds-back-at
 offset_bounds-back-at c = let h = (appending-room cov_states _ _ _ _ _ _ _ _ _ _ _ _ c.loop-i.invariant c.loop-i-test.true c.requires (sym c.both.ensures ∙ c.if-both.true)) in omega arith

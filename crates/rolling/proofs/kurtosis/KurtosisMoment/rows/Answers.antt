@@ -26,8 +26,8 @@ returns c =
     record {
       fits = record { answers = refl; counts = refl };
       written = record {
-        answers_are = rows-columns kurtosis_stored _ _ _ _ _ s.pre _ u v (omega arith);
+        answers_are = rows-columns kurtosis_stored _ _ _ _ _ s.requires _ u v (omega arith);
         counts_are = refl;
       };
-      work_kept = rows-kept kurtosis_stored _ _ _ _ _ s.pre v.worked;
+      work_kept = rows-kept kurtosis_stored _ _ _ _ _ s.requires v.worked;
     }

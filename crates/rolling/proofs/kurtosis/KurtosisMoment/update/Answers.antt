@@ -8,7 +8,7 @@ pub trim-trimmed-requires : goal.trim-trimmed-requires
 trim-trimmed-requires c = update-trimmable kurtosis_stored _ c.requires
 
 pub extend-requires : goal.extend-requires
-extend-requires c = let o = c.trim-trimmed in update-extendable kurtosis_stored _ c.requires o.ensures o.auto.0
+extend-requires c = let o = c.trim-trimmed in update-extendable kurtosis_stored _ c.requires o.ensures o.auto.work
 
 pub returns : goal.returns
-returns c = let o = c.trim-trimmed in updated kurtosis_stored _ c.requires o.ensures o.auto.0 c.extend.ensures
+returns c = let o = c.trim-trimmed in updated kurtosis_stored _ c.requires o.ensures o.auto.work c.extend.ensures

@@ -7,37 +7,38 @@ use Rattle.rolling.proofs.RowLoops.{within_both}
 use Rattle.rolling.specs.Code.Layouts.{pearson_stored}
 use Rattle.rolling.proofs.pearson.PearsonMoment.block.Goals as goal
 
+-- where the loop began
 pub loop-row-init : goal.loop-row-init
-loop-row-init c = turn-starts pearson_stored _ _ _ _ _ _ _ _ _ _ _ c.requires.1
+loop-row-init c = turn-starts pearson_stored _ _ _ _ _ _ _ _ _ _ _ c.requires.can_work
 
 pub next-next-requires : goal.next-next-requires
-next-next-requires c = turn-row pearson_stored _ _ _ _ _ _ _ _ _ _ _ (c).requires.1 c.loop-row.invariant c.loop-row-test.true
+next-next-requires c = turn-row pearson_stored _ _ _ _ _ _ _ _ _ _ _ c.requires.can_work c.loop-row.invariant c.loop-row-test.true
 
 pub step-w-requires : goal.step-w-requires
 step-w-requires c =
     let r = c in
-    let g = (r).args in
-    within_both pearson_stored _ g.x.now g.y.now (r).requires.0
-    (turn-movable pearson_stored _ _ _ _ _ _ _ _ _ _ _ (r).requires.1 r.loop-row.invariant r.loop-row-test.true)
+    let g = r.args in
+    within_both pearson_stored _ g.x.now g.y.now r.requires.x_len
+    (turn-movable pearson_stored _ _ _ _ _ _ _ _ _ _ _ r.requires.can_work r.loop-row.invariant r.loop-row-test.true)
 
 pub answer-figure-requires : goal.answer-figure-requires
 answer-figure-requires c =
     let r = c in
     let q = c.step-w in
-    let f = turn-fits pearson_stored _ _ _ _ _ _ _ _ _ _ _ (r).requires.1 r.loop-row.invariant r.loop-row-test.true q.ensures
-    q.auto.0 in
+    let f = turn-fits pearson_stored _ _ _ _ _ _ _ _ _ _ _ r.requires.can_work r.loop-row.invariant r.loop-row-test.true q.ensures
+    q.auto.work in
     record { front_in = f.0; few = f.1; rises = f.2 }
 
 pub write-requires : goal.write-requires
 write-requires c =
     let r = c in
-    turn-there pearson_stored _ _ _ _ _ _ _ _ _ _ _ (r).requires.1 r.loop-row.invariant r.loop-row-test.true
+    turn-there pearson_stored _ _ _ _ _ _ _ _ _ _ _ r.requires.can_work r.loop-row.invariant r.loop-row-test.true
 
 pub overflow_add-row : goal.overflow_add-row
 overflow_add-row c =
     let r = c in
     let h = r.loop-row-test.true in
-    omega (arith, (r).ranges)
+    omega (arith, r.ranges)
 
 pub loop-row-smaller : goal.loop-row-smaller
 loop-row-smaller c = let h = c.loop-row-test.true in omega arith
@@ -46,12 +47,12 @@ pub loop-row-preserved : goal.loop-row-preserved
 loop-row-preserved c =
     let r = c in
     let q = c.step-w in
-    turn-next pearson_stored _ _ _ _ _ _ _ _ _ _ _ (r).requires.1 r.loop-row.invariant r.loop-row-test.true q.ensures q.auto.0
+    turn-next pearson_stored _ _ _ _ _ _ _ _ _ _ _ r.requires.can_work r.loop-row.invariant r.loop-row-test.true q.ensures q.auto.work
     c.answer-figure.ensures c.write.ensures
     c.next-next.ensures
 
 pub returns : goal.returns
 returns c =
     turn-done pearson_stored _ _ _ _ _ _ _ _ _ _ _
-    c.requires.1 c.loop-row.invariant
+    c.requires.can_work c.loop-row.invariant
     c.loop-row-test.false

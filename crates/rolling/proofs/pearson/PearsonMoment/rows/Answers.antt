@@ -6,7 +6,7 @@ use Rattle.rolling.proofs.RowLoops.{many_rows, rows-can, rows-kept, rows-columns
 use Rattle.rolling.proofs.pearson.PearsonMoment.rows.Goals as goal
 
 pub first_offsets-at-requires : goal.first_offsets-at-requires
-first_offsets-at-requires c = c.requires.1.plan.same
+first_offsets-at-requires c = c.requires.driven.plan.same
 
 pub block-requires : goal.block-requires
 block-requires c =
@@ -16,12 +16,12 @@ block-requires c =
     let u = h.how_many-until.ensures ∙ many_rows g.rows (length g.x.now) g.starts.now g.ends.now in
     let k = h in
     let o = h.first_offsets-at.ensures in
-    (s.pre.0, rows-can pearson_stored _ _ _ _ _ s.pre.1 k.empty_at.ensures k.empty.ensures u o)
+    record { x_len = s.requires.x_len; can_work = rows-can pearson_stored _ _ _ _ _ s.requires.driven k.empty_at.ensures k.empty.ensures u o }
 
 pub returns : goal.returns
 returns c =
     let g = c.args in
-    let d = c.requires.1 in
+    let d = c.requires.driven in
     let u = c.how_many-until.ensures
     ∙ many_rows g.rows (length g.x.now) g.starts.now g.ends.now in
     let v = c.block.ensures in

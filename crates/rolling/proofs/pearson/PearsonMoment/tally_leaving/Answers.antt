@@ -7,7 +7,7 @@ use Rattle.rolling.proofs.pearson.PearsonMoment.tally_leaving.Goals as goal
 
 pub returns-then-not-either : goal.returns-then-not-either
 returns-then-not-either c =
-    let e = sym c.either.ensures ∙ not-true c.either.result c.if-not-either.true in
+    let e = sym c.either.ensures ∙ c.if-not-either.true in
     record {
       valid-is = sym (count-all _ _ (unmapped_both _ _ _ _ e) _ _);
       nonfinite_is = sym (c.requires.none c.if-nonfinite-eq0.true);

@@ -7,13 +7,6 @@ use Rattle.rolling.specs.Code.Layouts.{pearson_stored}
 use Rattle.std.proofs.Common.{rules}
 use Rattle.rolling.proofs.pearson.PearsonMoment.trim.Goals as goal
 
--- the window without the places that leave
-trims : (a : goal.After-trimmed-trim) → let g = a.args in
-    Trims (pair_places g.x_has_map g.x_map.now g.x.now g.y_has_map g.y_map.now g.y.now) g.w.window g.start
-    a.trimmed-trim.result.window a.trimmed-trim.result.flips
-trims a = let p = a.requires in a.trimmed-trim.ensures _
-    p.held.numbers p.starts a.tally_below-leaving.ensures
-
 pub tally_below-leaving-requires : goal.tally_below-leaving-requires
 tally_below-leaving-requires c =
     let p = c.requires in record { starts = p.starts; inside = p.start_in; counted = p.held.numbers }
@@ -29,17 +22,15 @@ flip-requires c = c.requires.flippable
 pub returns-then-trim : goal.returns-then-trim
 returns-then-trim c =
     trim-flips pearson_stored _
-    c.requires (trims (goal.at.returns-then-trim c).After-trimmed-trim)
+    c.requires (let p = c.requires in c.trimmed-trim.ensures _ p.held.numbers p.starts c.tally_below-leaving.ensures)
     c.if-trim.true c.flip.ensures c.empty.ensures
 
 pub returns-then-kept-eq0 : goal.returns-then-kept-eq0
 returns-then-kept-eq0 c =
     trim-empties pearson_stored _
-    c.requires (trims
-    c) c.if-trim.false c.if-kept-eq0.true c.empty-then-kept-eq0.ensures
+    c.requires (let p = c.requires in c.trimmed-trim.ensures _ p.held.numbers p.starts c.tally_below-leaving.ensures) c.if-trim.false c.if-kept-eq0.true c.empty-then-kept-eq0.ensures
 
 pub returns : goal.returns
 returns c =
     trim-keeps pearson_stored _
-    c.requires (trims
-    c) c.if-trim.false c.if-kept-eq0.false
+    c.requires (let p = c.requires in c.trimmed-trim.ensures _ p.held.numbers p.starts c.tally_below-leaving.ensures) c.if-trim.false c.if-kept-eq0.false

@@ -10,10 +10,10 @@ trim-trimmed-requires c = update-trimmable pearson_stored _ c.requires
 pub extend-requires : goal.extend-requires
 extend-requires c =
     let o = c.trim-trimmed in update-extendable pearson_stored _
-    c.requires o.ensures o.auto.0
+    c.requires o.ensures o.auto.work
 
 pub returns : goal.returns
 returns c =
     let o = c.trim-trimmed in updated pearson_stored _
     c.requires o.ensures
-    o.auto.0 c.extend.ensures
+    o.auto.work c.extend.ensures

@@ -5,16 +5,17 @@ use Rattle.rolling.proofs.Weighed.{skew_weighs, weighed}
 use Rattle.rolling.proofs.Blocks.{BlockTurn, block-starts, block_row, block-slot, block-movable, block-fits, block-next, block_done}
 use Rattle.rolling.proofs.skew.SkewMoment.block.Goals as goal
 
+-- where the loop began
 pub loop-row-init : goal.loop-row-init
 loop-row-init c = block-starts _ _ _ _ _ _ _ _ _ _ _ c.requires
 
 pub next-next-requires : goal.next-next-requires
-next-next-requires c = block_row _ _ _ _ _ _ _ _ _ _ _ (c).requires c.loop-row.invariant c.loop-row-test.true
+next-next-requires c = block_row _ _ _ _ _ _ _ _ _ _ _ c.requires c.loop-row.invariant c.loop-row-test.true
 
 pub step-w-requires : goal.step-w-requires
 step-w-requires c =
     let r = c in
-    block-movable _ _ _ _ _ _ _ _ _ _ _ (r).requires r.loop-row.invariant r.loop-row-test.true
+    block-movable _ _ _ _ _ _ _ _ _ _ _ r.requires r.loop-row.invariant r.loop-row-test.true
 
 pub overflow_sub-row : goal.overflow_sub-row
 overflow_sub-row c = c.loop-row.invariant.working.low
@@ -25,25 +26,26 @@ prepare-there-requires c =
     let q = c.step-w in
     let v = r.loop-row.invariant in
     let m = r.loop-row-test.true in
-    let f = block-fits _ _ _ _ _ _ _ _ _ _ _ (r).requires v m q.ensures q.auto.0 in (
-      (weighed skew_states skew_weighs _ _ q.result.window _ _ q.ensures.held f.0 f.1, f.2),
-      (block-slot _ _ _ _ _ _ _ _ _ _ _ (r).requires v m, v.slots.auto),
-    )
+    let f = block-fits _ _ _ _ _ _ _ _ _ _ _ r.requires v m q.ensures q.auto.work in
+    record {
+      weighed = (weighed skew_states skew_weighs _ _ q.result.window _ _ q.ensures.held f.0 f.1, f.2);
+      slot_free = (block-slot _ _ _ _ _ _ _ _ _ _ _ r.requires v m, v.slots.kept);
+    }
 
 pub bounds-present-row : goal.bounds-present-row
 bounds-present-row c =
     let r = c in
-    let v = r.loop-row.inv in
-    let l = (block_row _ _ _ _ _ _ _ _ _ _ _ (r).pre v r.loop-row-test.taken).listed in
-    let f = (r).pre.can.workable.outputs_fit in
+    let v = r.loop-row.invariant in
+    let l = (block_row _ _ _ _ _ _ _ _ _ _ _ r.requires v r.loop-row-test.true).listed in
+    let f = r.requires.can.workable.outputs_fit in
     let s = v.present-same in
     omega arith
 
 pub overflow_add-row : goal.overflow_add-row
 overflow_add-row c =
     let r = c in
-    let h = r.loop-row-test.taken in
-    omega (arith, (r).fits)
+    let h = r.loop-row-test.true in
+    omega arith
 
 pub loop-row-smaller : goal.loop-row-smaller
 loop-row-smaller c = let h = c.loop-row-test.true in omega arith
@@ -53,7 +55,7 @@ loop-row-preserved c =
     let r = c in
     let q = c.step-w in
     let h = c.prepare-there.ensures in
-    block-next _ _ _ _ _ _ _ _ _ _ _ (r).pre r.loop-row.inv r.loop-row-test.taken q.ensures q.auto.0 h.0
+    block-next _ _ _ _ _ _ _ _ _ _ _ r.requires r.loop-row.invariant r.loop-row-test.true q.ensures q.auto.work h.0
     h.1 c.next-next.ensures
 
 pub returns : goal.returns

@@ -9,7 +9,7 @@ pub append-appended-requires : goal.append-appended-requires
 append-appended-requires c =
     let p = c.requires in
     let a = extend-appendable skew_stored _ p in
-    (a, rising-weight skew_states skew_weighs _ _ c.args.w.window _ _ p.held (le_trans a.many_le (le_trans a.rises a.few)))
+    record { appendable = a; agg_back_value = rising-weight skew_states skew_weighs _ _ c.args.w.window _ _ p.held (le_trans a.many_le (le_trans a.rises a.few)) }
 
 pub returns : goal.returns
 returns c = extend-appended skew_stored _ c.requires c.append-appended.ensures c.extended.ensures

@@ -1,5 +1,5 @@
 -- Block after block the outputs hold the answers of the rows before. Assumes nothing.
-use Rattle.std.proofs.Common.{◌≡◌, ◌+◌, ◌-◌, ◌<◌, ◌≤◌, length, take, drop, sym, refl, ◌∙◌, arith, length-drop, length-take, rules}
+use Rattle.std.proofs.Common.{ℕ, min, ap, ◌≡◌, ◌+◌, ◌-◌, ◌<◌, ◌≤◌, length, take, drop, sym, refl, ◌∙◌, arith, length-drop, length-take, rules}
 use lib.ListN.{length-replicate}
 use lib.Ieee.{Float}
 use Rattle.float.specs.Operators.{zero64}
@@ -13,13 +13,8 @@ use Rattle.rolling.proofs.Blocks.{Blocks, blocks_start, blocks-can, blocks-next}
 use Rattle.rolling.proofs.skew.SkewMoment.rows.Goals as goal
 
 -- where a block ends
-ends : (e : goal.After-end_of-until) → let first = e.loop-first.first in let u = e.end_of-until.result in
-    (first ≤ u) × (u ≤ first + 32) × (u ≤ rows (let g = e.args in plan_by g.rows (length g.values.now) g.starts.now g.ends.now)) × (first < u)
-ends e =
-    let m = e.end_of-until.ensures in
-    let h = e.loop-first-test.true in
-    let k = (let g = e.args in e.how_many-many.ensures ∙ many_rows g.rows (length g.values.now) g.starts.now g.ends.now) in
-    (omega arith, omega arith, omega arith, omega arith)
+ends : (many first until : ℕ) → until ≡ min many (first + 32) → first < many → (first ≤ until) × (until ≤ first + 32) × (until ≤ many) × (first < until)
+ends many first until e h = (omega arith, omega arith, omega arith, omega arith)
 
 pub first_offsets-at-requires : goal.first_offsets-at-requires
 first_offsets-at-requires c = c.requires.plan.same
@@ -33,9 +28,9 @@ loop-first-init c =
 pub block-block-requires : goal.block-block-requires
 block-block-requires c =
     let e = c in
-    let x = ends e in
+    let x = ends _ _ _ (c.end_of-until.ensures ∙ ap (λ (m : ℕ). min m (c.loop-first.first + 32)) (let g = c.args in c.how_many-many.ensures ∙ many_rows g.rows (length g.values.now) g.starts.now g.ends.now)) (rw (← (let g = c.args in c.how_many-many.ensures ∙ many_rows g.rows (length g.values.now) g.starts.now g.ends.now)) c.loop-first-test.true) in
     let y = e.loop-first.invariant.present-same in
-    blocks-can _ _ _ _ _ _ _ _ _ _ (e).requires e.loop-first.invariant e.end_of-until.result x.0 x.1 x.2 (omega arith)
+    blocks-can _ _ _ _ _ _ _ _ _ _ e.requires e.loop-first.invariant e.end_of-until.result x.0 x.1 x.2 (omega arith)
 
 pub slice_bounds-finish-end-in-loop-first-3 : goal.slice_bounds-finish-end-in-loop-first-3
 slice_bounds-finish-end-in-loop-first-3 c = sym c.loop-first.invariant.roots_long
@@ -43,23 +38,23 @@ slice_bounds-finish-end-in-loop-first-3 c = sym c.loop-first.invariant.roots_lon
 pub offset_bounds-figures-first : goal.offset_bounds-figures-first
 offset_bounds-figures-first c =
     let e = c in
-    let x = ends e in
-    let y = e.loop-first.inv.figures_same in
-    let z = (e).pre.outputs_fit in
-    omega (arith, (e).good)
+    let x = ends _ _ _ (c.end_of-until.ensures ∙ ap (λ (m : ℕ). min m (c.loop-first.first + 32)) (let g = c.args in c.how_many-many.ensures ∙ many_rows g.rows (length g.values.now) g.starts.now g.ends.now)) (rw (← (let g = c.args in c.how_many-many.ensures ∙ many_rows g.rows (length g.values.now) g.starts.now g.ends.now)) c.loop-first-test.true) in
+    let y = e.loop-first.invariant.figures_same in
+    let z = e.requires.outputs_fit in
+    omega arith
 
 pub slice_bounds-finish-count : goal.slice_bounds-finish-count
-slice_bounds-finish-count c = (ends (goal.at.slice_bounds-finish-count c).After-end_of-until).0
+slice_bounds-finish-count c = (ends _ _ _ (c.end_of-until.ensures ∙ ap (λ (m : ℕ). min m (c.loop-first.first + 32)) (let g = c.args in c.how_many-many.ensures ∙ many_rows g.rows (length g.values.now) g.starts.now g.ends.now)) (rw (← (let g = c.args in c.how_many-many.ensures ∙ many_rows g.rows (length g.values.now) g.starts.now g.ends.now)) c.loop-first-test.true)).0
 
-pub OLD-slice-bounds-finish-start : goal.OLD-slice-bounds-finish-start
-OLD-slice-bounds-finish-start c = (ends c.before.before.before.before.before.before.before.before.before.before.before.before.before.before.before.before.before.before.before.before.before.before.before).0
+pub slice_bounds-finish-start : goal.slice_bounds-finish-start
+slice_bounds-finish-start c = (ends _ _ _ (c.end_of-until.ensures ∙ ap (λ (m : ℕ). min m (c.loop-first.first + 32)) (let g = c.args in c.how_many-many.ensures ∙ many_rows g.rows (length g.values.now) g.starts.now g.ends.now)) (rw (← (let g = c.args in c.how_many-many.ensures ∙ many_rows g.rows (length g.values.now) g.starts.now g.ends.now)) c.loop-first-test.true)).0
 
-pub OLD-slice-bounds-finish-end : goal.OLD-slice-bounds-finish-end
-OLD-slice-bounds-finish-end c =
-    let e = c.before.before.before.before.before.before.before.before.before.before.before.before.before.before.before.before.before.before.before.before.before.before.before in
-    let x = ends e in
-    let y = e.before.before.loop.inv.figures_same in
-    let z = (e).pre.outputs_fit in
+pub slice_bounds-finish-end-in-loop-first-4 : goal.slice_bounds-finish-end-in-loop-first-4
+slice_bounds-finish-end-in-loop-first-4 c =
+    let e = c in
+    let x = ends _ _ _ (c.end_of-until.ensures ∙ ap (λ (m : ℕ). min m (c.loop-first.first + 32)) (let g = c.args in c.how_many-many.ensures ∙ many_rows g.rows (length g.values.now) g.starts.now g.ends.now)) (rw (← (let g = c.args in c.how_many-many.ensures ∙ many_rows g.rows (length g.values.now) g.starts.now g.ends.now)) c.loop-first-test.true) in
+    let y = e.loop-first.invariant.figures_same in
+    let z = e.requires.outputs_fit in
     omega arith
 
 pub finish-requires : goal.finish-requires
@@ -68,25 +63,25 @@ finish-requires c =
     let v = c.block-block.ensures.slots in
     let u = e.end_of-until.result in
     let l = e.loop-first in
-    let x = ends e in
+    let x = ends _ _ _ (c.end_of-until.ensures ∙ ap (λ (m : ℕ). min m (c.loop-first.first + 32)) (let g = c.args in c.how_many-many.ensures ∙ many_rows g.rows (length g.values.now) g.starts.now g.ends.now)) (rw (← (let g = c.args in c.how_many-many.ensures ∙ many_rows g.rows (length g.values.now) g.starts.now g.ends.now)) c.loop-first-test.true) in
     let o : length (take (u - l.first) (drop l.first l.figures)) ≤ 32 = rw length-take (omega arith) in
     let a = v.m2s_long in
     let b = v.m3s_long in
     let d = v.factors_long in
-    let w = l.inv.roots_long in
+    let w = l.invariant.roots_long in
     record { m2s_long = omega arith; m3s_long = omega arith; factors_long = omega arith; roots_long = omega arith }
 
 pub loop-first-smaller : goal.loop-first-smaller
 loop-first-smaller c = let e = c in let x =
-    ends e in let h = e.loop-first-test.taken in omega arith
+    ends _ _ _ (c.end_of-until.ensures ∙ ap (λ (m : ℕ). min m (c.loop-first.first + 32)) (let g = c.args in c.how_many-many.ensures ∙ many_rows g.rows (length g.values.now) g.starts.now g.ends.now)) (rw (← (let g = c.args in c.how_many-many.ensures ∙ many_rows g.rows (length g.values.now) g.starts.now g.ends.now)) c.loop-first-test.true) in let h = e.loop-first-test.true in omega arith
 
 pub loop-first-preserved : goal.loop-first-preserved
 loop-first-preserved c =
     let e = c in
-    let x = ends e in
+    let x = ends _ _ _ (c.end_of-until.ensures ∙ ap (λ (m : ℕ). min m (c.loop-first.first + 32)) (let g = c.args in c.how_many-many.ensures ∙ many_rows g.rows (length g.values.now) g.starts.now g.ends.now)) (rw (← (let g = c.args in c.how_many-many.ensures ∙ many_rows g.rows (length g.values.now) g.starts.now g.ends.now)) c.loop-first-test.true) in
     let f = c.finish in
     let b = c.block-block in
-    blocks-next _ _ _ _ _ _ _ _ _ _ (e).pre e.loop-first.inv e.end_of-until.result x.0 x.1 x.2 (omega arith) b.ensures b.auto.1.1.1.1.1.1.1.0 b.auto.1.1.1.1.1.1.1.1.0 f.auto.1.1.1.1.0 f.ensures refl
+    blocks-next _ _ _ _ _ _ _ _ _ _ e.requires e.loop-first.invariant e.end_of-until.result x.0 x.1 x.2 (omega arith) b.ensures b.auto.work b.auto.present f.auto.roots f.ensures refl
 
 pub returns : goal.returns
 returns c =

@@ -7,11 +7,6 @@ use Rattle.window.proofs.Steps.{trim-flips, trim-empties, trim-keeps}
 use Rattle.rolling.specs.Code.Layouts.{skew_stored}
 use Rattle.rolling.proofs.skew.SkewMoment.trim.Goals as goal
 
--- the window without the places that leave
-trims : (a : goal.After-trimmed-trim) → let g = a.args in
-    Trims (places_by g.has_map g.map.now g.values.now) g.w.window g.start a.trimmed-trim.result.window a.trimmed-trim.result.flips
-trims a = let p = a.requires in a.trimmed-trim.ensures _ p.held.numbers p.starts a.tally_below-leaving.ensures
-
 pub tally_below-leaving-requires : goal.tally_below-leaving-requires
 tally_below-leaving-requires c = let p = c.requires in record { starts = p.starts; inside = p.start_in; counted = p.held.numbers }
 
@@ -24,10 +19,10 @@ pub flip-requires : goal.flip-requires
 flip-requires c = c.requires.flippable
 
 pub returns-then-trim : goal.returns-then-trim
-returns-then-trim c = trim-flips skew_stored _ c.requires (trims (goal.at.returns-then-trim c).After-trimmed-trim) c.if-trim.true c.flip.ensures c.empty.ensures
+returns-then-trim c = trim-flips skew_stored _ c.requires (let p = c.requires in c.trimmed-trim.ensures _ p.held.numbers p.starts c.tally_below-leaving.ensures) c.if-trim.true c.flip.ensures c.empty.ensures
 
 pub returns-then-kept-eq0 : goal.returns-then-kept-eq0
-returns-then-kept-eq0 c = trim-empties skew_stored _ c.requires (trims (goal.at.returns-then-kept-eq0 c).After-trimmed-trim) c.if-trim.false c.if-kept-eq0.true c.empty-then-kept-eq0.ensures
+returns-then-kept-eq0 c = trim-empties skew_stored _ c.requires (let p = c.requires in c.trimmed-trim.ensures _ p.held.numbers p.starts c.tally_below-leaving.ensures) c.if-trim.false c.if-kept-eq0.true c.empty-then-kept-eq0.ensures
 
 pub returns : goal.returns
-returns c = trim-keeps skew_stored _ c.requires (trims (goal.at.returns c).After-trimmed-trim) c.if-trim.false c.if-kept-eq0.false
+returns c = trim-keeps skew_stored _ c.requires (let p = c.requires in c.trimmed-trim.ensures _ p.held.numbers p.starts c.tally_below-leaving.ensures) c.if-trim.false c.if-kept-eq0.false

@@ -6,11 +6,6 @@ use Rattle.rolling.specs.Code.Rows.{plan_by}
 use Rattle.rolling.proofs.RowLoops.{many_rows, rows-can, rows-kept, rows-columns}
 use Rattle.rolling.proofs.variance.VarianceMoment.rows.Goals as goal
 
--- the block is worked up to the last row
-until-is : (c : goal.After-how_many-until) → let g = (c).args in
-    c.how_many-until.result ≡ rows (plan_by g.rows (length g.values.now) g.starts.now g.ends.now)
-until-is c = let g = (c).args in c.how_many-until.ensures ∙ many_rows g.rows (length g.values.now) g.starts.now g.ends.now
-
 pub first_offsets-at-requires : goal.first_offsets-at-requires
 first_offsets-at-requires c =
     c.requires.plan.same
@@ -19,7 +14,7 @@ pub block-requires : goal.block-requires
 block-requires c =
     let h = c in
     let k = h in
-    rows-can var_stored _ _ _ _ _ (h).requires k.empty_at.ensures k.empty.ensures (until-is h)
+    rows-can var_stored _ _ _ _ _ h.requires k.empty_at.ensures k.empty.ensures (let g = h.args in h.how_many-until.ensures ∙ many_rows g.rows (length g.values.now) g.starts.now g.ends.now)
     h.first_offsets-at.ensures
 
 pub returns : goal.returns
@@ -29,6 +24,6 @@ returns c =
     let v = b.block.ensures in
     record {
       fits = record { answers = refl; counts = refl };
-      written = record { answers_are = rows-columns var_stored _ _ _ _ _ (h).requires _ (until-is h) v (le_refl _); counts_are = refl };
-      work_kept = rows-kept var_stored _ _ _ _ _ (h).requires v.worked;
+      written = record { answers_are = rows-columns var_stored _ _ _ _ _ h.requires _ (let g = h.args in h.how_many-until.ensures ∙ many_rows g.rows (length g.values.now) g.starts.now g.ends.now) v (le_refl _); counts_are = refl };
+      work_kept = rows-kept var_stored _ _ _ _ _ h.requires v.worked;
     }

@@ -1,0 +1,7 @@
+-- What the demands say of the call. Assumes nothing.
+use borrow.Author.Rules.{rules}
+use Rattle.demands.proofs.Demanded.{kurtosis_meets}
+use Rattle.demands.proofs.arrays.kurtosis.Goals as goal
+
+pub returns : goal.returns
+returns c = kurtosis_meets c.moments_kurtosis.ensures

@@ -1,0 +1,7 @@
+-- What the demands say of the call. Assumes nothing.
+use borrow.Author.Rules.{rules}
+use Rattle.demands.proofs.Demanded.{skew_meets}
+use Rattle.demands.proofs.arrays.skew.Goals as goal
+
+pub returns : goal.returns
+returns c = skew_meets c.moments_skew.ensures

@@ -1,0 +1,7 @@
+-- What the demands say of each call, and the law of maps of both. Assumes nothing.
+use borrow.Author.Rules.{rules}
+use Rattle.demands.proofs.Demanded.{two-cov-meet}
+use Rattle.demands.proofs.arrays.two_cov.Goals as goal
+
+pub returns : goal.returns
+returns c = two-cov-meet c.moments_cov-first.ensures c.moments_cov-second.ensures

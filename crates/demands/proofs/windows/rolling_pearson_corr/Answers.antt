@@ -1,0 +1,8 @@
+-- What the demands say of the call. Assumes nothing.
+use native.Mathlib.Omega.{arith}
+use borrow.Author.Rules.{rules}
+use Rattle.demands.proofs.Demanded.{fixed-meets}
+use Rattle.demands.proofs.windows.rolling_pearson_corr.Goals as goal
+
+pub returns : goal.returns
+returns c = fixed-meets c.moments_rolling_pearson_corr.ensures (omega arith) tt

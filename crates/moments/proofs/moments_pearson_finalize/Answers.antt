@@ -1,0 +1,7 @@
+-- The canonical pattern is the same float. Assumes nothing.
+use borrow.Author.Rules.{rules}
+use mathlib.Core.Path.{◌∙◌}
+use Rattle.moments.proofs.moments_pearson_finalize.Goals as goal
+
+pub returns : goal.returns
+returns c = c.canonical.ensures ∙ c.finalize.ensures

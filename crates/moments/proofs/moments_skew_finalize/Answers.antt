@@ -1,0 +1,6 @@
+-- The figure is written as it is. Assumes nothing.
+use borrow.Author.Rules.{rules}
+use Rattle.moments.proofs.moments_skew_finalize.Goals as goal
+
+pub returns : goal.returns
+returns c = rw (← c.finalize.ensures) c.store_figure.ensures

@@ -1,0 +1,6 @@
+-- The answer is handed out as it is. Assumes nothing.
+use borrow.Author.Rules.{rules}
+use Rattle.moments.proofs.moments_skew_range.Goals as goal
+
+pub returns : goal.returns
+returns c = rw (← c.from_array.ensures) c.store_skew.ensures
