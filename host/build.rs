@@ -1,4 +1,4 @@
-//! Finds the archive libmoments.a, or has `rt staticlib moments` make it, which proves the library first.
+//! Finds the archive libmoments.a, or has `tools/archive.sh` make it, which proves the library first.
 //!
 //! `MOMENTS_LIB_DIR`, where it is set, names the folder that holds the archive, from this crate's own if it is relative. Otherwise an archive
 //! at the repository's root is taken if nothing of its crates is younger, and else made there: some five minutes from nothing, half a
@@ -24,16 +24,16 @@ fn youngest(path: &Path) -> io::Result<SystemTime> {
     Ok(time)
 }
 
-/// What `rt staticlib moments` prints is shown only where it fails.
+/// What `tools/archive.sh` prints is shown only where it fails.
 fn make(root: &Path) {
-    match Command::new("rt").args(["staticlib", "moments"]).current_dir(root).output() {
+    match Command::new("bash").arg("tools/archive.sh").current_dir(root).output() {
         Ok(out) if out.status.success() => {}
         Ok(out) => {
             eprint!("{}{}", String::from_utf8_lossy(&out.stdout), String::from_utf8_lossy(&out.stderr));
-            fail("`rt staticlib moments` failed")
+            fail("tools/archive.sh failed")
         }
         Err(e) => fail(&format!(
-            "`rt staticlib moments` cannot be run ({e}): put the Rattle kit on the PATH, or name the folder of a libmoments.a in MOMENTS_LIB_DIR"
+            "tools/archive.sh cannot be run ({e}): it needs bash and the Rattle kit on the PATH; or name the folder of a libmoments.a in MOMENTS_LIB_DIR"
         )),
     }
 }

@@ -91,7 +91,7 @@ def known(name, before, words):
     """Whether a name that is no edit exists: `before` is the last whole name, `words` what stands between."""
     if name in SOURCE or name in WORDS or re.match(r"(rt|cargo|bench) ", name):
         return True
-    if found := re.fullmatch(r"(\w+) ([A-Z]\w*)(?:\.([\w-]+))?(?:\.([\w-]+))?", name):
+    if found := re.fullmatch(r"(\w+) ([A-Z]\w*)(?:\.([\w◌-]+))?(?:\.([\w-]+))?", name):
         return in_specs(*found.groups())
     if re.fullmatch(r"_\w*[^\W_]", name):
         ends = [name] if words.endswith(" end in ") else [before[:i] + name for i in range(1, len(before) + 1)]

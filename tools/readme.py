@@ -5,7 +5,7 @@ The blocks are put one after another into the main of a program in a throw-away 
 interpreted and compiled. A comment `// number 0, figures 2.0, 2.0, 0.0: ..` becomes a check of each value that it names, and
 `let figure = ..; // Figure::Present(2.0)` of the figure. Usage: readme.py, in the repository. Exit 1 where it fails.
 """
-import os, re, subprocess, sys, tempfile
+import os, re, shutil, subprocess, sys, tempfile
 
 blocks = re.findall(r"^```rattle\n(.*?)^```", open("README.md", encoding="utf-8").read(), re.M | re.S)
 body, checks = "", 0
@@ -28,12 +28,12 @@ if not checks:
 with tempfile.TemporaryDirectory() as room:
     os.makedirs(f"{room}/crates/readme/src")
     for crate in os.listdir("crates"):
-        os.symlink(os.path.abspath(f"crates/{crate}"), f"{room}/crates/{crate}")
+        shutil.copytree(f"crates/{crate}", f"{room}/crates/{crate}", ignore=shutil.ignore_patterns("out", "data", "must-fail"))
     with open(f"{room}/crates.txt", "w") as out:
         out.write(open("crates.txt").read() + "readme: rolling moment check\n")
     with open(f"{room}/crates/readme/src/main.rt", "w") as out:
         out.write(f"use moment::{{Figure, VarState}};\n\nfn main() {{\n{body}}}\n")
-    run = subprocess.run(["rt", "try", "readme"], cwd=room, capture_output=True, text=True)
+    run = subprocess.run(["rt", "try"], cwd=f"{room}/crates/readme", capture_output=True, text=True)
     if run.returncode:
         print(open(f"{room}/crates/readme/src/main.rt").read(), run.stdout, run.stderr, "readme.py: the README's Rattle example fails", sep="\n")
         sys.exit(1)

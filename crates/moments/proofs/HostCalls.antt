@@ -1,7 +1,7 @@
 -- A host call is the plan call on what is decoded: its own check has the plan call's number but for the list of readings, and what is
 -- decoded is the trace. Assumes nothing.
 use Prim.Native.Nat.{ℕ, ◌/◌, ◌%◌, ◌≤◌, min}
-use mathlib.Core.Path.{◌≡◌, refl, sym, ap, ◌∙◌, subst}
+use mathlib.Core.Path.{◌≡◌, sym, ap, ◌∙◌, subst}
 use mathlib.Core.Bool.{Bool, true, false, not, ◌||◌}
 use mathlib.Core.List.{List, ◌++◌}
 use native.Mathlib.Omega.{arith}

@@ -6,7 +6,6 @@ use Rattle.float.specs.Bytes.{reading_at}
 use Rattle.trace.specs.Slices.{Slice, MutSlice, entering, entering_mut, leaving}
 use Rattle.trace.specs.Trace.{Trace, trace_of}
 use Rattle.trace.specs.Refusals.{refusal, ◌or_else◌}
-use Rattle.window.specs.Pairs.{TracePair}
 use Rattle.window.specs.Given.{Kind, Readings, Pairs, Given}
 use Rattle.window.specs.Outputs.{Lent, filled}
 use Rattle.rolling.specs.Moments.{kind_of}

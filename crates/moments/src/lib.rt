@@ -1,5 +1,6 @@
-// The library's face to other languages: each entry of docs/ABI.md, with the whole contract of what stands behind it. Nothing is
-// required of a caller. A figure that is NaN has the bits 7FF8000000000000; a member of a state may be any NaN.
+// The library's face to other languages: each entry of docs/ABI.md, with the whole contract of what stands behind it; the crate
+// `moments_c` gives them their names for C. Nothing is required of a caller. A figure that is NaN has the bits 7FF8000000000000; a
+// member of a state may be any NaN.
 #![tactic(auto)]
 
 ghost use Rattle.std.specs.Prelude.{◌≡◌};
@@ -31,8 +32,7 @@ use rolling::{CovMoment, KurtosisMoment, PearsonMoment, SkewMoment, VarianceMome
 
 // Plans: the trace as little-endian bytes, decoded into `readings`; 0, or the number of the first refusal and every list as it
 // was. Nothing is decoded before every number is known, and the plan call then checks once more: one pass without branches.
-#[unsafe(no_mangle)]
-pub extern "C" fn moments_plan_var(
+pub fn moments_plan_var(
     trace: &[u8],
     readings: &mut [f64],
     has_map: bool,
@@ -96,8 +96,7 @@ pub extern "C" fn moments_plan_var(
     )
 }
 
-#[unsafe(no_mangle)]
-pub extern "C" fn moments_plan_skew(
+pub fn moments_plan_skew(
     trace: &[u8],
     readings: &mut [f64],
     has_map: bool,
@@ -145,8 +144,7 @@ pub extern "C" fn moments_plan_skew(
     )
 }
 
-#[unsafe(no_mangle)]
-pub extern "C" fn moments_plan_kurtosis(
+pub fn moments_plan_kurtosis(
     trace: &[u8],
     readings: &mut [f64],
     has_map: bool,
@@ -197,8 +195,7 @@ pub extern "C" fn moments_plan_kurtosis(
 }
 
 // Two traces as bytes, each decoded into its own list; the numbers go by their order, not trace by trace.
-#[unsafe(no_mangle)]
-pub extern "C" fn moments_plan_cov(
+pub fn moments_plan_cov(
     x: &[u8],
     x_readings: &mut [f64],
     x_has_map: bool,
@@ -259,8 +256,7 @@ pub extern "C" fn moments_plan_cov(
     )
 }
 
-#[unsafe(no_mangle)]
-pub extern "C" fn moments_plan_pearson_corr(
+pub fn moments_plan_pearson_corr(
     x: &[u8],
     x_readings: &mut [f64],
     x_has_map: bool,
@@ -320,8 +316,7 @@ pub extern "C" fn moments_plan_pearson_corr(
 }
 
 // Fixed windows and weights: the trace as doubles; 0, or the number of the first refusal and every list as it was.
-#[unsafe(no_mangle)]
-pub extern "C" fn moments_rolling_var(
+pub fn moments_rolling_var(
     trace: &[f64],
     has_map: bool,
     map: &[u8],
@@ -358,8 +353,7 @@ pub extern "C" fn moments_rolling_var(
     )
 }
 
-#[unsafe(no_mangle)]
-pub extern "C" fn moments_rolling_skew(
+pub fn moments_rolling_skew(
     trace: &[f64],
     has_map: bool,
     map: &[u8],
@@ -388,8 +382,7 @@ pub extern "C" fn moments_rolling_skew(
     )
 }
 
-#[unsafe(no_mangle)]
-pub extern "C" fn moments_rolling_kurtosis(
+pub fn moments_rolling_kurtosis(
     trace: &[f64],
     has_map: bool,
     map: &[u8],
@@ -420,8 +413,7 @@ pub extern "C" fn moments_rolling_kurtosis(
     )
 }
 
-#[unsafe(no_mangle)]
-pub extern "C" fn moments_rolling_cov(
+pub fn moments_rolling_cov(
     x: &[f64],
     x_has_map: bool,
     x_map: &[u8],
@@ -456,8 +448,7 @@ pub extern "C" fn moments_rolling_cov(
     )
 }
 
-#[unsafe(no_mangle)]
-pub extern "C" fn moments_rolling_pearson_corr(
+pub fn moments_rolling_pearson_corr(
     x: &[f64],
     x_has_map: bool,
     x_map: &[u8],
@@ -490,8 +481,7 @@ pub extern "C" fn moments_rolling_pearson_corr(
     )
 }
 
-#[unsafe(no_mangle)]
-pub extern "C" fn moments_rolling_var_weights(
+pub fn moments_rolling_var_weights(
     trace: &[f64],
     has_map: bool,
     map: &[u8],
@@ -531,8 +521,7 @@ fn store_var(answer: VarAnswer, state: &mut [f64; 3]) -> u32
     }
 }
 
-#[unsafe(no_mangle)]
-pub extern "C" fn moments_var(trace: &[f64], has_map: bool, map: &[u8], state: &mut [f64; 3]) -> u32
+pub fn moments_var(trace: &[f64], has_map: bool, map: &[u8], state: &mut [f64; 3]) -> u32
     ensures { StateResult var_number var_members (var_answer trace.now has_map map.now)
         state.old result state.new }
 {
@@ -551,8 +540,7 @@ fn store_skew(answer: SkewAnswer, state: &mut [f64; 4]) -> u32
     }
 }
 
-#[unsafe(no_mangle)]
-pub extern "C" fn moments_skew(
+pub fn moments_skew(
     trace: &[f64],
     has_map: bool,
     map: &[u8],
@@ -564,8 +552,7 @@ pub extern "C" fn moments_skew(
     store_skew(moment::skew(trace, has_map, map), state)
 }
 
-#[unsafe(no_mangle)]
-pub extern "C" fn moments_skew_range(
+pub fn moments_skew_range(
     trace: &[f64],
     has_map: bool,
     map: &[u8],
@@ -594,8 +581,7 @@ fn store_kurtosis(answer: KurtosisAnswer, state: &mut [f64; 5]) -> u32
     }
 }
 
-#[unsafe(no_mangle)]
-pub extern "C" fn moments_kurtosis(
+pub fn moments_kurtosis(
     trace: &[f64],
     has_map: bool,
     map: &[u8],
@@ -607,8 +593,7 @@ pub extern "C" fn moments_kurtosis(
     store_kurtosis(moment::kurtosis(trace, has_map, map), state)
 }
 
-#[unsafe(no_mangle)]
-pub extern "C" fn moments_kurtosis_range(
+pub fn moments_kurtosis_range(
     trace: &[f64],
     has_map: bool,
     map: &[u8],
@@ -637,8 +622,7 @@ fn store_cov(answer: CovAnswer, state: &mut [f64; 4]) -> u32
     }
 }
 
-#[unsafe(no_mangle)]
-pub extern "C" fn moments_cov(
+pub fn moments_cov(
     x: &[f64],
     x_has_map: bool,
     x_map: &[u8],
@@ -665,8 +649,7 @@ fn store_pearson(answer: PearsonAnswer, state: &mut [f64; 6]) -> u32
     }
 }
 
-#[unsafe(no_mangle)]
-pub extern "C" fn moments_pearson_corr(
+pub fn moments_pearson_corr(
     x: &[f64],
     x_has_map: bool,
     x_map: &[u8],
@@ -685,57 +668,49 @@ pub extern "C" fn moments_pearson_corr(
 }
 
 // States.
-#[unsafe(no_mangle)]
-pub extern "C" fn moments_var_insert_one(state: VarState, x: f64) -> VarState
+pub fn moments_var_insert_one(state: VarState, x: f64) -> VarState
     ensures { result ≡ var_insert state x }
 {
     VarState::insert_one(state, x)
 }
 
-#[unsafe(no_mangle)]
-pub extern "C" fn moments_skew_insert_one(state: SkewState, x: f64) -> SkewState
+pub fn moments_skew_insert_one(state: SkewState, x: f64) -> SkewState
     ensures { result ≡ skew_insert state x }
 {
     SkewState::insert_one(state, x)
 }
 
-#[unsafe(no_mangle)]
-pub extern "C" fn moments_kurtosis_insert_one(state: KurtosisState, x: f64) -> KurtosisState
+pub fn moments_kurtosis_insert_one(state: KurtosisState, x: f64) -> KurtosisState
     ensures { result ≡ kurtosis_insert state x }
 {
     KurtosisState::insert_one(state, x)
 }
 
-#[unsafe(no_mangle)]
-pub extern "C" fn moments_cov_insert_one(state: CovState, x: f64, y: f64) -> CovState
+pub fn moments_cov_insert_one(state: CovState, x: f64, y: f64) -> CovState
     ensures { result ≡ cov_insert state x y }
 {
     CovState::insert_one(state, x, y)
 }
 
-#[unsafe(no_mangle)]
-pub extern "C" fn moments_pearson_insert_one(state: PearsonState, x: f64, y: f64) -> PearsonState
+pub fn moments_pearson_insert_one(state: PearsonState, x: f64, y: f64) -> PearsonState
     ensures { result ≡ pearson_insert state x y }
 {
     PearsonState::insert_one(state, x, y)
 }
 
-#[unsafe(no_mangle)]
-pub extern "C" fn moments_var_combine(state: VarState, other: VarState) -> VarState
+pub fn moments_var_combine(state: VarState, other: VarState) -> VarState
     ensures { result ≡ var_combine state other }
 {
     VarState::combine(state, other)
 }
 
-#[unsafe(no_mangle)]
-pub extern "C" fn moments_skew_combine(state: SkewState, other: SkewState) -> SkewState
+pub fn moments_skew_combine(state: SkewState, other: SkewState) -> SkewState
     ensures { result ≡ skew_combine state other }
 {
     SkewState::combine(state, other)
 }
 
-#[unsafe(no_mangle)]
-pub extern "C" fn moments_kurtosis_combine(
+pub fn moments_kurtosis_combine(
     state: KurtosisState,
     other: KurtosisState,
 ) -> KurtosisState
@@ -744,15 +719,13 @@ pub extern "C" fn moments_kurtosis_combine(
     KurtosisState::combine(state, other)
 }
 
-#[unsafe(no_mangle)]
-pub extern "C" fn moments_cov_combine(state: CovState, other: CovState) -> CovState
+pub fn moments_cov_combine(state: CovState, other: CovState) -> CovState
     ensures { result ≡ cov_combine state other }
 {
     CovState::combine(state, other)
 }
 
-#[unsafe(no_mangle)]
-pub extern "C" fn moments_pearson_combine(state: PearsonState, other: PearsonState) -> PearsonState
+pub fn moments_pearson_combine(state: PearsonState, other: PearsonState) -> PearsonState
     ensures { result ≡ pearson_combine state other }
 {
     PearsonState::combine(state, other)
@@ -770,29 +743,25 @@ fn store_figure(answer: Figure, figure: &mut f64) -> u8
     1
 }
 
-#[unsafe(no_mangle)]
-pub extern "C" fn moments_var_finalize(state: VarState, ddof: u8, figure: &mut f64) -> u8
+pub fn moments_var_finalize(state: VarState, ddof: u8, figure: &mut f64) -> u8
     ensures { FigureResult (var_finalize state ddof) result figure.new }
 {
     store_figure(VarState::finalize(state, ddof), figure)
 }
 
-#[unsafe(no_mangle)]
-pub extern "C" fn moments_cov_finalize(state: CovState, ddof: u8, figure: &mut f64) -> u8
+pub fn moments_cov_finalize(state: CovState, ddof: u8, figure: &mut f64) -> u8
     ensures { FigureResult (cov_finalize state ddof) result figure.new }
 {
     store_figure(CovState::finalize(state, ddof), figure)
 }
 
-#[unsafe(no_mangle)]
-pub extern "C" fn moments_skew_finalize(state: SkewState, bias: bool, figure: &mut f64) -> u8
+pub fn moments_skew_finalize(state: SkewState, bias: bool, figure: &mut f64) -> u8
     ensures { FigureResult (skew_finalize state bias) result figure.new }
 {
     store_figure(SkewState::finalize(state, bias), figure)
 }
 
-#[unsafe(no_mangle)]
-pub extern "C" fn moments_kurtosis_finalize(
+pub fn moments_kurtosis_finalize(
     state: KurtosisState,
     fisher: bool,
     bias: bool,
@@ -803,15 +772,13 @@ pub extern "C" fn moments_kurtosis_finalize(
     store_figure(KurtosisState::finalize(state, fisher, bias), figure)
 }
 
-#[unsafe(no_mangle)]
-pub extern "C" fn moments_pearson_finalize(state: PearsonState) -> f64
+pub fn moments_pearson_finalize(state: PearsonState) -> f64
     ensures { result ≡ pearson_finalize state }
 {
     float::canonical(PearsonState::finalize(state))
 }
 
-#[unsafe(no_mangle)]
-pub extern "C" fn moments_root(x: f64) -> f64
+pub fn moments_root(x: f64) -> f64
     ensures { result ≡ root_of x }
 {
     float::canonical(root::root(x))

@@ -1,5 +1,5 @@
 -- The check of a call, as it is put together: over any number of what is given, any outputs, any need of work. Assumes nothing.
-use Rattle.std.proofs.Common.{◌≡◌, ℕ, zero, suc, ◌+◌, ◌-◌, ◌*◌, ◌/◌, ◌<◌, ◌≤◌, min, Bool, true, false, ◌||◌, eqb, ltb, length, sym, refl, ap, ◌∙◌, subst, div-lt_iff_lt-mul, le-div_iff_mul-le, zero-mul, arith, lit≤, ltb-false, ltb-true, le-ltb, eq-eqb, ne_eqb, eqb-true}
+use Rattle.std.proofs.Common.{◌≡◌, ℕ, zero, suc, ◌*◌, ◌/◌, ◌<◌, ◌≤◌, min, Bool, true, false, ◌||◌, eqb, ltb, length, sym, refl, ◌∙◌, div-lt_iff_lt-mul, le-div_iff_mul-le, zero-mul, arith, lit≤, ltb-false, ltb-true, le-ltb, eq-eqb, ne_eqb, eqb-true}
 use borrow.Author.Tests.{eqb-false, not-false}
 use Rattle.trace.specs.Refusals.{refusal, ◌or_else◌}
 use Rattle.trace.proofs.Accepted.{none_of, not_refused_lem}

@@ -1,7 +1,6 @@
 -- An accepted plan is in order: its rows lie in the series and rise, and none is wider than the widest. The first refusal of the
 -- rows is found by testing them in turn. Assumes nothing.
-use Rattle.std.proofs.Common.{◌≡◌, ℕ, zero, suc, ◌+◌, ◌-◌, ◌*◌, ◌<◌, ◌≤◌, max, Bool, true, false, ◌||◌, eqb, ltb, List, length, get_or, sym, refl, ap, ◌∙◌, subst, le_trans, le_refl, add-zero, add-suc, mul-le-mul_right, mul-le-mul_left, add-one, arith, lit≤, ltb-false, le-ltb, eq-eqb, ne_eqb, eqb-true}
-use borrow.Author.Tests.{eqb-false, not-false}
+use Rattle.std.proofs.Common.{◌≡◌, ℕ, zero, suc, ◌+◌, ◌-◌, ◌<◌, ◌≤◌, max, Bool, true, false, ◌||◌, ltb, List, length, get_or, sym, refl, ap, ◌∙◌, subst, le_trans, le_refl, add-zero, add-suc, add-one, arith, lit≤, ltb-false, le-ltb, eq-eqb, ne_eqb}
 use Rattle.trace.specs.Refusals.{refusal, ◌or_else◌}
 use Rattle.trace.proofs.Accepted.{none_of, not_refused_lem}
 use Rattle.float.proofs.Cases.{apart, Or, here, there, order}

@@ -9,7 +9,7 @@ use lib.ListN.{length, take}
 use lib.Ieee.{Float}
 use borrow.Author.Tests.{ltb-false}
 use Rattle.trace.specs.Trace.{Trace, bytes_for}
-use Rattle.trace.specs.Refusals.{refusal, ◌or_else◌, too_many, wrong_map, trace_refusal}
+use Rattle.trace.specs.Refusals.{refusal, too_many, wrong_map, trace_refusal}
 use Rattle.trace.proofs.Accepted.{none_of, not_refused_lem}
 use Rattle.plan.specs.Plan.{Plan, rows}
 use Rattle.plan.specs.Code.Accepted.{Planned}

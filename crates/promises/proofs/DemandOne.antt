@@ -1,6 +1,6 @@
 -- Demand 1: the numbers of our definitions are put together by 'or else', as the checks are by 'then'. What a list of checks says of a
 -- number is kept by both, so each kind of call is its checks one after another. Assumes nothing.
-use Prim.Native.Nat.{ℕ, zero, suc, ◌+◌, ◌<◌, min}
+use Prim.Native.Nat.{ℕ, zero, suc, ◌<◌, min}
 use mathlib.Core.Path.{◌≡◌, refl, sym, ap, ◌∙◌, subst}
 use mathlib.Core.Bool.{Bool, true, false, cond, not, ◌||◌}
 use mathlib.Core.List.{List, [], ◌∷◌, ◌++◌}
@@ -27,11 +27,11 @@ use Rattle.moment.specs.Arrays.{skew_whole, skew_number, skew_members, kurtosis_
 use Rattle.plan.specs.Plan.{Plan, rows, row_start, row_end}
 use Rattle.plan.specs.Refusals.{row_refusal, before, rows_refusal, needed, plan_refusal, fixed_refusal}
 use Rattle.plan.proofs.Checks.{below_min}
-use Rattle.window.specs.Given.{Kind, Readings, Pairs, Given, series_of, places_of, given_refusal}
+use Rattle.window.specs.Given.{Kind, Readings, Pairs, Given, places_of, given_refusal}
 use Rattle.window.specs.Outputs.{Column, Outputs, Lent, answer_lengths, count_lengths, shortest, shortest_of, shortest_output, column_after}
 use Rattle.window.specs.Outputs.{kept}
 use Rattle.window.proofs.Outputs.{unfilled, column-is, answered_refused, numbered_refused}
-use Rattle.rolling.specs.Moments.{Statistic, Variance, Skewness, Kurtosis, Covariance, Correlation, kind_of, moment_of, finals_of, work_width}
+use Rattle.rolling.specs.Moments.{Statistic, Variance, Skewness, Kurtosis, Covariance, Correlation, kind_of, work_width}
 use Rattle.rolling.specs.Calls.{Query, query, GivenTo, yields, tallies, Left, Called}
 use Rattle.rolling.specs.Fixed.{fixed_query, CalledFixed}
 use Rattle.weighted.specs.Weights.{weighted_at, weights_refusal, CalledWeights}

@@ -3,7 +3,6 @@
 use Prim.Native.Nat.{ℕ, ◌<◌}
 use mathlib.Core.Path.{◌≡◌, refl}
 use mathlib.Core.Bool.{true}
-use mathlib.Core.List.{[]}
 use mathlib.Core.Logic.{◌⊎◌, inl}
 use lib.Ieee.{Float, is_nan, le}
 use lib.Ieee.Bits.{is_true}

@@ -1,7 +1,7 @@
 -- The lowest and highest reading, computed: calls with every list written out, and each hypothesis of the statement met. Assumes nothing.
-use Prim.Native.Nat.{ℕ, ◌≤◌, ◌<◌}
+use Prim.Native.Nat.{ℕ}
 use mathlib.Core.Path.{◌≡◌, refl}
-use mathlib.Core.Bool.{Bool, true, false, cond}
+use mathlib.Core.Bool.{true, false}
 use mathlib.Core.List.{List, [], ◌∷◌}
 use native.Mathlib.Omega.{arith}
 use lib.IntN.{negsuc}
@@ -17,10 +17,10 @@ use Rattle.window.specs.Places.{entries_from}
 use Rattle.window.specs.Window.{split_after, figure_of}
 use Rattle.window.specs.Readings.{inserted_at, nonfinite_at}
 use Rattle.window.specs.Rows.{answer_at}
-use Rattle.window.specs.Extremes.{lower, unsigned_zero, extreme, extreme_of}
-use Rattle.window.specs.Outputs.{Column, Lent, column, outputs_of, filled, kept, answers_in}
+use Rattle.window.specs.Extremes.{unsigned_zero, extreme, extreme_of}
+use Rattle.window.specs.Outputs.{Column, Lent, column, outputs_of, filled, kept}
 use Rattle.rolling.specs.Moments.{Variance}
-use Rattle.rolling.specs.Calls.{Query, query, Called}
+use Rattle.rolling.specs.Calls.{query, Called}
 use Rattle.promises.specs.Calls.{extremes_in, plan_call}
 use Rattle.promises.specs.LowestHighest.{FiniteIn, Short, ExtremesIn}
 use Rattle.promises.specs.Table.{variance_by, p7, trace7, p9, trace9}

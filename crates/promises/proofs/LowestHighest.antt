@@ -2,13 +2,12 @@
 -- calls' are the same by the law of two calls' rows. Assumes nothing.
 use Prim.Native.Nat.{ℕ, ◌-◌, ◌<◌}
 use mathlib.Core.Path.{◌≡◌, refl, sym, ap, ◌∙◌, subst}
-use mathlib.Core.Bool.{Bool, true, false, cond, not, ◌&&◌}
+use mathlib.Core.Bool.{Bool, true, false, cond, not}
 use mathlib.Core.List.Memᴰ
 use mathlib.Core.List.{List, [], ◌∷◌, foldl, Memᴰ}
 use mathlib.Core.Logic.{inl, inr, ⊎_elim}
 use native.Mathlib.Omega.{arith}
 use borrow.Author.Tests.{not-true, ltb-true, lt-ltb}
-use lib.Dec.{ltb}
 use lib.ListN.{length, drop}
 use lib.Ieee.{Float, inf}
 use lib.Ieee.Scale.{finite}
@@ -21,7 +20,7 @@ use Rattle.window.specs.Readings.{reading_of}
 use Rattle.window.specs.Extremes.{finite_at, finite_readings, lower, higher, further, unsigned_zero, extreme, short_row, extreme_of, extreme_at}
 use Rattle.window.specs.Given.{Given}
 use Rattle.window.specs.Outputs.{Lent, of_figure}
-use Rattle.window.proofs.Extremes.{Extreme, entry_place, place-entry, not-limit, fold-extreme, both, first_of, second-of}
+use Rattle.window.proofs.Extremes.{entry_place, place-entry, not-limit, fold-extreme, both, first_of, second-of}
 use Rattle.rolling.specs.Moments.{Statistic, Variance, Skewness, Kurtosis, Covariance, Correlation, kind_of, finals_of}
 use Rattle.rolling.specs.Calls.{query}
 use Rattle.promises.specs.Calls.{AcceptedCall}

@@ -4,7 +4,7 @@
 use Prim.Native.Nat.{ℕ, suc, ◌≤◌}
 use mathlib.Core.Path.{◌≡◌, refl, ap}
 use mathlib.Core.Bool.{true, false}
-use mathlib.Core.List.{List, [], ◌∷◌, map, zip, zip_with}
+use mathlib.Core.List.{List, [], ◌∷◌, zip, zip_with}
 use mathlib.Core.Logic.{◌⊎◌, inl, inr, ⊎_elim}
 use native.Mathlib.Omega.{arith}
 use lib.Ieee.{Float, binary64, of_bits, to_bits, of_int, add, sub, mul, div, eq}

@@ -4,7 +4,7 @@ use Prim.Native.Nat.{ℕ}
 use mathlib.Core.Path.{◌≡◌, refl, ap, ◌∙◌}
 use mathlib.Core.Bool.{Bool, true, false, cond}
 use mathlib.Core.List.{List, [], ◌∷◌, foldl, foldl-map, map, zip, zip_with}
-use lib.Dec.{eqb, eqb-suc-zero}
+use lib.Dec.{eqb-suc-zero}
 use lib.ListN.{length, length-map}
 use lib.Ieee.{Float}
 use Rattle.float.specs.Operators.{◌⊕◌, ◌⊗◌, ◌⊘◌, zero64, one64, of_nat64}
@@ -16,7 +16,7 @@ use Rattle.moment.specs.declared.skew_state.SkewState.{SkewState}
 use Rattle.moment.specs.declared.kurtosis_state.KurtosisState.{KurtosisState}
 use Rattle.moment.specs.Sums.{sum_of, first_of, second_of, square, cube, fourth, deviation_product}
 use Rattle.moment.specs.Var.{mean_of, var_new, var_clear, var_insert, var_combine, var_finalize}
-use Rattle.moment.specs.Cov.{pair_mean, cov_empty, cov_new, cov_insert, cov_combine, cov_finalize}
+use Rattle.moment.specs.Cov.{cov_empty, cov_new, cov_insert, cov_combine, cov_finalize}
 use Rattle.moment.specs.Pearson.{square_x, square_y, pearson_empty, pearson_about, pearson_new, pearson_insert, pearson_combine, pearson_finalize}
 use Rattle.moment.specs.Skew.{skew_new, skew_clear, skew_insert, skew_combine, skew_biased, skew_finalize}
 use Rattle.moment.specs.Kurtosis.{kurtosis_new, kurtosis_clear, kurtosis_insert, kurtosis_combine, kurtosis_biased, kurtosis_finalize}

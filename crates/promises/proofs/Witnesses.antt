@@ -28,7 +28,7 @@ use Rattle.window.specs.Readings.{inserted_at, nonfinite_at, reading_of}
 use Rattle.window.specs.Given.{Readings, SameAt}
 use Rattle.window.specs.Rows.{answer_at}
 use Rattle.window.specs.Extremes.{lower, higher, extreme, extreme_of, extreme_at}
-use Rattle.window.specs.Outputs.{Column, Lent, column, outputs_of, filled, kept, column_after, answered, numbered, Answer, answers_in}
+use Rattle.window.specs.Outputs.{Column, Lent, column, outputs_of, filled, kept, column_after, answered, numbered, Answer}
 use Rattle.window.specs.Outputs.{answers_at}
 use Rattle.rolling.specs.Moments.{Variance, Skewness, Kurtosis, work_width}
 use Rattle.rolling.specs.Calls.{Query, query, GivenTo, figures_of, yields, tallies, Left, Called}

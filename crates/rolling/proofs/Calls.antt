@@ -1,8 +1,7 @@
 -- The ends of a call: a refusal leaves every list as it was, and an accepted call's rows are those of its plan. Assumes nothing.
-use Rattle.std.proofs.Common.{◌≡◌, ℕ, ◌-◌, ◌*◌, ◌≤◌, Bool, true, false, List, length, sym, refl, ap, ◌∙◌, subst, lit≤, ltb-false}
+use Rattle.std.proofs.Common.{◌≡◌, ℕ, ◌-◌, ◌≤◌, Bool, false, List, length, sym, refl, ◌∙◌, subst, lit≤, ltb-false}
 use Rattle.trace.proofs.Accepted.{none_of, not_refused_lem, pair_fits}
 use Rattle.plan.specs.Plan.{Plan, rows}
-use Rattle.plan.specs.Bounds.{bounds}
 use Rattle.plan.specs.Refusals.{needed, plan_refusal, fixed_refusal}
 use Rattle.plan.specs.Code.Accepted.{Accepted}
 use Rattle.plan.specs.Code.Reaching.{right_of, reaching}

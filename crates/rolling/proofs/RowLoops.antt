@@ -1,6 +1,6 @@
 -- The loops over rows, for any moment and any kind of entry: a row's bounds, its step and its answer go from row to row, and from the first row to
 -- the last they leave what a call leaves. Assumes nothing.
-use Rattle.std.proofs.Common.{◌≡◌, ℕ, ◌+◌, ◌-◌, ◌*◌, ◌^◌, ◌<◌, ◌≤◌, min, true, false, cond, List, [], ◌∷◌, length, sym, refl, ap, ◌∙◌, subst, le_refl, arith}
+use Rattle.std.proofs.Common.{◌≡◌, ℕ, ◌+◌, ◌*◌, ◌^◌, ◌<◌, ◌≤◌, min, true, false, cond, List, [], ◌∷◌, length, sym, refl, ◌∙◌, subst, le_refl, arith}
 use lib.Ieee.{Float}
 use Rattle.moment.specs.declared.Figure.{Figure}
 use Rattle.plan.specs.Plan.{Plan, rows, plan_of}

@@ -12,7 +12,6 @@ use native.Mathlib.Omega.{arith}
 use borrow.Author.Tests.{ltb-false}
 use lib.Ieee.{Float}
 use lib.Ieee.Scale.{finite}
-use Rattle.float.specs.Operators.{◌⊕◌, zero64}
 use Rattle.float.proofs.Cases.{apart, Or, here, there, order}
 use Rattle.float.proofs.Ordering.{Orders}
 use Rattle.moment.specs.declared.Figure.TheVariants.{Missing, Present}

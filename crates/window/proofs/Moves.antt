@@ -4,7 +4,7 @@ use Prim.Native.Nat.{ℕ, zero, suc, ◌+◌, ◌-◌, ◌*◌, ◌≤◌, ◌<�
 use mathlib.Core.Path.{◌≡◌, refl, sym, ap, ◌∙◌, subst}
 use mathlib.Core.Bool.{Bool, true, false, cond}
 use mathlib.Core.List.{List, [], ◌∷◌, ◌++◌, append_assoc, append-nil, foldl-append}
-use native.Mathlib.Nat.{mul-zero, mul-add, add-mul, add_assoc, mul-le-mul_left, le_trans}
+use native.Mathlib.Nat.{mul-zero, mul-add, add_assoc, mul-le-mul_left, le_trans}
 use native.Mathlib.Omega.{arith}
 use borrow.Author.Tests.{le-leb, lt-leb, leb-false, lt-ltb, le-ltb, ltb-true, ltb-false, eq-eqb, ne_eqb}
 use borrow.Rule.Slice.PartMut.{put_mid}
@@ -13,9 +13,9 @@ use lib.ListN.{length, take, drop, length-append, length-drop, length-take, drop
 use lib.Seq.{take_all, take-add, drop-drop, drop-append-add, take-take, take-append-le, take_at, drop_at}
 use Rattle.float.proofs.Cases.{apart, Or, here, there, order}
 use Rattle.window.specs.Places.{Places, Series, entries, valid_count, nonfinite_count}
-use Rattle.window.specs.Window.{Account, restarted, trimmed, extended, front, back, rising}
+use Rattle.window.specs.Window.{Account, restarted, trimmed, front, back, rising}
 use Rattle.window.specs.Code.Memory.{Stored, in_memory}
-use Rattle.window.specs.Code.Stacks.{front_stack, empty_at, grown, account, Counted, Trims, Held, Appended, Movable, Trimmable, Extendable, Appendable, Moves, Trimmed, Extended, Updated, base_of, place_width}
+use Rattle.window.specs.Code.Stacks.{front_stack, empty_at, grown, account, Counted, Trims, Held, Appended}
 use Rattle.window.specs.declared.Window.{Window}
 use Rattle.window.proofs.Places.{entries-self, entries-split, many-chosen, split-end, split-law, two-counts, stay-front, stay-back, flip-front, count-le, count-up, none-part}
 use Rattle.window.proofs.Stacks.{memory-length, memory-append, front_length, front-drop}

@@ -19,7 +19,7 @@ use Rattle.window.specs.Places.{Series, valid_count}
 use Rattle.window.specs.Window.{Account, front, moved, falling, or_nan, figure_of}
 use Rattle.window.specs.Rows.{moves, stepped, account_at, counted, answer_of, answer_at}
 use Rattle.window.specs.Code.Memory.{Stored, in_memory}
-use Rattle.window.specs.Code.Stacks.{front_stack, empty_at, account, Held, top_of, answer_by, Ready, Standing, base_of}
+use Rattle.window.specs.Code.Stacks.{front_stack, empty_at, account, Held, top_of, answer_by, Ready, Standing}
 use Rattle.window.specs.declared.Window.{Window}
 use Rattle.window.proofs.Places.{two-counts, entries-self}
 use Rattle.window.proofs.Stacks.{memory-append, front_length}

@@ -1,24 +1,23 @@
 -- The parts of a move and of a row as the code works them, each over any moment: where one may begin, the next may, and what each leaves.
 -- An engine cites one law for each of its facts. Assumes nothing.
-use Prim.Native.Nat.{ℕ, ◌+◌, ◌-◌, ◌*◌, ◌^◌, ◌≤◌, ◌<◌, max}
-use mathlib.Core.Path.{◌≡◌, refl, sym, ap, ◌∙◌, subst}
+use Prim.Native.Nat.{ℕ, ◌+◌, ◌-◌, ◌*◌, ◌^◌, ◌≤◌, ◌<◌}
+use mathlib.Core.Path.{◌≡◌, refl, ap, ◌∙◌, subst}
 use mathlib.Core.Bool.{Bool, true, false}
-use mathlib.Core.List.{List, ◌++◌}
-use native.Mathlib.Nat.{add-mul, mul-le-mul_left, le_trans}
+use mathlib.Core.List.{List}
+use native.Mathlib.Nat.{add-mul, mul-le-mul_left}
 use native.Mathlib.Omega.{arith}
 use borrow.Rule.Slice.PartMut.{put_mid}
 use lib.ListN.{length, take, drop}
-use lib.Seq.{drop-drop}
 use Rattle.moment.specs.declared.Figure.{Figure}
 use Rattle.plan.specs.Plan.{Plan, rows, row_start, row_end}
 use Rattle.window.specs.Places.{Series}
 use Rattle.window.specs.Window.{extended, back}
 use Rattle.window.specs.Rows.{moves, answer_at}
 use Rattle.window.specs.Code.Memory.{Stored}
-use Rattle.window.specs.Code.Stacks.{empty_at, grown, account, Trims, Held, Appended, answer_by, Movable, Flippable, Flipped, Trimmable, Extendable, Appendable, Trimmed, Extended, Updated, Stepped, Standing, Workable, Worked, base_of, place_width}
+use Rattle.window.specs.Code.Stacks.{grown, account, Trims, Held, Appended, answer_by, Movable, Flipped, Trimmable, Extendable, Appendable, Trimmed, Extended, Updated, Stepped, Workable, Worked, base_of, place_width}
 use Rattle.window.specs.declared.Window.{Window}
 use Rattle.window.proofs.Moves.{out-emptied, out-kept, out-flipped, in-fits, in_appended, held_counts, trimmed_ends, rest_both}
-use Rattle.window.proofs.Rows.{stand-start, stand-next, row-ready, row_fits, row_inside, row-answer}
+use Rattle.window.proofs.Rows.{stand-next, row-ready, row_fits, row_inside, row-answer}
 
 module _ {C A : Type 0} (M : Stored C A) (t : Series A) where
   -- ---- the places that leave

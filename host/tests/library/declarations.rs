@@ -5,7 +5,7 @@ use std::collections::BTreeMap;
 const RUST: &str = include_str!("../../src/abi.rs");
 const STATES: &str = include_str!("../../src/moment.rs");
 const DOCUMENT: &str = include_str!("../../../docs/ABI.md");
-const RATTLE: &str = include_str!("../../../crates/moments/src/lib.rt");
+const RATTLE: &str = include_str!("../../../crates/moments_c/src/lib.rt");
 const RATTLE_STATES: [(&str, &str); 5] = [
     ("VarState", include_str!("../../../crates/moment/src/var_state.rt")),
     ("CovState", include_str!("../../../crates/moment/src/cov_state.rt")),
@@ -153,8 +153,13 @@ fn every_entry_is_declared_as_documented_and_as_exported() {
 #[test]
 fn states_have_the_members_of_the_rattle_source_in_its_order() {
     for (state, source) in RATTLE_STATES {
-        let body =
-            source.split_once(&format!("#[repr(C)]\npub struct {state} {{")).expect(state).1.split_once('}').expect(state).0;
+        let body = source
+            .split_once(&format!("#[repr(C)]\n#[derive(Clone, Copy)]\npub struct {state} {{"))
+            .expect(state)
+            .1
+            .split_once('}')
+            .expect(state)
+            .0;
         let members: Vec<&str> =
             body.lines().filter_map(|line| line.trim().strip_prefix("pub ")?.strip_suffix(": f64,")).collect();
         let declared =

@@ -1,5 +1,4 @@
 -- Only a NaN differs from itself, and there is one NaN. Assumes nothing.
-use borrow.Author.Rules.{rules}
 use mathlib.Core.Path.{sym, subst, ◌∙◌}
 use lib.Dec.{T}
 use lib.Ieee.Compare.{differs_from_itself}

@@ -1,13 +1,10 @@
 -- One reading more of a table. Assumes nothing.
 use Prim.Native.Nat.{◌-◌, ◌≤◌}
-use mathlib.Core.Path.{◌≡◌, refl, ◌∙◌}
+use mathlib.Core.Path.{◌≡◌}
 use mathlib.Core.List.{◌++◌}
-use native.Mathlib.Omega.{arith}
-use borrow.Author.Rules.{rules}
-use lib.ListN.{length, drop, length-set}
+use lib.ListN.{length, drop}
 use Rattle.float.specs.Tables.{table}
-use Rattle.float.specs.Bytes.{reading_at, decoded_into}
-use Rattle.float.proofs.Tables.{table_more}
+use Rattle.float.specs.Bytes.{reading_at}
 use Rattle.float.proofs.decode.Given as goal
 
 abbrev pub invariant-loop-i : goal.invariant-loop-i

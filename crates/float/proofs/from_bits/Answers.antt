@@ -1,5 +1,4 @@
 -- A pattern above plus infinity's is a NaN's, and the language converts any other. Assumes nothing.
-use borrow.Author.Rules.{rules}
 use mathlib.Core.Path.{sym, ◌∙◌}
 use Rattle.float.proofs.Patterns.{pattern_nan, pattern_number}
 use Rattle.float.proofs.from_bits.Goals as goal

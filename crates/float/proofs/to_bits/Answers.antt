@@ -1,5 +1,4 @@
 -- A NaN, which alone differs from itself, gets the written pattern, and any other float its own bits. Assumes nothing.
-use borrow.Author.Rules.{rules}
 use mathlib.Core.Path.{◌≡◌, refl, sym, ap, ◌∙◌, subst}
 use lib.Dec.{T}
 use lib.Ieee.{nan, binary64, to_bits}

@@ -1,9 +1,9 @@
 -- Two chunks side by side (`Chunked`). Assumes nothing.
-use Rattle.std.proofs.Common.{ℕ, ◌-◌, Bool, length, sym, refl, ◌∙◌, arith, rules}
+use Rattle.std.proofs.Common.{◌-◌, length}
 use mathlib.Core.List.{zip}
 use Rattle.trace.specs.Trace.{both_at}
 use Rattle.moment.specs.Code.Filling.{Fillable}
-use Rattle.moment.proofs.Chunked.{cov_chunked, Reached, reached-start, both-next, both_end, x-part, y-part, in_both}
+use Rattle.moment.proofs.Chunked.{cov_chunked, Reached}
 use Rattle.moment.proofs.cov_chunks.Given as goal
 
 abbrev pub invariant-loop-place : goal.invariant-loop-place

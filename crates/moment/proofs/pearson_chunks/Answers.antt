@@ -1,9 +1,7 @@
 -- Two chunks side by side (`Chunked`). Assumes nothing.
-use Rattle.std.proofs.Common.{ℕ, ◌-◌, Bool, length, sym, refl, ◌∙◌, arith, rules}
-use mathlib.Core.List.{zip}
+use Rattle.std.proofs.Common.{sym, refl, ◌∙◌, arith}
 use Rattle.trace.specs.Trace.{both_at}
-use Rattle.moment.specs.Code.Filling.{Fillable}
-use Rattle.moment.proofs.Chunked.{pearson_chunked, Reached, reached-start, both-next, both_end, x-part, y-part, in_both}
+use Rattle.moment.proofs.Chunked.{reached-start, both-next, both_end, x-part, y-part, in_both}
 use Rattle.moment.proofs.pearson_chunks.Goals as goal
 
 pub loop-place-init : goal.loop-place-init

@@ -1,5 +1,4 @@
 -- By the refusal number. Assumes nothing.
-use Rattle.std.proofs.Common.{rules}
 use Rattle.trace.proofs.Accepted.{pair_fits}
 use Rattle.moment.proofs.Answers.{answer-refused, answer-state}
 use Rattle.moment.proofs.pearson_corr.Goals as goal

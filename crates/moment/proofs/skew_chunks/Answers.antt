@@ -1,7 +1,6 @@
 -- Chunk by chunk (`Chunked`). Assumes nothing.
-use Rattle.std.proofs.Common.{◌≡◌, ◌-◌, length, refl, arith, rules}
-use Rattle.trace.specs.Trace.{valid_at}
-use Rattle.moment.proofs.Chunked.{skew_chunked, Reached, reached-start, chunk_next, reached-end, filled_part}
+use Rattle.std.proofs.Common.{refl, arith}
+use Rattle.moment.proofs.Chunked.{reached-start, chunk_next, reached-end, filled_part}
 use Rattle.moment.proofs.skew_chunks.Goals as goal
 
 pub loop-place-init : goal.loop-place-init

@@ -1,7 +1,7 @@
 -- Chunk by chunk (`Chunked`). Assumes nothing.
-use Rattle.std.proofs.Common.{◌≡◌, ◌-◌, length, refl, arith, rules}
+use Rattle.std.proofs.Common.{◌≡◌, ◌-◌, length}
 use Rattle.trace.specs.Trace.{valid_at}
-use Rattle.moment.proofs.Chunked.{skew_chunked, Reached, reached-start, chunk_next, reached-end, filled_part}
+use Rattle.moment.proofs.Chunked.{skew_chunked, Reached}
 use Rattle.moment.proofs.skew_chunks.Given as goal
 
 abbrev pub invariant-loop-place : goal.invariant-loop-place

@@ -1,5 +1,4 @@
 -- The figure is written as it is. Assumes nothing.
-use borrow.Author.Rules.{rules}
 use Rattle.moments.proofs.moments_kurtosis_finalize.Goals as goal
 
 pub returns : goal.returns

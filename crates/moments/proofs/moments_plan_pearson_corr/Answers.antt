@@ -6,21 +6,19 @@ use lib.ListN.{length}
 use lib.Seq.{length-take-le}
 use lib.Ieee.{Float}
 use Rattle.trace.specs.Trace.{trace_of}
-use Rattle.plan.specs.Plan.{Plan, plan_of}
+use Rattle.plan.specs.Plan.{plan_of}
 use Rattle.window.proofs.Outputs.{unfilled}
 use Rattle.rolling.specs.Moments.{Correlation}
 use Rattle.rolling.specs.Calls.{query}
 use Rattle.rolling.proofs.Calls.{refused_left}
-use Rattle.moments.specs.HostCall.{BytePair}
 use Rattle.moments.proofs.HostCalls.{odd_first, odd_second, pair-number, pair-rooms, pair_accepted, pair-again}
 use Rattle.moments.proofs.HostCalls.{decoded_all, filled_by, called_on_both, both_lists}
-use borrow.Author.Rules.{rules}
 use Rattle.moments.proofs.moments_plan_pearson_corr.Goals as goal
 
 pub returns-then-x-ne0 : goal.returns-then-x-ne0
 returns-then-x-ne0 c =
     record {
-      number_is = odd_first (let g = c.args in record { x = record { bytes = g.x.now; mapped = g.x_has_map; map = g.x_map.now }; y = record { bytes = g.y.now; mapped = g.y_has_map; map = g.y_map.now }; }) _
+      number_is = odd_first (let g = c.args in record { x = record { bytes = g.x.now; mapped = g.x_has_map; map = g.x_map.now }; y = record { bytes = g.y.now; mapped = g.y_has_map; map = g.y_map.now } }) _
           c.if-x-ne0.true;
       readings_are = both_lists (unfilled _ 14 _ _ (λ z. omega arith)) (unfilled _ 14 _ _ (λ z. omega arith));
       left = refused_left _ _ _ 14 (record { answers = refl; counts = refl }) (λ z. omega arith);
@@ -29,7 +27,7 @@ returns-then-x-ne0 c =
 pub returns-then-y-ne0 : goal.returns-then-y-ne0
 returns-then-y-ne0 c =
     record {
-      number_is = odd_second (let g = c.args in record { x = record { bytes = g.x.now; mapped = g.x_has_map; map = g.x_map.now }; y = record { bytes = g.y.now; mapped = g.y_has_map; map = g.y_map.now }; }) _
+      number_is = odd_second (let g = c.args in record { x = record { bytes = g.x.now; mapped = g.x_has_map; map = g.x_map.now }; y = record { bytes = g.y.now; mapped = g.y_has_map; map = g.y_map.now } }) _
           c.if-x-ne0.false c.if-y-ne0.true;
       readings_are = both_lists (unfilled _ 14 _ _ (λ z. omega arith)) (unfilled _ 14 _ _ (λ z. omega arith));
       left = refused_left _ _ _ 14 (record { answers = refl; counts = refl }) (λ z. omega arith);
@@ -38,7 +36,7 @@ returns-then-y-ne0 c =
 pub returns-then-checked-ne0 : goal.returns-then-checked-ne0
 returns-then-checked-ne0 c =
     record {
-      number_is = pair-number (let g = c.args in record { x = record { bytes = g.x.now; mapped = g.x_has_map; map = g.x_map.now }; y = record { bytes = g.y.now; mapped = g.y_has_map; map = g.y_map.now }; }) (let g = c.args in plan_of g.starts.now g.ends.now) (length c.args.x_readings.now) (length c.args.y_readings.now)
+      number_is = pair-number (let g = c.args in record { x = record { bytes = g.x.now; mapped = g.x_has_map; map = g.x_map.now }; y = record { bytes = g.y.now; mapped = g.y_has_map; map = g.y_map.now } }) (let g = c.args in plan_of g.starts.now g.ends.now) (length c.args.x_readings.now) (length c.args.y_readings.now)
           c.if-x-ne0.false
           c.if-y-ne0.false
           c.pair_refusal.ensures c.either.ensures
@@ -50,7 +48,7 @@ returns-then-checked-ne0 c =
 pub slice_bounds-plan_pearson_corr-end : goal.slice_bounds-plan_pearson_corr-end
 slice_bounds-plan_pearson_corr-end c =
     rw c.decode.auto.readings
-    (pair-rooms (let g = c.args in record { x = record { bytes = g.x.now; mapped = g.x_has_map; map = g.x_map.now }; y = record { bytes = g.y.now; mapped = g.y_has_map; map = g.y_map.now }; }) (let g = c.args in plan_of g.starts.now g.ends.now) (length c.args.x_readings.now) (length c.args.y_readings.now)
+    (pair-rooms (let g = c.args in record { x = record { bytes = g.x.now; mapped = g.x_has_map; map = g.x_map.now }; y = record { bytes = g.y.now; mapped = g.y_has_map; map = g.y_map.now } }) (let g = c.args in plan_of g.starts.now g.ends.now) (length c.args.x_readings.now) (length c.args.y_readings.now)
     c.if-x-ne0.false
     c.if-y-ne0.false
     c.pair_refusal.ensures
@@ -62,7 +60,7 @@ slice_bounds-plan_pearson_corr-end c =
 pub slice_bounds-plan_pearson_corr-end-2 : goal.slice_bounds-plan_pearson_corr-end-2
 slice_bounds-plan_pearson_corr-end-2 c =
     let o = c.decode.auto.readings in
-    let h = (pair-rooms (let g = c.args in record { x = record { bytes = g.x.now; mapped = g.x_has_map; map = g.x_map.now }; y = record { bytes = g.y.now; mapped = g.y_has_map; map = g.y_map.now }; }) (let g = c.args in plan_of g.starts.now g.ends.now) (length c.args.x_readings.now) (length c.args.y_readings.now)
+    let h = (pair-rooms (let g = c.args in record { x = record { bytes = g.x.now; mapped = g.x_has_map; map = g.x_map.now }; y = record { bytes = g.y.now; mapped = g.y_has_map; map = g.y_map.now } }) (let g = c.args in plan_of g.starts.now g.ends.now) (length c.args.x_readings.now) (length c.args.y_readings.now)
     c.if-x-ne0.false c.if-y-ne0.false
     c.pair_refusal.ensures
     c.either.ensures
@@ -74,7 +72,7 @@ slice_bounds-plan_pearson_corr-end-2 c =
 pub slice_bounds-plan_pearson_corr-end-3 : goal.slice_bounds-plan_pearson_corr-end-3
 slice_bounds-plan_pearson_corr-end-3 c =
     rw c.decode-2.auto.readings
-    (pair-rooms (let g = c.args in record { x = record { bytes = g.x.now; mapped = g.x_has_map; map = g.x_map.now }; y = record { bytes = g.y.now; mapped = g.y_has_map; map = g.y_map.now }; }) (let g = c.args in plan_of g.starts.now g.ends.now) (length c.args.x_readings.now) (length c.args.y_readings.now)
+    (pair-rooms (let g = c.args in record { x = record { bytes = g.x.now; mapped = g.x_has_map; map = g.x_map.now }; y = record { bytes = g.y.now; mapped = g.y_has_map; map = g.y_map.now } }) (let g = c.args in plan_of g.starts.now g.ends.now) (length c.args.x_readings.now) (length c.args.y_readings.now)
     c.if-x-ne0.false c.if-y-ne0.false
     c.pair_refusal.ensures
     c.either.ensures
@@ -85,7 +83,7 @@ slice_bounds-plan_pearson_corr-end-3 c =
 pub slice_bounds-plan_pearson_corr-end-4 : goal.slice_bounds-plan_pearson_corr-end-4
 slice_bounds-plan_pearson_corr-end-4 c =
     let o = c.decode-2.auto.readings in
-    let h = (pair-rooms (let g = c.args in record { x = record { bytes = g.x.now; mapped = g.x_has_map; map = g.x_map.now }; y = record { bytes = g.y.now; mapped = g.y_has_map; map = g.y_map.now }; }) (let g = c.args in plan_of g.starts.now g.ends.now) (length c.args.x_readings.now) (length c.args.y_readings.now)
+    let h = (pair-rooms (let g = c.args in record { x = record { bytes = g.x.now; mapped = g.x_has_map; map = g.x_map.now }; y = record { bytes = g.y.now; mapped = g.y_has_map; map = g.y_map.now } }) (let g = c.args in plan_of g.starts.now g.ends.now) (length c.args.x_readings.now) (length c.args.y_readings.now)
     c.if-x-ne0.false
     c.if-y-ne0.false c.pair_refusal.ensures
     c.either.ensures
@@ -98,7 +96,7 @@ pub returns : goal.returns
 returns c =
     let g = c.args in
     let z = c.if-checked-ne0.false in
-    let h = pair-rooms (let g = c.args in record { x = record { bytes = g.x.now; mapped = g.x_has_map; map = g.x_map.now }; y = record { bytes = g.y.now; mapped = g.y_has_map; map = g.y_map.now }; }) (let g = c.args in plan_of g.starts.now g.ends.now) (length c.args.x_readings.now) (length c.args.y_readings.now)
+    let h = pair-rooms (let g = c.args in record { x = record { bytes = g.x.now; mapped = g.x_has_map; map = g.x_map.now }; y = record { bytes = g.y.now; mapped = g.y_has_map; map = g.y_map.now } }) (let g = c.args in plan_of g.starts.now g.ends.now) (length c.args.x_readings.now) (length c.args.y_readings.now)
     c.if-x-ne0.false
     c.if-y-ne0.false
     c.pair_refusal.ensures
@@ -113,7 +111,7 @@ returns c =
     let m = called_on_both (query (let g = c.args in plan_of g.starts.now g.ends.now) g.min_periods Correlation)
     (λ (x y : List Float). record { x = trace_of x g.x_has_map g.x_map.now; y = trace_of y g.y_has_map g.y_map.now })
     d.1 d'.1 c.plan_pearson_corr.ensures in
-    let accepted = pair_accepted (let g = c.args in record { x = record { bytes = g.x.now; mapped = g.x_has_map; map = g.x_map.now }; y = record { bytes = g.y.now; mapped = g.y_has_map; map = g.y_map.now }; }) (let g = c.args in plan_of g.starts.now g.ends.now) (length c.args.x_readings.now) (length c.args.y_readings.now)
+    let accepted = pair_accepted (let g = c.args in record { x = record { bytes = g.x.now; mapped = g.x_has_map; map = g.x_map.now }; y = record { bytes = g.y.now; mapped = g.y_has_map; map = g.y_map.now } }) (let g = c.args in plan_of g.starts.now g.ends.now) (length c.args.x_readings.now) (length c.args.y_readings.now)
     c.if-x-ne0.false
     c.if-y-ne0.false
     c.pair_refusal.ensures
@@ -121,7 +119,7 @@ returns c =
     c.shorter.ensures
     c.plan_refusal-checked.ensures z m.number_is in
     record {
-      number_is = pair-again (let g = c.args in record { x = record { bytes = g.x.now; mapped = g.x_has_map; map = g.x_map.now }; y = record { bytes = g.y.now; mapped = g.y_has_map; map = g.y_map.now }; }) (let g = c.args in plan_of g.starts.now g.ends.now) (length c.args.x_readings.now) (length c.args.y_readings.now)
+      number_is = pair-again (let g = c.args in record { x = record { bytes = g.x.now; mapped = g.x_has_map; map = g.x_map.now }; y = record { bytes = g.y.now; mapped = g.y_has_map; map = g.y_map.now } }) (let g = c.args in plan_of g.starts.now g.ends.now) (length c.args.x_readings.now) (length c.args.y_readings.now)
           c.if-x-ne0.false
           c.if-y-ne0.false
           c.pair_refusal.ensures

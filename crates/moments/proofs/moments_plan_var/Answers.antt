@@ -2,17 +2,15 @@
 use mathlib.Core.Path.{refl, sym}
 use mathlib.Core.List.{List}
 use native.Mathlib.Omega.{arith}
-use borrow.Author.Rules.{rules}
 use lib.ListN.{length}
 use lib.Seq.{length-take-le}
 use lib.Ieee.{Float}
 use Rattle.trace.specs.Trace.{trace_of}
-use Rattle.plan.specs.Plan.{Plan, plan_of}
+use Rattle.plan.specs.Plan.{plan_of}
 use Rattle.window.proofs.Outputs.{unfilled}
 use Rattle.rolling.specs.Moments.{Variance}
-use Rattle.rolling.specs.Calls.{Query, query}
+use Rattle.rolling.specs.Calls.{query}
 use Rattle.rolling.proofs.Calls.{refused_left}
-use Rattle.moments.specs.HostCall.{ByteTrace}
 use Rattle.moments.proofs.HostCalls.{odd_bytes_lem, host_number_lem, host-room, host_accepted, host-again, decoded_all, filled_by, called_on}
 use Rattle.moments.proofs.moments_plan_var.Goals as goal
 

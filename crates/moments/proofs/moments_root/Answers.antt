@@ -1,5 +1,4 @@
 -- The canonical pattern is the same float. Assumes nothing.
-use borrow.Author.Rules.{rules}
 use mathlib.Core.Path.{◌∙◌}
 use Rattle.moments.proofs.moments_root.Goals as goal
 

@@ -1,5 +1,4 @@
 -- The answer is handed out as it is. Assumes nothing.
-use borrow.Author.Rules.{rules}
 use Rattle.moments.proofs.moments_var.Goals as goal
 
 pub returns : goal.returns

@@ -1,5 +1,4 @@
 -- By the two cases of the answer. Assumes nothing.
-use borrow.Author.Rules.{rules}
 use mathlib.Core.Path.{refl}
 use Rattle.moments.proofs.store_var.Goals as goal
 

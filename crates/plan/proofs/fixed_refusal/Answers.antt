@@ -1,5 +1,5 @@
 -- The number is put together as it is defined, and the bounds of a call that is accepted are a plan in order. Assumes nothing.
-use Rattle.std.proofs.Common.{ℕ, ◌*◌, ltb, sym, refl, ap, ◌∙◌, rules}
+use Rattle.std.proofs.Common.{ℕ, ◌*◌, ltb, sym, refl, ap, ◌∙◌}
 use Rattle.trace.specs.Refusals.{refusal}
 use Rattle.plan.specs.Refusals.{fixed_refusal}
 use Rattle.plan.proofs.Checks.{both_same}

@@ -1,8 +1,7 @@
 -- The number is put together as it is defined; the rows are tested where the lists are of one length. Assumes nothing.
-use Rattle.std.proofs.Common.{◌≡◌, ◌||◌, refl, ap, ◌∙◌, rules}
-use Rattle.trace.specs.Refusals.{refusal, ◌or_else◌}
-use Rattle.plan.specs.Plan.{Plan, plan_of}
-use Rattle.plan.specs.Refusals.{wrong_lists}
+use Rattle.std.proofs.Common.{refl, ap, ◌∙◌}
+use Rattle.trace.specs.Refusals.{refusal}
+use Rattle.plan.specs.Plan.{plan_of}
 use Rattle.plan.proofs.Checks.{both_same, judged-first, first-wide, same_lists, judged, judged-wide, judged-accepted}
 use Rattle.plan.proofs.plan_refusal.Goals as goal
 

@@ -1,5 +1,5 @@
 -- By the quotient. Assumes nothing.
-use Rattle.std.proofs.Common.{◌≡◌, false, ltb, sym, ap, arith, rules, le-ltb}
+use Rattle.std.proofs.Common.{sym}
 use Rattle.plan.proofs.Checks.{quotient, nothing_needed}
 use Rattle.plan.proofs.too_little.Goals as goal
 

@@ -1,6 +1,6 @@
 -- The weights of a window's states count its readings, as the private contracts of `VarianceMoment` and `SkewMoment` state it. Assumes
 -- nothing.
-use Rattle.std.specs.Prelude.{◌≡◌, ℕ, ◌+◌, ◌*◌, ◌^◌, ◌≤◌, List, length, Float}
+use Rattle.std.specs.Prelude.{◌≡◌, ◌+◌, ◌*◌, ◌^◌, ◌≤◌, List, length, Float}
 use Rattle.float.specs.Operators.{of_nat64}
 use Rattle.moment.specs.declared.skew_state.SkewState.{SkewState}
 use Rattle.window.specs.Code.Memory.{ReadingStates, of_readings}

@@ -1,6 +1,6 @@
 -- `root::assemble` meets its contract: the exponent and the 53 digits of the rounded root, side by side, are the bits of
 -- the root. Assumes nothing.
-use Rattle.std.proofs.Common.{◌≡◌, ℕ, ◌+◌, ◌-◌, ◌*◌, ◌/◌, ◌^◌, ◌<◌, ap, ◌∙◌, arith, rules}
+use Rattle.std.proofs.Common.{◌≡◌, ℕ, ◌+◌, ◌-◌, ◌*◌, ◌/◌, ◌^◌, ◌<◌, ap, ◌∙◌, arith}
 use lib.Ieee.{binary64, of_bits}
 use Rattle.root.specs.Root.{rounded_root, root_of_units}
 use Rattle.root.proofs.Patterns.{word, word_in, root-bits}

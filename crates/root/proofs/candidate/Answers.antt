@@ -1,6 +1,6 @@
 -- `root::candidate` meets its contract: where there is no doubt the number is normal and `settle` gives the digits of its
 -- root, and its bits give the exponent. Assumes nothing.
-use Rattle.std.proofs.Common.{◌≡◌, ℕ, ◌+◌, ◌%◌, ◌^◌, ap, ◌∙◌, arith, rules}
+use Rattle.std.proofs.Common.{◌≡◌, ℕ, ◌+◌, ◌%◌, ◌^◌, ap, ◌∙◌, arith}
 use lib.Ieee.{Float, binary64, of_bits}
 use Rattle.root.specs.Root.{root}
 use Rattle.float.proofs.Patterns.{no_nan_bits}

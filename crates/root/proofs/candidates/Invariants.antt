@@ -1,7 +1,7 @@
 -- `root::candidates` meets its contract: while no doubt is counted each turn writes one root more. Assumes nothing.
-use Rattle.std.proofs.Common.{◌≡◌, ◌-◌, ◌<◌, ◌≤◌, length, refl, arith, length-set, rules}
+use Rattle.std.proofs.Common.{◌≡◌, ◌-◌, ◌≤◌, length}
 use Rattle.root.specs.Root.{root}
-use Rattle.root.proofs.Lists.{Mapped, mapped-more, mapped-all}
+use Rattle.root.proofs.Lists.{Mapped}
 use Rattle.root.proofs.candidates.Given as goal
 
 abbrev pub invariant-loop-i : goal.invariant-loop-i

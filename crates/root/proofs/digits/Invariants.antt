@@ -1,7 +1,6 @@
 -- `root::digits` meets its contract: after i turns `root` and `remainder` are the integer root of the first 2 * i digits
 -- of a * 2 ^ 42 and what is left of them, and at the end the remainder tells which way to round. Assumes nothing.
-use Rattle.std.proofs.Common.{◌≡◌, ℕ, ◌+◌, ◌-◌, ◌*◌, ◌/◌, ◌%◌, ◌^◌, ◌<◌, ◌≤◌, sym, ap, ◌∙◌, ⊎_elim, pow-suc, add-one, arith, pow_mono}
-use Rattle.root.proofs.IntegerRoot.{rounded_down, rounded_up}
+use Rattle.std.proofs.Common.{◌≡◌, ℕ, ◌+◌, ◌-◌, ◌*◌, ◌^◌, ◌<◌, ◌≤◌}
 use Rattle.root.proofs.digits.Given as goal
 
 -- a has 64 digits, of which `rest` holds those to come

@@ -1,7 +1,7 @@
 -- `root::each` meets its contract: each turn writes one root more. Assumes nothing.
-use Rattle.std.proofs.Common.{◌≡◌, ◌-◌, ◌<◌, ◌≤◌, length, refl, arith, length-set, rules}
+use Rattle.std.proofs.Common.{◌<◌, ◌≤◌, length, refl, arith, length-set}
 use Rattle.root.specs.Root.{root}
-use Rattle.root.proofs.Lists.{Mapped, mapped-more, mapped-all}
+use Rattle.root.proofs.Lists.{mapped-more, mapped-all}
 use Rattle.root.proofs.each.Goals as goal
 
 pub loop-i-init : goal.loop-i-init

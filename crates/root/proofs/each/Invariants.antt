@@ -1,7 +1,7 @@
 -- `root::each` meets its contract: each turn writes one root more. Assumes nothing.
-use Rattle.std.proofs.Common.{◌≡◌, ◌-◌, ◌<◌, ◌≤◌, length, refl, arith, length-set, rules}
+use Rattle.std.proofs.Common.{◌≡◌, ◌-◌, length}
 use Rattle.root.specs.Root.{root}
-use Rattle.root.proofs.Lists.{Mapped, mapped-more, mapped-all}
+use Rattle.root.proofs.Lists.{Mapped}
 use Rattle.root.proofs.each.Given as goal
 
 abbrev pub invariant-loop-i : goal.invariant-loop-i

@@ -1,5 +1,5 @@
 -- `root::guess` meets its contract: the bits of no float that it reads are a NaN's. Assumes nothing.
-use Rattle.std.proofs.Common.{arith, rules}
+use Rattle.std.proofs.Common.{arith}
 use Rattle.float.proofs.Patterns.{no_nan_bits}
 use Rattle.root.proofs.guess.Goals as goal
 

@@ -1,5 +1,5 @@
 -- `root::guesses` meets its contract: the lists keep their lengths. Assumes nothing.
-use Rattle.std.proofs.Common.{◌≡◌, ◌-◌, length, arith, length-set, rules}
+use Rattle.std.proofs.Common.{length-set}
 use Rattle.root.proofs.guesses.Goals as goal
 
 pub loop-i-preserved : goal.loop-i-preserved

@@ -1,5 +1,5 @@
 -- `root::guesses` meets its contract: the lists keep their lengths. Assumes nothing.
-use Rattle.std.proofs.Common.{◌≡◌, ◌-◌, length, arith, length-set, rules}
+use Rattle.std.proofs.Common.{◌≡◌, ◌-◌, length}
 use Rattle.root.proofs.guesses.Given as goal
 
 abbrev pub invariant-loop-i : goal.invariant-loop-i

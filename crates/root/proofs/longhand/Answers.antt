@@ -1,6 +1,6 @@
 -- `root::longhand` meets its contract: the bits tell each case of the definition apart, those of a positive number go to
 -- `positive`, and 0.0 / 0.0 is NaN. Assumes nothing.
-use Rattle.std.proofs.Common.{◌≡◌, ◌^◌, ◌<◌, T, sym, refl, ap, ◌∙◌, subst, arith, rules}
+use Rattle.std.proofs.Common.{◌≡◌, ◌^◌, ◌<◌, T, sym, refl, ap, ◌∙◌, subst, arith}
 use lib.Ieee.{Float, nan, binary64, of_bits, to_bits, fits, div}
 use lib.Ieee.Bits.{of_bits-to_bits, to_bits-lt}
 use lib.Ieee.Compare.{differs_from_itself}

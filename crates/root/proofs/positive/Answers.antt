@@ -1,6 +1,6 @@
 -- `root::positive` meets its contract: below 2 ^ 52 the bits are a number of units, which its leading zeros move up to 53
 -- digits, and above they are the digits and the exponent. Assumes nothing.
-use Rattle.std.proofs.Common.{ℕ, ◌-◌, ◌*◌, ◌^◌, sym, ap, ◌∙◌, arith, rules}
+use Rattle.std.proofs.Common.{ℕ, ◌-◌, ◌*◌, ◌^◌, sym, ap, ◌∙◌, arith}
 use Rattle.root.specs.Root.{root_of_units}
 use Rattle.root.proofs.Patterns.{shift, zeros-in, moved-lo, moved-hi, moved, low-root, high_root}
 use Rattle.root.proofs.positive.Goals as goal

@@ -1,5 +1,5 @@
 -- `root::radicand` meets its contract: the lowest digit of the exponent tells whether it lends a factor. Assumes nothing.
-use Rattle.std.proofs.Common.{◌≡◌, ℕ, ◌+◌, ◌*◌, ◌/◌, ◌%◌, ◌^◌, sym, ap, ◌∙◌, arith, rules}
+use Rattle.std.proofs.Common.{◌≡◌, ℕ, ◌+◌, ◌*◌, ◌/◌, ◌%◌, ◌^◌, sym, ap, ◌∙◌, arith}
 use Rattle.root.proofs.radicand.Goals as goal
 
 -- p is the lowest digit of the exponent that is left

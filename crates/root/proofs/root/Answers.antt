@@ -1,6 +1,5 @@
 -- `root::root` meets its contract: a candidate without a doubt is the root, and `longhand` answers the rest. Assumes
 -- nothing.
-use Rattle.std.proofs.Common.{rules}
 use Rattle.root.proofs.root.Goals as goal
 
 pub returns-then-c-eq0 : goal.returns-then-c-eq0

@@ -1,6 +1,6 @@
 -- `root::roots` meets its contract: lists of unequal length are left, and of equal ones the candidates are the roots where
 -- none is in doubt, and `each` finds them otherwise. Assumes nothing.
-use Rattle.std.proofs.Common.{◌≡◌, Bool, cond, List, map, length, sym, ap, ◌∙◌, rules, eq-eqb, ne_eqb}
+use Rattle.std.proofs.Common.{◌≡◌, Bool, cond, List, map, length, sym, ap, ◌∙◌, eq-eqb, ne_eqb}
 use lib.Ieee.{Float}
 use Rattle.root.specs.Root.{root, roots_into}
 use Rattle.root.proofs.roots.Goals as goal

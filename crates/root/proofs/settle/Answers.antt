@@ -1,6 +1,6 @@
 -- `root::settle` meets its contract: where there is no doubt no difference has wrapped around, so what is left of x * 2 ^ 52
 -- and r is exact, and below four times r it puts the rounded root at r or at the next number. Assumes nothing.
-use Rattle.std.proofs.Common.{◌≡◌, ℕ, ◌+◌, ◌-◌, ◌*◌, ◌/◌, ◌%◌, ◌^◌, ◌<◌, ◌≤◌, sym, ap, mul-le-mul, lt_of_not-le, arith, rules}
+use Rattle.std.proofs.Common.{◌≡◌, ℕ, ◌+◌, ◌-◌, ◌*◌, ◌/◌, ◌%◌, ◌^◌, ◌<◌, ◌≤◌, sym, ap, mul-le-mul, lt_of_not-le, arith}
 use native.Mathlib.Decide.{dec_le}
 use Rattle.root.specs.Root.{rounded_root}
 use Rattle.root.proofs.IntegerRoot.{rounded_to}

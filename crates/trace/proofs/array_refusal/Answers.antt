@@ -1,5 +1,4 @@
 -- By the callees. Assumes nothing.
-use borrow.Author.Rules.{rules}
 use Rattle.trace.proofs.array_refusal.Goals as goal
 
 pub returns : goal.returns

@@ -1,7 +1,6 @@
 -- By the first place's validity. Assumes nothing.
 use Rattle.trace.specs.Trace.{both_at}
 use mathlib.Core.Path.{sym, ◌∙◌}
-use borrow.Author.Rules.{rules}
 use Rattle.trace.proofs.both.Goals as goal
 
 pub returns-then-valid : goal.returns-then-valid

@@ -3,7 +3,6 @@ use native.Mathlib.Nat.{zero-div}
 use Prim.Native.Nat.{ℕ}
 use lib.ListN.{get_or-eq_default}
 use Rattle.trace.specs.Trace.{valid_at}
-use borrow.Author.Rules.{rules}
 use Rattle.trace.proofs.valid.Goals as goal
 
 pub returns-then-not-has_map : goal.returns-then-not-has_map

@@ -3,7 +3,6 @@ use Rattle.trace.specs.Refusals.{wrong_map}
 use Prim.Native.Nat.{◌+◌, ◌/◌, ◌%◌}
 use mathlib.Core.Path.{◌≡◌}
 use native.Mathlib.Omega.{arith}
-use borrow.Author.Rules.{rules}
 use Rattle.trace.proofs.wrong_map.Goals as goal
 
 pub returns-then-has_map : goal.returns-then-has_map

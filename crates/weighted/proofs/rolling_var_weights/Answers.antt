@@ -1,12 +1,9 @@
 -- A refusal as it is found, else the rows by the weights' sum. Assumes nothing.
-use Rattle.std.specs.Prelude.{ℕ, Bool, Float, min}
+use Rattle.std.specs.Prelude.{ℕ, Bool, Float}
 use mathlib.Core.Path.{◌≡◌, sym, ◌∙◌}
-use borrow.Author.Rules.{rules}
-use lib.ListN.{length}
-use Rattle.trace.specs.Trace.{Trace, trace_of}
-use Rattle.trace.specs.Refusals.{trace_refusal}
-use Rattle.window.specs.Outputs.{Column, column}
-use Rattle.weighted.specs.Weights.{total_of, weights_refusal}
+use Rattle.trace.specs.Trace.{trace_of}
+use Rattle.window.specs.Outputs.{column}
+use Rattle.weighted.specs.Weights.{weights_refusal}
 use Rattle.weighted.proofs.WeightedRows.{weights_refused, weights-accepted, weights-called}
 use Rattle.weighted.proofs.rolling_var_weights.Goals as goal
 

@@ -2,7 +2,6 @@
 use mathlib.Core.Path.{refl, ◌∙◌}
 use Rattle.plan.proofs.Checks.{both_same}
 use Rattle.weighted.specs.Weights.{weights_refusal}
-use borrow.Author.Rules.{rules}
 use Rattle.weighted.proofs.weights_refusal.Goals as goal
 
 pub returns : goal.returns

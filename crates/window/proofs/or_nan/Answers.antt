@@ -2,7 +2,6 @@
 use lib.Ieee.{div, of_bits}
 use borrow.Author.Tests.{eq-eqb, ne_eqb}
 use Rattle.window.specs.Window.{or_nan}
-use borrow.Author.Rules.{rules}
 use Rattle.window.proofs.or_nan.Goals as goal
 
 pub returns-then-nonfinite-eq0 : goal.returns-then-nonfinite-eq0

@@ -5,4 +5,4 @@ use Rattle.demands.proofs.Demanded.{fixed-meets}
 use Rattle.demands.proofs.windows.rolling_var.Goals as goal
 
 pub returns : goal.returns
-returns c = fixed-meets c.moments_rolling_var.ensures (omega (arith, fits)) (omega arith)
+returns c = fixed-meets c.moments_rolling_var.ensures (omega arith) (omega arith)

@@ -5,4 +5,4 @@ use Rattle.demands.proofs.Demanded.{two-fixed-meet}
 use Rattle.demands.proofs.windows.two_rolling_cov.Goals as goal
 
 pub returns : goal.returns
-returns c = two-fixed-meet c.moments_rolling_cov-first.ensures c.moments_rolling_cov-second.ensures (omega (arith, fits)) (omega arith)
+returns c = two-fixed-meet c.moments_rolling_cov-first.ensures c.moments_rolling_cov-second.ensures (omega arith) (omega arith)

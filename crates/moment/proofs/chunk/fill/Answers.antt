@@ -1,8 +1,7 @@
 -- Filled place by place (`Filling`). Assumes nothing.
-use Rattle.std.proofs.Common.{◌-◌, length, arith, rules}
+use Rattle.std.proofs.Common.{arith}
 use lib.Ieee.{nan}
-use Rattle.trace.specs.Trace.{valid_at}
-use Rattle.moment.proofs.Filling.{Filling, filling_start, filling_step, filled-full, filled-end, bit_le}
+use Rattle.moment.proofs.Filling.{filling_start, filling_step, filled-full, filled-end, bit_le}
 use Rattle.moment.proofs.chunk.fill.Goals as goal
 
 pub loop-at-init : goal.loop-at-init

@@ -1,8 +1,7 @@
 -- Filled place by place (`Filling`). Assumes nothing.
-use Rattle.std.proofs.Common.{◌-◌, length, arith, rules}
-use lib.Ieee.{nan}
+use Rattle.std.proofs.Common.{◌-◌, length}
 use Rattle.trace.specs.Trace.{valid_at}
-use Rattle.moment.proofs.Filling.{Filling, filling_start, filling_step, filled-full, filled-end, bit_le}
+use Rattle.moment.proofs.Filling.{Filling}
 use Rattle.moment.proofs.chunk.fill.Given as goal
 
 abbrev pub invariant-loop-at : goal.invariant-loop-at

@@ -1,7 +1,6 @@
 -- Filled place by place (`Filling`), as one chunk of pairs. Assumes nothing.
-use Rattle.std.proofs.Common.{◌-◌, length, arith, rules}
-use Rattle.trace.specs.Trace.{both_at}
-use Rattle.moment.proofs.Filling.{FillingBoth, both_start, both-step, both-full, both_end, bit_le}
+use Rattle.std.proofs.Common.{arith}
+use Rattle.moment.proofs.Filling.{both_start, both-step, both-full, both_end, bit_le}
 use Rattle.moment.proofs.chunk.fill_pairs.Goals as goal
 
 pub loop-at-init : goal.loop-at-init

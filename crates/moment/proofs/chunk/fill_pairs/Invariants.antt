@@ -1,7 +1,7 @@
 -- Filled place by place (`Filling`), as one chunk of pairs. Assumes nothing.
-use Rattle.std.proofs.Common.{◌-◌, length, arith, rules}
+use Rattle.std.proofs.Common.{◌-◌, length}
 use Rattle.trace.specs.Trace.{both_at}
-use Rattle.moment.proofs.Filling.{FillingBoth, both_start, both-step, both-full, both_end, bit_le}
+use Rattle.moment.proofs.Filling.{FillingBoth}
 use Rattle.moment.proofs.chunk.fill_pairs.Given as goal
 
 abbrev pub invariant-loop-at : goal.invariant-loop-at

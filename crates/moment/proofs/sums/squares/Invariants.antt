@@ -1,8 +1,7 @@
 -- A sum, element by element. Assumes nothing.
-use Rattle.std.proofs.Common.{◌-◌, length, refl, arith, rules}
-use Rattle.float.specs.Operators.{zero64}
+use Rattle.std.proofs.Common.{◌-◌, length}
 use Rattle.moment.specs.Sums.{square}
-use Rattle.moment.proofs.Folds.{Summed, fold_step, fold_end}
+use Rattle.moment.proofs.Folds.{Summed}
 use Rattle.moment.proofs.sums.squares.Given as goal
 
 abbrev pub invariant-loop-i : goal.invariant-loop-i

@@ -1,7 +1,6 @@
 -- A sum, element by element. Assumes nothing.
-use Rattle.std.proofs.Common.{◌-◌, length, refl, arith, rules}
 use Rattle.float.specs.Operators.{◌⊕◌, zero64}
-use Rattle.moment.proofs.Folds.{Folded, fold_step, fold_end}
+use Rattle.moment.proofs.Folds.{fold_step, fold_end}
 use Rattle.moment.proofs.sums.sum.Goals as goal
 
 pub loop-i-preserved : goal.loop-i-preserved

@@ -1,7 +1,7 @@
 -- A sum, element by element. Assumes nothing.
-use Rattle.std.proofs.Common.{◌-◌, length, refl, arith, rules}
+use Rattle.std.proofs.Common.{◌-◌, length}
 use Rattle.float.specs.Operators.{◌⊕◌, zero64}
-use Rattle.moment.proofs.Folds.{Folded, fold_step, fold_end}
+use Rattle.moment.proofs.Folds.{Folded}
 use Rattle.moment.proofs.sums.sum.Given as goal
 
 abbrev pub invariant-loop-i : goal.invariant-loop-i

@@ -1,8 +1,7 @@
 -- A count and a sum over the valid ones. Assumes nothing.
-use Rattle.std.proofs.Common.{◌-◌, ◌≤◌, length, ⊎_elim, arith, rules}
-use Rattle.trace.specs.Trace.{valid_at}
+use Rattle.std.proofs.Common.{arith, rules}
 use Rattle.float.specs.Operators.{◌⊕◌, zero64}
-use Rattle.moment.proofs.Folds.{ValidFolded, valid-start, valid-step, missing-step, valid-end, one_more, counted_end}
+use Rattle.moment.proofs.Folds.{valid-start, valid-step, missing-step, valid-end, one_more, counted_end}
 use Rattle.moment.proofs.sums.valid_total.Goals as goal
 use Rattle.moment.proofs.sums.valid_total.Goals.{else-valid, then-valid}
 

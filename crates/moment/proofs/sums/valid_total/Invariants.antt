@@ -1,8 +1,8 @@
 -- A count and a sum over the valid ones. Assumes nothing.
-use Rattle.std.proofs.Common.{◌-◌, ◌≤◌, length, ⊎_elim, arith, rules}
+use Rattle.std.proofs.Common.{◌-◌, ◌≤◌, length}
 use Rattle.trace.specs.Trace.{valid_at}
 use Rattle.float.specs.Operators.{◌⊕◌, zero64}
-use Rattle.moment.proofs.Folds.{ValidFolded, valid-start, valid-step, missing-step, valid-end, one_more, counted_end}
+use Rattle.moment.proofs.Folds.{ValidFolded, one_more}
 use Rattle.moment.proofs.sums.valid_total.Given as goal
 
 abbrev pub invariant-loop-i : goal.invariant-loop-i

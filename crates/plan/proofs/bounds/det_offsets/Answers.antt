@@ -1,5 +1,5 @@
 -- The bounds of one row, by how far a fixed window reaches. Assumes nothing.
-use Rattle.std.proofs.Common.{ℕ, ◌+◌, ◌-◌, min, sym, refl, ap, ◌∙◌, rules, le-ltb, lt-ltb}
+use Rattle.std.proofs.Common.{ℕ, ◌+◌, ◌-◌, min, sym, refl, ap, ◌∙◌, le-ltb, lt-ltb}
 use Rattle.plan.proofs.FixedWindows.{bounds-at}
 use Rattle.plan.proofs.bounds.det_offsets.Goals as goal
 

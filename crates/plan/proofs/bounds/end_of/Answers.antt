@@ -1,5 +1,5 @@
 -- Below `last` the sum is within n, from it on it is n or past it. Assumes nothing.
-use Rattle.std.proofs.Common.{◌≡◌, ◌-◌, ◌<◌, ◌≤◌, ⊎_elim, arith, rules}
+use Rattle.std.proofs.Common.{arith}
 use Rattle.plan.proofs.bounds.end_of.Goals as goal
 use Rattle.plan.proofs.bounds.end_of.Goals.{else-right-n, then-right-n}
 

@@ -1,5 +1,5 @@
 -- By whether the row has enough places before it, and whether its end is that of the places. Assumes nothing.
-use Rattle.std.proofs.Common.{◌≡◌, ◌%◌, ◌^◌, ◌∙◌, ⊎_elim, arith, rules, le-ltb, lt-ltb}
+use Rattle.std.proofs.Common.{◌≡◌, ◌%◌, ◌^◌, ◌∙◌, arith, le-ltb, lt-ltb}
 use Rattle.plan.proofs.bounds.next_offsets.Goals as goal
 use Rattle.plan.proofs.bounds.next_offsets.Goals.{else-at-len, then-at-len}
 

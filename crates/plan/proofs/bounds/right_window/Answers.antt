@@ -1,5 +1,5 @@
 -- Half of the size rounded up, or one place. Assumes nothing.
-use Rattle.std.proofs.Common.{◌≡◌, ◌+◌, ◌/◌, ◌%◌, arith, rules}
+use Rattle.std.proofs.Common.{◌≡◌, ◌+◌, ◌/◌, ◌%◌, arith}
 use Rattle.plan.specs.Code.Reaching.{right_of}
 use Rattle.plan.proofs.bounds.right_window.Goals as goal
 

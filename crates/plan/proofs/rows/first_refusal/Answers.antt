@@ -1,9 +1,8 @@
 -- Row after row, with the row before in the locals. Assumes nothing.
-use Rattle.std.proofs.Common.{◌≡◌, ℕ, ◌-◌, ◌≤◌, length, sym, refl, ◌∙◌, ⊎_elim, add-one, arith, rules}
-use Rattle.plan.specs.Plan.{Plan}
-use Rattle.plan.specs.Refusals.{before, rows_refusal, widest}
+use Rattle.std.proofs.Common.{◌≡◌, length, sym, refl, ◌∙◌, add-one, arith}
+use Rattle.plan.specs.Refusals.{rows_refusal, widest}
 use Rattle.plan.proofs.Checks.{wide_nowhere}
-use Rattle.plan.proofs.Plans.{Row, own, good, scan-stop, scan-row, scan-wide}
+use Rattle.plan.proofs.Plans.{own, good, scan-stop, scan-row, scan-wide}
 use Rattle.plan.specs.Plan.{plan_of}
 use Rattle.plan.proofs.rows.first_refusal.Goals as goal
 use Rattle.plan.proofs.rows.first_refusal.Goals.{else-widest-wide, then-widest-wide}

@@ -1,9 +1,6 @@
 -- Row after row, with the row before in the locals. Assumes nothing.
-use Rattle.std.proofs.Common.{◌≡◌, ℕ, ◌-◌, ◌≤◌, length, sym, refl, ◌∙◌, ⊎_elim, add-one, arith, rules}
-use Rattle.plan.specs.Plan.{Plan}
+use Rattle.std.proofs.Common.{◌≡◌, ◌-◌, ◌≤◌, length}
 use Rattle.plan.specs.Refusals.{before, rows_refusal, widest}
-use Rattle.plan.proofs.Checks.{wide_nowhere}
-use Rattle.plan.proofs.Plans.{Row, own, good, scan-stop, scan-row, scan-wide}
 use Rattle.plan.specs.Plan.{plan_of}
 use Rattle.plan.proofs.rows.first_refusal.Given as goal
 

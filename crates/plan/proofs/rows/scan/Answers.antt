@@ -1,5 +1,5 @@
 -- Where no test fails nothing refuses the rows. Assumes nothing.
-use Rattle.std.proofs.Common.{sym, ◌∙◌, rules}
+use Rattle.std.proofs.Common.{sym, ◌∙◌}
 use Rattle.plan.proofs.rows.scan.Goals as goal
 
 pub returns : goal.returns

@@ -1,7 +1,7 @@
 -- Rows rise while no bound falls; a width that has wrapped is wider than the series. Assumes nothing.
-use Rattle.std.proofs.Common.{◌≡◌, ◌-◌, ◌≤◌, false, length, refl, ⊎_elim, arith, rules}
+use Rattle.std.proofs.Common.{◌≡◌, length, refl, arith}
 use Rattle.plan.specs.Refusals.{rows_refusal, widest}
-use Rattle.plan.proofs.Plans.{Passing, Width, pass-first, pass-row, pass-last}
+use Rattle.plan.proofs.Plans.{pass-first, pass-row, pass-last}
 use Rattle.plan.specs.Plan.{plan_of}
 use Rattle.plan.proofs.rows.test_rows.Goals as goal
 use Rattle.plan.proofs.rows.test_rows.Goals.{else-widest-wide, then-widest-wide}

@@ -1,7 +1,6 @@
 -- Rows rise while no bound falls; a width that has wrapped is wider than the series. Assumes nothing.
-use Rattle.std.proofs.Common.{◌≡◌, ◌-◌, ◌≤◌, false, length, refl, ⊎_elim, arith, rules}
-use Rattle.plan.specs.Refusals.{rows_refusal, widest}
-use Rattle.plan.proofs.Plans.{Passing, Width, pass-first, pass-row, pass-last}
+use Rattle.std.proofs.Common.{◌≡◌, ◌-◌, ◌≤◌, false, length}
+use Rattle.plan.proofs.Plans.{Passing}
 use Rattle.plan.specs.Plan.{plan_of}
 use Rattle.plan.proofs.rows.test_rows.Given as goal
 

@@ -1,5 +1,5 @@
 -- By the two tests. Assumes nothing.
-use Rattle.std.proofs.Common.{◌≡◌, sym, ◌∙◌, rules}
+use Rattle.std.proofs.Common.{sym, ◌∙◌}
 use Rattle.window.specs.Code.Widening.{shown}
 use Rattle.rolling.proofs.extremes.extreme.Goals as goal
 

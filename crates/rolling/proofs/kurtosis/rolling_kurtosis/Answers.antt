@@ -1,5 +1,5 @@
 -- A refusal as it is checked, else the rows that the windows reach. Assumes nothing.
-use Rattle.std.proofs.Common.{refl, rules}
+use Rattle.std.proofs.Common.{refl}
 use Rattle.trace.specs.Trace.{trace_of}
 use Rattle.plan.proofs.FixedWindows.{reach_accepted}
 use Rattle.window.specs.Given.{Readings}

@@ -1,5 +1,5 @@
 -- By whether the place is valid. Assumes nothing.
-use Rattle.std.proofs.Common.{sym, ◌∙◌, rules}
+use Rattle.std.proofs.Common.{sym, ◌∙◌}
 use Rattle.window.specs.Readings.{nonfinite_at}
 use Rattle.rolling.proofs.leaving.is_nonfinite.Goals as goal
 

@@ -1,5 +1,5 @@
 -- A window that starts anew has nothing to count; else by the range that leaves. Assumes nothing.
-use Rattle.std.proofs.Common.{arith, rules}
+use Rattle.std.proofs.Common.{arith}
 use Rattle.window.proofs.Moves.{trim-none}
 use Rattle.rolling.proofs.leaving.tally_below.Goals as goal
 

@@ -1,6 +1,5 @@
 -- By what is known of the window. Assumes nothing.
-use Rattle.std.proofs.Common.{sym, refl, rules}
-use borrow.Author.Tests.{not-true}
+use Rattle.std.proofs.Common.{sym, refl}
 use Rattle.trace.specs.Trace.{valid_at}
 use Rattle.window.proofs.Places.{count-all}
 use Rattle.rolling.proofs.leaving.tally_leaving.Goals as goal

@@ -1,5 +1,5 @@
 -- By the three ends of the places that leave. Assumes nothing.
-use Rattle.std.proofs.Common.{arith, rules}
+use Rattle.std.proofs.Common.{arith}
 use Rattle.window.proofs.Moves.{trim-reset, trim-stay, trim-flip}
 use Rattle.rolling.proofs.leaving.trimmed.Goals as goal
 

@@ -1,5 +1,5 @@
 -- By whether the place is valid. Assumes nothing.
-use Rattle.std.proofs.Common.{sym, ◌∙◌, rules}
+use Rattle.std.proofs.Common.{sym, ◌∙◌}
 use Rattle.window.specs.Pairs.{nonfinite_pair}
 use Rattle.rolling.proofs.pairs.is_nonfinite.Goals as goal
 

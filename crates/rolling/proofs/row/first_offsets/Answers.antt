@@ -1,5 +1,5 @@
 -- Of fixed windows from the first place on, of a plan as it is listed. Assumes nothing.
-use Rattle.std.proofs.Common.{refl, rules}
+use Rattle.std.proofs.Common.{refl}
 use Rattle.rolling.proofs.RowLoops.{opens-fixed, listed-ahead, listed_same}
 use Rattle.rolling.proofs.row.first_offsets.Goals as goal
 

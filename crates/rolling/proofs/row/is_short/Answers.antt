@@ -1,5 +1,4 @@
 -- By the map, then by the row's length. Assumes nothing.
-use Rattle.std.proofs.Common.{rules}
 use Rattle.rolling.proofs.row.is_short.Goals as goal
 
 pub returns : goal.returns

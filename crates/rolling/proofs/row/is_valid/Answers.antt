@@ -1,5 +1,4 @@
 -- By whether a map is lent. Assumes nothing.
-use Rattle.std.proofs.Common.{rules}
 use Rattle.rolling.proofs.row.is_valid.Goals as goal
 
 pub returns-then-has_map : goal.returns-then-has_map

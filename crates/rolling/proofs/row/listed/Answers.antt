@@ -1,5 +1,5 @@
 -- Within the lists as it is read; behind them a row counts as from 0 up to 0. Assumes nothing.
-use Rattle.std.proofs.Common.{sym, arith, rules}
+use Rattle.std.proofs.Common.{sym, arith}
 use lib.ListN.{get_or-eq_default}
 use Rattle.rolling.proofs.row.listed.Goals as goal
 

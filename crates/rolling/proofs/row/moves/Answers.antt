@@ -1,6 +1,5 @@
 -- By the tests in their order. Assumes nothing.
 use Rattle.window.proofs.Rows.{moves_long, moves_first}
-use Rattle.std.proofs.Common.{rules}
 use Rattle.rolling.proofs.row.moves.Goals as goal
 
 pub returns-then-min_periods-end : goal.returns-then-min_periods-end

@@ -1,5 +1,5 @@
 -- Of fixed windows the step of the row's own, of a plan the next row as it is listed. Assumes nothing.
-use Rattle.std.proofs.Common.{◌^◌, ◌<◌, arith, rules}
+use Rattle.std.proofs.Common.{◌^◌, ◌<◌, arith}
 use Rattle.rolling.proofs.RowLoops.{next-fixed, listed-ahead, listed_same, listed_in}
 use Rattle.rolling.proofs.row.next.Goals as goal
 

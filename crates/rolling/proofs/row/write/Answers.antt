@@ -1,5 +1,5 @@
 -- By the figure's case; a float that is not equal to itself is the NaN. Assumes nothing.
-use Rattle.std.proofs.Common.{refl, rules}
+use Rattle.std.proofs.Common.{refl}
 use lib.Ieee.{div, of_bits}
 use Rattle.float.proofs.Finiteness.{not_itself}
 use Rattle.rolling.proofs.row.write.Goals as goal

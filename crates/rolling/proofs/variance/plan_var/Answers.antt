@@ -1,5 +1,5 @@
 -- A refusal as it is checked, else the rows. Assumes nothing.
-use Rattle.std.proofs.Common.{refl, rules}
+use Rattle.std.proofs.Common.{refl}
 use Rattle.trace.specs.Trace.{trace_of}
 use Rattle.window.specs.Given.{Readings}
 use Rattle.rolling.proofs.Calls.{driven, plan_refused, plan-called}

@@ -1,7 +1,6 @@
 -- Sums that start at zero, and doubles of those that all weights have made. Assumes nothing.
 use Rattle.weighted.proofs.WeightedSums.{sums-start}
 use Rattle.weighted.proofs.WeightedRows.{block_done}
-use borrow.Author.Rules.{rules}
 use Rattle.weighted.proofs.rows.block.Goals as goal
 
 pub of_block-requires : goal.of_block-requires

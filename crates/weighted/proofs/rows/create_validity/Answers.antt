@@ -1,13 +1,12 @@
 -- Row after row its window is held, and the bytes of the rows before are written. Assumes nothing.
-use Prim.Native.Nat.{ℕ, ◌-◌, ◌^◌, ◌≤◌, ◌<◌}
+use Prim.Native.Nat.{ℕ, ◌^◌, ◌<◌}
 use mathlib.Core.Path.{◌≡◌, refl, subst}
 use native.Mathlib.Omega.{arith}
-use borrow.Author.Rules.{rules}
 use Rattle.window.specs.Code.Filling.{Upto}
 use Rattle.window.proofs.Outputs.{upto-start, upto_next}
 use Rattle.weighted.specs.Code.Rows.{validity_at}
 use Rattle.plan.proofs.FixedWindows.{reaches-first, reaches-next}
-use Rattle.weighted.proofs.WeightedRows.{Held, rises, validity-is}
+use Rattle.weighted.proofs.WeightedRows.{rises, validity-is}
 use Rattle.weighted.proofs.rows.create_validity.Goals as goal
 
 pub loop-row-init : goal.loop-row-init

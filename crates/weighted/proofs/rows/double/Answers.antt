@@ -1,5 +1,4 @@
 -- By the byte. Assumes nothing.
-use borrow.Author.Rules.{rules}
 use borrow.Author.Tests.{eq-eqb, ne_eqb}
 use Rattle.weighted.proofs.rows.double.Goals as goal
 

@@ -1,17 +1,12 @@
 -- One row more, its double written. Assumes nothing.
-use Prim.Native.Nat.{◌-◌, ◌≤◌}
 use mathlib.Core.Path.{◌≡◌, refl, ap, ◌∙◌}
 use native.Mathlib.Omega.{arith}
-use borrow.Author.Rules.{rules}
 use lib.ListN.{length, get_or}
 use lib.Ieee.{Float}
 use Rattle.float.proofs.Tables.{table-over}
 use Rattle.moment.specs.Figure.{double_of}
-use Rattle.window.specs.Code.Filling.{Upto}
 use Rattle.window.proofs.Outputs.{upto-start, upto_next}
-use Rattle.weighted.specs.Weights.{variance_of}
-use Rattle.weighted.specs.Code.Sums.{sums_at}
-use Rattle.weighted.specs.Code.Rows.{answer_of, double_at}
+use Rattle.weighted.specs.Code.Rows.{answer_of}
 use Rattle.weighted.proofs.rows.finish.Goals as goal
 
 pub loop-r-init : goal.loop-r-init

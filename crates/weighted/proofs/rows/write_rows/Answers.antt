@@ -6,11 +6,8 @@ use borrow.Author.Rules.{rules}
 use borrow.Rule.Slice.PartMut.{mid_len}
 use lib.ListN.{length}
 use Rattle.float.proofs.Tables.{table_part}
-use Rattle.moment.specs.Figure.{double_of}
 use Rattle.plan.proofs.FixedWindows.{right-some}
-use Rattle.window.specs.Code.Filling.{Upto}
 use Rattle.window.proofs.Outputs.{upto-start}
-use Rattle.weighted.specs.Code.Rows.{weighted_by}
 use Rattle.weighted.proofs.WeightedRows.{block_doubles, rows-done}
 use Rattle.weighted.proofs.rows.write_rows.Goals as goal
 

@@ -1,12 +1,7 @@
 -- One row more: each list holds the new sums of the rows before it. Assumes nothing.
-use Prim.Native.Nat.{◌-◌, ◌≤◌}
 use mathlib.Core.Path.{◌≡◌, refl, ◌∙◌}
-use mathlib.Core.List.{◌++◌}
 use native.Mathlib.Omega.{arith}
-use borrow.Author.Rules.{rules}
-use lib.ListN.{length, drop, get_or, length-set}
-use lib.Ieee.{nan}
-use Rattle.float.specs.Operators.{◌⊕◌, ◌⊗◌}
+use lib.ListN.{length, length-set}
 use Rattle.float.specs.Tables.{table}
 use Rattle.float.proofs.Tables.{table-over}
 use Rattle.weighted.proofs.WeightedSums.{gains}

@@ -1,15 +1,11 @@
 -- One row more: each list holds the new sums of the rows before it. Assumes nothing.
 use Prim.Native.Nat.{◌-◌, ◌≤◌}
-use mathlib.Core.Path.{◌≡◌, refl, ◌∙◌}
+use mathlib.Core.Path.{◌≡◌}
 use mathlib.Core.List.{◌++◌}
-use native.Mathlib.Omega.{arith}
-use borrow.Author.Rules.{rules}
-use lib.ListN.{length, drop, get_or, length-set}
+use lib.ListN.{length, drop, get_or}
 use lib.Ieee.{nan}
 use Rattle.float.specs.Operators.{◌⊕◌, ◌⊗◌}
 use Rattle.float.specs.Tables.{table}
-use Rattle.float.proofs.Tables.{table-over}
-use Rattle.weighted.proofs.WeightedSums.{gains}
 use Rattle.weighted.proofs.sums.add.Given as goal
 
 abbrev pub invariant-loop-r : goal.invariant-loop-r

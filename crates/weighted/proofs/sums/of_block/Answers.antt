@@ -1,10 +1,7 @@
 -- A weight after another. Assumes nothing.
-use Prim.Native.Nat.{◌-◌, ◌≤◌}
 use mathlib.Core.Path.{◌≡◌}
 use native.Mathlib.Omega.{arith}
-use borrow.Author.Rules.{rules}
 use lib.ListN.{length}
-use Rattle.weighted.specs.Code.Sums.{SumsUpTo}
 use Rattle.weighted.proofs.sums.of_block.Goals as goal
 
 pub loop-j-init : goal.loop-j-init

@@ -2,7 +2,6 @@
 use mathlib.Core.Path.{refl}
 use native.Mathlib.Omega.{arith}
 use Rattle.weighted.proofs.WeightedSums.{weighed-none, weighed-beside, weighed-some}
-use borrow.Author.Rules.{rules}
 use Rattle.weighted.proofs.sums.weigh.Goals as goal
 
 pub returns-then-to-from : goal.returns-then-to-from

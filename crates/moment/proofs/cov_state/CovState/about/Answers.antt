@@ -1,10 +1,6 @@
 -- A sum over the pairs. Assumes nothing.
-use Rattle.std.proofs.Common.{◌-◌, length, refl, arith}
-use mathlib.Core.List.{zip}
 use Rattle.float.specs.Operators.{zero64}
-use Rattle.moment.specs.Sums.{deviation_product}
 use Rattle.moment.proofs.Pairs.{pair_step, pair_end}
-use Rattle.moment.proofs.Folds.{Summed}
 use Rattle.moment.proofs.cov_state.CovState.about.Goals as goal
 
 pub loop-i-preserved : goal.loop-i-preserved

@@ -1,9 +1,7 @@
 -- A sum over the pairs. Assumes nothing.
-use Rattle.std.proofs.Common.{◌-◌, length, refl, arith}
+use Rattle.std.proofs.Common.{◌-◌, length}
 use mathlib.Core.List.{zip}
-use Rattle.float.specs.Operators.{zero64}
 use Rattle.moment.specs.Sums.{deviation_product}
-use Rattle.moment.proofs.Pairs.{pair_step, pair_end}
 use Rattle.moment.proofs.Folds.{Summed}
 use Rattle.moment.proofs.cov_state.CovState.about.Given as goal
 

@@ -1,5 +1,4 @@
 -- By the tests of the weights. Assumes nothing.
-use Rattle.std.proofs.Common.{rules}
 use Rattle.moment.specs.Cov.{cov_combine}
 use Rattle.moment.proofs.cov_state.CovState.combine.Goals as goal
 

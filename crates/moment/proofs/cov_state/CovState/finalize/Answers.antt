@@ -1,5 +1,4 @@
 -- By the test of the weight. Assumes nothing.
-use Rattle.std.proofs.Common.{rules}
 use Rattle.moment.specs.Cov.{cov_finalize}
 use Rattle.moment.proofs.cov_state.CovState.finalize.Goals as goal
 

@@ -1,5 +1,5 @@
 -- From the sums of the two lists, which are those of the pairs. Assumes nothing.
-use Rattle.std.proofs.Common.{rules, eq-eqb, ne_eqb}
+use Rattle.std.proofs.Common.{eq-eqb, ne_eqb}
 use Rattle.moment.specs.Cov.{cov_empty, cov_about, cov_new}
 use Rattle.moment.proofs.Pairs.{pairs-lists}
 use Rattle.moment.proofs.cov_state.CovState.new.Goals as goal

@@ -1,9 +1,6 @@
 -- A sum over the valid ones for each moment. Assumes nothing.
-use Rattle.std.proofs.Common.{◌-◌, length, ⊎_elim, arith, rules}
 use Rattle.float.specs.Operators.{zero64}
-use Rattle.trace.specs.Trace.{valid_at}
-use Rattle.moment.specs.Sums.{square, cube, fourth}
-use Rattle.moment.proofs.Folds.{ValidSummed, valid-start, valid-step, missing-step, valid-end}
+use Rattle.moment.proofs.Folds.{valid-start, valid-step, missing-step, valid-end}
 use Rattle.moment.proofs.kurtosis_state.KurtosisState.about_valid.Goals as goal
 use Rattle.moment.proofs.kurtosis_state.KurtosisState.about_valid.Goals.{else-valid, then-valid}
 

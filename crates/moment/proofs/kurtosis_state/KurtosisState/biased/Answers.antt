@@ -1,5 +1,5 @@
 -- By the test of m2. Assumes nothing.
-use Rattle.std.proofs.Common.{sym, ◌∙◌, rules}
+use Rattle.std.proofs.Common.{sym, ◌∙◌}
 use Rattle.moment.specs.Kurtosis.{kurtosis_biased}
 use Rattle.moment.proofs.kurtosis_state.KurtosisState.biased.Goals as goal
 

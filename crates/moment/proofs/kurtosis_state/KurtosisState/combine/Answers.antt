@@ -1,5 +1,4 @@
 -- By the tests of the weights. Assumes nothing.
-use Rattle.std.proofs.Common.{rules}
 use Rattle.moment.specs.Kurtosis.{kurtosis_combine}
 use Rattle.moment.proofs.kurtosis_state.KurtosisState.combine.Goals as goal
 

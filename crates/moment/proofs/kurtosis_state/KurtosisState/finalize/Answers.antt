@@ -1,5 +1,4 @@
 -- By the tests of the setting and of the weight. Assumes nothing.
-use Rattle.std.proofs.Common.{rules}
 use Rattle.moment.specs.Kurtosis.{kurtosis_finalize}
 use Rattle.moment.proofs.kurtosis_state.KurtosisState.finalize.Goals as goal
 

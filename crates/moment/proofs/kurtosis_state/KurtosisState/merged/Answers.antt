@@ -1,5 +1,4 @@
 -- By the test of the weight. Assumes nothing.
-use Rattle.std.proofs.Common.{rules}
 use Rattle.moment.specs.Kurtosis.{kurtosis_clear}
 use Rattle.moment.proofs.kurtosis_state.KurtosisState.merged.Goals as goal
 

@@ -1,5 +1,5 @@
 -- From the sum and the moments about the mean. Assumes nothing.
-use Rattle.std.proofs.Common.{rules, eq-eqb, ne_eqb}
+use Rattle.std.proofs.Common.{eq-eqb, ne_eqb}
 use Rattle.moment.specs.Kurtosis.{kurtosis_new}
 use Rattle.moment.proofs.kurtosis_state.KurtosisState.new.Goals as goal
 

@@ -1,10 +1,8 @@
 -- Three sums over the pairs. Assumes nothing.
-use Rattle.std.proofs.Common.{◌-◌, length, refl, arith}
+use Rattle.std.proofs.Common.{◌-◌, length}
 use mathlib.Core.List.{zip}
-use Rattle.float.specs.Operators.{zero64}
 use Rattle.moment.specs.Sums.{deviation_product}
 use Rattle.moment.specs.Pearson.{square_x, square_y}
-use Rattle.moment.proofs.Pairs.{pair_step, pair_end}
 use Rattle.moment.proofs.Folds.{Summed}
 use Rattle.moment.proofs.pearson_state.PearsonState.about.Given as goal
 

@@ -1,5 +1,4 @@
 -- By the tests of the weights. Assumes nothing.
-use Rattle.std.proofs.Common.{rules}
 use Rattle.moment.specs.Pearson.{pearson_combine}
 use Rattle.moment.proofs.pearson_state.PearsonState.combine.Goals as goal
 

@@ -1,5 +1,4 @@
 -- By the test of the denominator; the root by its callee. Assumes nothing.
-use Rattle.std.proofs.Common.{rules}
 use Rattle.moment.specs.Pearson.{pearson_finalize}
 use Rattle.moment.proofs.pearson_state.PearsonState.finalize.Goals as goal
 

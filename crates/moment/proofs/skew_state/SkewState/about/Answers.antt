@@ -1,8 +1,7 @@
 -- A sum for each moment. Assumes nothing.
-use Rattle.std.proofs.Common.{◌-◌, length, refl, arith}
+use Rattle.std.proofs.Common.{refl}
 use Rattle.float.specs.Operators.{zero64}
-use Rattle.moment.specs.Sums.{square, cube}
-use Rattle.moment.proofs.Folds.{Summed, fold_step, fold_end}
+use Rattle.moment.proofs.Folds.{fold_step, fold_end}
 use Rattle.moment.proofs.skew_state.SkewState.about.Goals as goal
 
 pub loop-i-init : goal.loop-i-init

@@ -1,9 +1,8 @@
 -- A sum over the valid ones for each moment. Assumes nothing.
-use Rattle.std.proofs.Common.{◌-◌, length, ⊎_elim, arith, rules}
-use Rattle.float.specs.Operators.{zero64}
+use Rattle.std.proofs.Common.{◌-◌, length}
 use Rattle.trace.specs.Trace.{valid_at}
 use Rattle.moment.specs.Sums.{square, cube}
-use Rattle.moment.proofs.Folds.{ValidSummed, valid-start, valid-step, missing-step, valid-end}
+use Rattle.moment.proofs.Folds.{ValidSummed}
 use Rattle.moment.proofs.skew_state.SkewState.about_valid.Given as goal
 
 abbrev pub invariant-loop-i : goal.invariant-loop-i

@@ -1,5 +1,5 @@
 -- By the test of m2; the root by its callee. Assumes nothing.
-use Rattle.std.proofs.Common.{sym, ◌∙◌, rules}
+use Rattle.std.proofs.Common.{sym, ◌∙◌}
 use Rattle.moment.specs.Skew.{skew_biased}
 use Rattle.moment.proofs.skew_state.SkewState.biased.Goals as goal
 

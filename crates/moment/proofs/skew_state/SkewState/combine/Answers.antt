@@ -1,5 +1,4 @@
 -- By the tests of the weights. Assumes nothing.
-use Rattle.std.proofs.Common.{rules}
 use Rattle.moment.specs.Skew.{skew_clear, skew_combine}
 use Rattle.moment.proofs.skew_state.SkewState.combine.Goals as goal
 

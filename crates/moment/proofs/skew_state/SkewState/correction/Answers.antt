@@ -1,5 +1,4 @@
 -- The root by its callee. Assumes nothing.
-use Rattle.std.proofs.Common.{rules}
 use Rattle.moment.proofs.skew_state.SkewState.correction.Goals as goal
 
 pub returns : goal.returns

@@ -1,5 +1,4 @@
 -- By the tests of the setting and of the weight. Assumes nothing.
-use Rattle.std.proofs.Common.{rules}
 use Rattle.moment.specs.Skew.{skew_finalize}
 use Rattle.moment.proofs.skew_state.SkewState.finalize.Goals as goal
 

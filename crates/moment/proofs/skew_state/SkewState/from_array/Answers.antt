@@ -1,5 +1,5 @@
 -- By the refusal number and the flag; a range that is accepted lies inside the trace. Assumes nothing.
-use Rattle.std.proofs.Common.{◌+◌, ◌≤◌, length, arith, length-drop, length-take, rules}
+use Rattle.std.proofs.Common.{arith, length-drop, length-take}
 use Rattle.trace.proofs.Accepted.{range_fits_lem}
 use Rattle.moment.specs.Skew.{skew_new}
 use Rattle.moment.proofs.Answers.{answer-refused, range-mapped, range-plain}

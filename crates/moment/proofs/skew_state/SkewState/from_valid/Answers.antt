@@ -1,5 +1,5 @@
 -- From the count and the sum of the valid ones. Assumes nothing.
-use Rattle.std.proofs.Common.{sym, ◌∙◌, rules, eq-eqb, ne_eqb}
+use Rattle.std.proofs.Common.{sym, ◌∙◌, eq-eqb, ne_eqb}
 use Rattle.moment.specs.Skew.{skew_new}
 use Rattle.moment.proofs.skew_state.SkewState.from_valid.Goals as goal
 

@@ -1,5 +1,4 @@
 -- By the test of the weight. Assumes nothing.
-use Rattle.std.proofs.Common.{rules}
 use Rattle.moment.specs.Skew.{skew_clear}
 use Rattle.moment.proofs.skew_state.SkewState.insert_one.Goals as goal
 

@@ -1,5 +1,5 @@
 -- From the sum and the moments about the mean. Assumes nothing.
-use Rattle.std.proofs.Common.{rules, eq-eqb, ne_eqb}
+use Rattle.std.proofs.Common.{eq-eqb, ne_eqb}
 use Rattle.moment.specs.Skew.{skew_new}
 use Rattle.moment.proofs.skew_state.SkewState.new.Goals as goal
 

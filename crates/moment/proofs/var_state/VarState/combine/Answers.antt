@@ -1,5 +1,4 @@
 -- By the tests of the weights. Assumes nothing.
-use Rattle.std.proofs.Common.{rules}
 use Rattle.moment.specs.Var.{var_clear, var_combine}
 use Rattle.moment.proofs.var_state.VarState.combine.Goals as goal
 

@@ -1,5 +1,4 @@
 -- By the test of the weight; the quotient by its callee. Assumes nothing.
-use Rattle.std.proofs.Common.{rules}
 use Rattle.moment.specs.Var.{var_finalize}
 use Rattle.moment.proofs.var_state.VarState.finalize.Goals as goal
 

@@ -1,5 +1,4 @@
 -- By the test of the weight. Assumes nothing.
-use Rattle.std.proofs.Common.{rules}
 use Rattle.moment.specs.Var.{var_clear}
 use Rattle.moment.proofs.var_state.VarState.insert_one.Goals as goal
 

@@ -1,5 +1,5 @@
 -- From the two sums. Assumes nothing.
-use Rattle.std.proofs.Common.{rules, eq-eqb, ne_eqb}
+use Rattle.std.proofs.Common.{eq-eqb, ne_eqb}
 use Rattle.moment.specs.Var.{var_new}
 use Rattle.moment.proofs.var_state.VarState.new.Goals as goal
 

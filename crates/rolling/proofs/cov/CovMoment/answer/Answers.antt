@@ -1,5 +1,5 @@
 -- By the test and the figure. Assumes nothing.
-use Rattle.std.proofs.Common.{◌+◌, ◌-◌, Bool, cond, leb, sym, ap, ◌∙◌, rules}
+use Rattle.std.proofs.Common.{◌+◌, ◌-◌, Bool, cond, leb, sym, ap, ◌∙◌}
 use Rattle.rolling.proofs.cov.CovMoment.answer.Goals as goal
 
 pub returns-then-is_valid : goal.returns-then-is_valid

@@ -1,6 +1,6 @@
 -- One place more: a pair appended, zeros for one that is not finite, or a place passed over. Assumes nothing.
-use Rattle.std.proofs.Common.{◌+◌, ◌-◌, ◌*◌, ◌≤◌, length, sym, ◌∙◌, ⊎_elim, arith, length-set, rules}
-use Rattle.window.proofs.Pairs.{Appending, appending-start, appending-room, appending-nonfinite, appending-finite, appending-zeros}
+use Rattle.std.proofs.Common.{sym, ◌∙◌, arith, length-set}
+use Rattle.window.proofs.Pairs.{appending-start, appending-room, appending-nonfinite, appending-finite, appending-zeros}
 use Rattle.window.proofs.Pairs.{appending-missing, appending-done}
 use Rattle.rolling.specs.Code.Layouts.{cov_states}
 use Rattle.rolling.proofs.cov.CovMoment.append.Goals as goal
@@ -57,17 +57,23 @@ overflow_add-many c = let h = (appending-room cov_states _ _ _ _ _ _ _ _ _ _ _ _
 pub loop-i-preserved : goal.loop-i-preserved
 loop-i-preserved c =
     let more = c.loop-i-test.true in
-    elim c.if-both.branch [ then-both w ↦ 
-    let v = sym c.both.ensures ∙ w.if-both.true in
-    rw (w.back-is, w.state-is, w.many-is, w.count-is)
-    (elim w.if-is_finite.branch [ then-is_finite u ↦ rw (u.back-is, u.state-is, u.count-is)
-    (appending-finite cov_states _ _ _ _ _ _ _ _ _ _ _ _ c.loop-i.invariant more
-    c.requires v (sym w.is_finite.ensures ∙ u.if-is_finite.true) _
-    u.insert-state.ensures) | else-is_finite u ↦ rw (u.back-is, u.state-is, u.count-is)
-    (appending-zeros cov_states _ _ _ _ _ _ _ _ _ _ _ _ c.loop-i.invariant more
-    c.requires v (sym w.is_finite.ensures ∙ u.if-is_finite.false) _
-    u.insert-state-else-is_finite.ensures) ]) | else-both w ↦ rw (w.back-is, w.state-is, w.many-is, w.count-is) (appending-missing cov_states _ _ _ _ _ _ _ _ _ _ _ _ c.loop-i.invariant more
-    c.requires (sym c.both.ensures ∙ w.if-both.false)) ]
+    elim c.if-both.branch [
+      | then-both w ↦
+          let v = sym c.both.ensures ∙ w.if-both.true in
+          rw (w.back-is, w.state-is, w.many-is, w.count-is)
+          (elim w.if-is_finite.branch [
+            | then-is_finite u ↦ rw (u.back-is, u.state-is, u.count-is)
+                (appending-finite cov_states _ _ _ _ _ _ _ _ _ _ _ _ c.loop-i.invariant more
+                c.requires v (sym w.is_finite.ensures ∙ u.if-is_finite.true) _
+                u.insert-state.ensures)
+            | else-is_finite u ↦ rw (u.back-is, u.state-is, u.count-is)
+                (appending-zeros cov_states _ _ _ _ _ _ _ _ _ _ _ _ c.loop-i.invariant more
+                c.requires v (sym w.is_finite.ensures ∙ u.if-is_finite.false) _
+                u.insert-state-else-is_finite.ensures)
+          ])
+      | else-both w ↦ rw (w.back-is, w.state-is, w.many-is, w.count-is) (appending-missing cov_states _ _ _ _ _ _ _ _ _ _ _ _ c.loop-i.invariant more
+          c.requires (sym c.both.ensures ∙ w.if-both.false))
+    ]
 
 pub returns : goal.returns
 returns c = appending-done cov_states _ _ _ _ _ _ _ _ _ _ _ _ c.loop-i.invariant c.loop-i-test.false

@@ -1,8 +1,6 @@
 -- Row after row the window holds the account, and the lists its answers. Assumes nothing.
-use Rattle.std.proofs.Common.{◌-◌, length, arith}
-use Rattle.moment.specs.Cov.{cov_finalize}
-use Rattle.window.specs.Pairs.{pair_series}
-use Rattle.rolling.proofs.RowLoops.{Turn, turn-starts, turn-row, turn-there, turn-movable, turn-fits, turn-next, turn-done}
+use Rattle.std.proofs.Common.{arith}
+use Rattle.rolling.proofs.RowLoops.{turn-starts, turn-row, turn-there, turn-movable, turn-fits, turn-next, turn-done}
 use Rattle.rolling.proofs.RowLoops.{within_both}
 use Rattle.rolling.specs.Code.Layouts.{cov_stored}
 use Rattle.rolling.proofs.cov.CovMoment.block.Goals as goal

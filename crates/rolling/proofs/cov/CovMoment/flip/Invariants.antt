@@ -1,7 +1,5 @@
 -- By the turns of a flip. Assumes nothing.
-use Rattle.std.proofs.Common.{arith, length-set, rules}
-use Rattle.window.proofs.Pairs.{Flipping, flipping-start, flipping-turn, flipping-done}
-use Rattle.rolling.proofs.Rolling.{puts4}
+use Rattle.window.proofs.Pairs.{Flipping}
 use Rattle.rolling.specs.Code.Layouts.{cov_states}
 use Rattle.rolling.proofs.cov.CovMoment.flip.Given as goal
 

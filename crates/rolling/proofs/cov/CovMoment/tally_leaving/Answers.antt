@@ -1,6 +1,5 @@
 -- By what is known of the window. Assumes nothing.
-use Rattle.std.proofs.Common.{sym, ◌∙◌, rules}
-use borrow.Author.Tests.{not-true}
+use Rattle.std.proofs.Common.{sym, ◌∙◌}
 use Rattle.window.proofs.Places.{count-all}
 use Rattle.window.proofs.Pairs.{unmapped_both}
 use Rattle.rolling.proofs.cov.CovMoment.tally_leaving.Goals as goal

@@ -1,10 +1,7 @@
 -- By the three ends: a flip, an emptied back stack, or a back stack that stays. Assumes nothing.
-use Rattle.window.specs.Code.Stacks.{Trims}
-use Rattle.window.specs.Pairs.{pair_places}
 use Rattle.window.proofs.Moves.{trim-fits}
 use Rattle.window.proofs.Steps.{trim-flips, trim-empties, trim-keeps}
 use Rattle.rolling.specs.Code.Layouts.{cov_stored}
-use Rattle.std.proofs.Common.{rules}
 use Rattle.rolling.proofs.cov.CovMoment.trim.Goals as goal
 
 pub tally_below-leaving-requires : goal.tally_below-leaving-requires

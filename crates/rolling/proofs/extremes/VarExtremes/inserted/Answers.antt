@@ -1,5 +1,5 @@
 -- By the test of the reading. Assumes nothing.
-use Rattle.std.proofs.Common.{◌≡◌, sym, ◌∙◌, rules}
+use Rattle.std.proofs.Common.{sym, ◌∙◌}
 use Rattle.rolling.proofs.extremes.VarExtremes.inserted.Goals as goal
 
 pub returns-then-is_finite : goal.returns-then-is_finite

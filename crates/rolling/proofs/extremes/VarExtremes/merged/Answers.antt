@@ -1,5 +1,4 @@
 -- By the members. Assumes nothing.
-use Rattle.std.proofs.Common.{rules}
 use Rattle.rolling.proofs.extremes.VarExtremes.merged.Goals as goal
 
 pub returns : goal.returns

@@ -1,8 +1,6 @@
 -- Row after row the window holds the account, and the lists its answers. Assumes nothing.
-use Rattle.std.proofs.Common.{◌-◌, length, arith, rules}
-use Rattle.moment.specs.Kurtosis.{kurtosis_finalize}
-use Rattle.window.specs.Readings.{series}
-use Rattle.rolling.proofs.RowLoops.{Turn, turn-starts, turn-row, turn-there, turn-movable, turn-fits, turn-next, turn-done}
+use Rattle.std.proofs.Common.{arith}
+use Rattle.rolling.proofs.RowLoops.{turn-starts, turn-row, turn-there, turn-movable, turn-fits, turn-next, turn-done}
 use Rattle.rolling.specs.Code.Layouts.{kurtosis_stored}
 use Rattle.rolling.proofs.kurtosis.KurtosisMoment.block.Goals as goal
 

@@ -1,8 +1,8 @@
 -- Row after row the window holds the account, and the lists its answers. Assumes nothing.
-use Rattle.std.proofs.Common.{◌-◌, length, arith, rules}
+use Rattle.std.proofs.Common.{◌-◌, length}
 use Rattle.moment.specs.Kurtosis.{kurtosis_finalize}
 use Rattle.window.specs.Readings.{series}
-use Rattle.rolling.proofs.RowLoops.{Turn, turn-starts, turn-row, turn-there, turn-movable, turn-fits, turn-next, turn-done}
+use Rattle.rolling.proofs.RowLoops.{Turn}
 use Rattle.rolling.specs.Code.Layouts.{kurtosis_stored}
 use Rattle.rolling.proofs.kurtosis.KurtosisMoment.block.Given as goal
 

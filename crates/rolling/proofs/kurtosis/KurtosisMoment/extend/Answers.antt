@@ -1,5 +1,4 @@
 -- What is appended to the part that begins after the front stack is the back stack grown. Assumes nothing.
-use Rattle.std.proofs.Common.{rules}
 use Rattle.window.proofs.Steps.{extend-appendable, extend-appended}
 use Rattle.rolling.specs.Code.Layouts.{kurtosis_stored}
 use Rattle.rolling.proofs.kurtosis.KurtosisMoment.extend.Goals as goal

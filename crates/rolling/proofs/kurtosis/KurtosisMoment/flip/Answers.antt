@@ -1,6 +1,6 @@
 -- By the turns of a flip. Assumes nothing.
-use Rattle.std.proofs.Common.{◌-◌, arith, length-set, rules}
-use Rattle.window.proofs.Readings.{Flipping, flipping-start, flipping-turn, flipping-done}
+use Rattle.std.proofs.Common.{arith, length-set}
+use Rattle.window.proofs.Readings.{flipping-start, flipping-turn, flipping-done}
 use Rattle.rolling.proofs.Rolling.{puts5}
 use Rattle.rolling.specs.Code.Layouts.{kurtosis_states}
 use Rattle.rolling.proofs.kurtosis.KurtosisMoment.flip.Goals as goal

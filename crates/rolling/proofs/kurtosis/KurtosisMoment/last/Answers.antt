@@ -1,5 +1,5 @@
 -- The state's members are read where it lies. Assumes nothing.
-use Rattle.std.proofs.Common.{add-zero, get_or-drop, rules, eq-eqb, ne_eqb}
+use Rattle.std.proofs.Common.{add-zero, get_or-drop, eq-eqb, ne_eqb}
 use Rattle.window.specs.Code.Stacks.{top_of}
 use Rattle.rolling.proofs.kurtosis.KurtosisMoment.last.Goals as goal
 

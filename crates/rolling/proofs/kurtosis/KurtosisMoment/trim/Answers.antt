@@ -1,7 +1,4 @@
 -- By the three ends: a flip, an emptied back stack, or a back stack that stays. Assumes nothing.
-use Rattle.std.proofs.Common.{rules}
-use Rattle.window.specs.Code.Stacks.{Trims}
-use Rattle.window.specs.Readings.{places_by}
 use Rattle.window.proofs.Moves.{trim-fits}
 use Rattle.window.proofs.Steps.{trim-flips, trim-empties, trim-keeps}
 use Rattle.rolling.specs.Code.Layouts.{kurtosis_stored}

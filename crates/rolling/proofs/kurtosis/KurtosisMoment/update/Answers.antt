@@ -1,5 +1,4 @@
 -- Places leave, then places enter. Assumes nothing.
-use Rattle.std.proofs.Common.{rules}
 use Rattle.window.proofs.Steps.{update-trimmable, update-extendable, updated}
 use Rattle.rolling.specs.Code.Layouts.{kurtosis_stored}
 use Rattle.rolling.proofs.kurtosis.KurtosisMoment.update.Goals as goal

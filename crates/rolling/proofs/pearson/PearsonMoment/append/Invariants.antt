@@ -1,7 +1,6 @@
 -- One place more: a pair appended, zeros for one that is not finite, or a place passed over. Assumes nothing.
-use Rattle.std.proofs.Common.{◌+◌, ◌-◌, ◌*◌, ◌≤◌, length, sym, ◌∙◌, ⊎_elim, arith, length-set, rules}
-use Rattle.window.proofs.Pairs.{Appending, appending-start, appending-room, appending-nonfinite, appending-finite, appending-zeros}
-use Rattle.window.proofs.Pairs.{appending-missing, appending-done}
+use Rattle.std.proofs.Common.{◌-◌}
+use Rattle.window.proofs.Pairs.{Appending}
 use Rattle.rolling.specs.Code.Layouts.{pearson_states}
 use Rattle.rolling.proofs.pearson.PearsonMoment.append.Given as goal
 

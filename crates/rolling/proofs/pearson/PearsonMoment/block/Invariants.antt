@@ -1,9 +1,8 @@
 -- Row after row the window holds the account, and the lists its answers. Assumes nothing.
-use Rattle.std.proofs.Common.{◌-◌, length, arith}
+use Rattle.std.proofs.Common.{◌-◌, length}
 use Rattle.rolling.specs.Moments.{correlation_finalize}
 use Rattle.window.specs.Pairs.{pair_series}
-use Rattle.rolling.proofs.RowLoops.{Turn, turn-starts, turn-row, turn-there, turn-movable, turn-fits, turn-next, turn-done}
-use Rattle.rolling.proofs.RowLoops.{within_both}
+use Rattle.rolling.proofs.RowLoops.{Turn}
 use Rattle.rolling.specs.Code.Layouts.{pearson_stored}
 use Rattle.rolling.proofs.pearson.PearsonMoment.block.Given as goal
 

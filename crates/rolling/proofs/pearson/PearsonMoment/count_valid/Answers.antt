@@ -1,7 +1,5 @@
 -- One place more. Assumes nothing.
-use Rattle.std.proofs.Common.{◌≡◌, ◌-◌, ◌≤◌, sym, arith, rules}
-use Rattle.trace.specs.Trace.{both_at}
-use Rattle.window.specs.Places.{chosen_count}
+use Rattle.std.proofs.Common.{◌≡◌, sym, arith, rules}
 use Rattle.window.proofs.Places.{entries-self, count-more}
 use Rattle.rolling.proofs.Rolling.{bit_le}
 use Rattle.rolling.proofs.pearson.PearsonMoment.count_valid.Goals as goal

@@ -1,7 +1,6 @@
 -- What is appended to the part that begins after the front stack is the back stack grown. Assumes nothing.
 use Rattle.window.proofs.Steps.{extend-appendable, extend-appended}
 use Rattle.rolling.specs.Code.Layouts.{pearson_stored}
-use Rattle.std.proofs.Common.{rules}
 use Rattle.rolling.proofs.pearson.PearsonMoment.extend.Goals as goal
 
 pub append-appended-requires : goal.append-appended-requires

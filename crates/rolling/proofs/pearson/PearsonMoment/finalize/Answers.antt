@@ -1,5 +1,4 @@
 -- By whether a pair is held. Assumes nothing.
-use Rattle.std.proofs.Common.{rules}
 use Rattle.rolling.proofs.pearson.PearsonMoment.finalize.Goals as goal
 
 pub returns-then-state : goal.returns-then-state

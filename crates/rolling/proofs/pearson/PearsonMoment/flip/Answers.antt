@@ -1,6 +1,6 @@
 -- By the turns of a flip. Assumes nothing.
-use Rattle.std.proofs.Common.{arith, length-set, rules}
-use Rattle.window.proofs.Pairs.{Flipping, flipping-start, flipping-turn, flipping-done}
+use Rattle.std.proofs.Common.{arith, length-set}
+use Rattle.window.proofs.Pairs.{flipping-start, flipping-turn, flipping-done}
 use Rattle.rolling.proofs.Rolling.{puts6}
 use Rattle.rolling.specs.Code.Layouts.{pearson_states}
 use Rattle.rolling.proofs.pearson.PearsonMoment.flip.Goals as goal

@@ -1,5 +1,4 @@
 -- By the callees. Assumes nothing.
-use Rattle.std.proofs.Common.{rules}
 use Rattle.rolling.proofs.pearson.PearsonMoment.get_moment.Goals as goal
 
 pub returns : goal.returns

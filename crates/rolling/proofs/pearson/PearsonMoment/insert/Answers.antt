@@ -1,5 +1,4 @@
 -- By both parts. Assumes nothing.
-use Rattle.std.proofs.Common.{rules}
 use Rattle.rolling.proofs.pearson.PearsonMoment.insert.Goals as goal
 
 pub returns : goal.returns

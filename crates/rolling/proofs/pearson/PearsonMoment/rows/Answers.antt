@@ -1,6 +1,5 @@
 -- From a fresh window on, every row. Assumes nothing.
-use Rattle.std.proofs.Common.{length, refl, ◌∙◌, arith, rules}
-use Rattle.rolling.specs.Moments.{correlation_finalize}
+use Rattle.std.proofs.Common.{length, refl, ◌∙◌, arith}
 use Rattle.rolling.specs.Code.Layouts.{pearson_stored}
 use Rattle.rolling.proofs.RowLoops.{many_rows, rows-can, rows-kept, rows-columns}
 use Rattle.rolling.proofs.pearson.PearsonMoment.rows.Goals as goal

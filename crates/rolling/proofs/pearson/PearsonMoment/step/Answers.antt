@@ -1,5 +1,5 @@
 -- By whether the row moves the window. Assumes nothing.
-use Rattle.std.proofs.Common.{Bool, sym, ap, ◌∙◌, rules}
+use Rattle.std.proofs.Common.{Bool, sym, ap, ◌∙◌}
 use Rattle.window.specs.Rows.{moves}
 use Rattle.window.proofs.Steps.{step-moves, step_stays}
 use Rattle.rolling.specs.Code.Layouts.{pearson_stored}

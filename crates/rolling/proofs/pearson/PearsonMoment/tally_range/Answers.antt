@@ -1,8 +1,7 @@
 -- One place more, twice. Assumes nothing.
-use Rattle.std.proofs.Common.{◌≡◌, ◌-◌, ◌≤◌, sym, arith, rules}
+use Rattle.std.proofs.Common.{◌≡◌, sym, arith, rules}
 use Rattle.trace.specs.Trace.{both_at}
-use Rattle.window.specs.Places.{valid_count, nonfinite_count}
-use Rattle.window.specs.Pairs.{pair_places, nonfinite_pair}
+use Rattle.window.specs.Pairs.{nonfinite_pair}
 use Rattle.window.proofs.Places.{entries-self, count-le, count-more}
 use Rattle.rolling.proofs.Rolling.{bit_le}
 use Rattle.rolling.proofs.pearson.PearsonMoment.tally_range.Goals as goal

@@ -1,7 +1,6 @@
 -- Places leave, then places enter. Assumes nothing.
 use Rattle.window.proofs.Steps.{update-trimmable, update-extendable, updated}
 use Rattle.rolling.specs.Code.Layouts.{pearson_stored}
-use Rattle.std.proofs.Common.{rules}
 use Rattle.rolling.proofs.pearson.PearsonMoment.update.Goals as goal
 
 pub trim-trimmed-requires : goal.trim-trimmed-requires

@@ -1,7 +1,6 @@
 -- One place more: a reading appended, a zero for one that is not finite, or a place passed over. Assumes nothing.
-use Rattle.std.proofs.Common.{◌-◌, ◌<◌, length, sym, ◌∙◌, ⊎_elim, arith, rules}
-use Rattle.window.specs.Readings.{inserted_at}
-use Rattle.window.proofs.Readings.{Appending, appending-start, appending-room, appending-nonfinite, appending-finite, appending-zero, appending-missing, appending-done}
+use Rattle.std.proofs.Common.{sym, ◌∙◌, arith}
+use Rattle.window.proofs.Readings.{appending-start, appending-room, appending-nonfinite, appending-finite, appending-zero, appending-missing, appending-done}
 use Rattle.rolling.specs.Code.Layouts.{skew_states}
 use Rattle.rolling.proofs.Weighed.{skew_weighs, append-inserted}
 use Rattle.rolling.proofs.skew.SkewMoment.append.Goals as goal
@@ -46,11 +45,14 @@ loop-i-preserved c =
     let s = l in
     let more = c.loop-i-test.true in
     let plain = append-inserted skew_states skew_weighs _ _ _ _ _ _ _ _ _ _ l.loop-i.invariant more s.requires.appendable s.requires.agg_back_value in
-    elim c.if-valid.branch [ then-valid w ↦ 
-    let v = sym c.valid.ensures ∙ w.if-valid.true in
-    rw (w.back-is, w.state-is, w.at-is, w.count-is)
-    (elim w.if-is_finite.branch [ then-is_finite u ↦ rw (u.back-is, u.state-is, u.count-is) (appending-finite skew_states _ _ _ _ _ _ _ _ _ l.loop-i.invariant more s.requires.appendable v (sym w.is_finite.ensures ∙ u.if-is_finite.true) _ (u.inserted-state.ensures ∙ plain _)) | else-is_finite u ↦ rw (u.back-is, u.state-is, u.count-is) (appending-zero skew_states _ _ _ _ _ _ _ _ _ l.loop-i.invariant more s.requires.appendable v (sym w.is_finite.ensures ∙ u.if-is_finite.false) _ (u.inserted-state-else-is_finite.ensures ∙ plain _)) ]) | else-valid w ↦ rw (w.back-is, w.state-is, w.at-is, w.count-is) (appending-missing skew_states _ _ _ _ _ _ _ _ _ _ l.loop-i.invariant more s.requires.appendable (sym
-    c.valid.ensures ∙ w.if-valid.false)) ]
+    elim c.if-valid.branch [
+      | then-valid w ↦
+          let v = sym c.valid.ensures ∙ w.if-valid.true in
+          rw (w.back-is, w.state-is, w.at-is, w.count-is)
+          (elim w.if-is_finite.branch [ then-is_finite u ↦ rw (u.back-is, u.state-is, u.count-is) (appending-finite skew_states _ _ _ _ _ _ _ _ _ l.loop-i.invariant more s.requires.appendable v (sym w.is_finite.ensures ∙ u.if-is_finite.true) _ (u.inserted-state.ensures ∙ plain _)) | else-is_finite u ↦ rw (u.back-is, u.state-is, u.count-is) (appending-zero skew_states _ _ _ _ _ _ _ _ _ l.loop-i.invariant more s.requires.appendable v (sym w.is_finite.ensures ∙ u.if-is_finite.false) _ (u.inserted-state-else-is_finite.ensures ∙ plain _)) ])
+      | else-valid w ↦ rw (w.back-is, w.state-is, w.at-is, w.count-is) (appending-missing skew_states _ _ _ _ _ _ _ _ _ _ l.loop-i.invariant more s.requires.appendable (sym
+          c.valid.ensures ∙ w.if-valid.false))
+    ]
 
 pub returns : goal.returns
 returns c = appending-done skew_states _ _ _ _ _ _ _ _ _ _ c.loop-i.invariant c.loop-i-test.false

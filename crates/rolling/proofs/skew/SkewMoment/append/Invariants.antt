@@ -1,9 +1,8 @@
 -- One place more: a reading appended, a zero for one that is not finite, or a place passed over. Assumes nothing.
-use Rattle.std.proofs.Common.{◌-◌, ◌<◌, length, sym, ◌∙◌, ⊎_elim, arith, rules}
+use Rattle.std.proofs.Common.{◌-◌}
 use Rattle.window.specs.Readings.{inserted_at}
-use Rattle.window.proofs.Readings.{Appending, appending-start, appending-room, appending-nonfinite, appending-finite, appending-zero, appending-missing, appending-done}
+use Rattle.window.proofs.Readings.{Appending}
 use Rattle.rolling.specs.Code.Layouts.{skew_states}
-use Rattle.rolling.proofs.Weighed.{skew_weighs, append-inserted}
 use Rattle.rolling.proofs.skew.SkewMoment.append.Given as goal
 
 abbrev pub invariant-loop-i : goal.invariant-loop-i

@@ -1,8 +1,6 @@
 -- Row after row the window stands before the next, and the rows behind it have their bytes and slots. Assumes nothing.
-use Rattle.std.proofs.Common.{◌-◌, sym, ◌∙◌, arith, rules}
-use Rattle.rolling.specs.Code.Layouts.{skew_states}
-use Rattle.rolling.proofs.Weighed.{skew_weighs, weighed}
-use Rattle.rolling.proofs.Blocks.{BlockTurn, block-starts, block_row, block-slot, block-movable, block-fits, block-next, block_done}
+use Rattle.std.proofs.Common.{◌-◌}
+use Rattle.rolling.proofs.Blocks.{BlockTurn}
 use Rattle.rolling.proofs.skew.SkewMoment.block.Given as goal
 
 abbrev pub invariant-loop-row : goal.invariant-loop-row

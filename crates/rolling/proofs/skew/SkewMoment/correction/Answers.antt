@@ -1,5 +1,5 @@
 -- By whether the count's correction is kept. Assumes nothing.
-use Rattle.std.proofs.Common.{◌%◌, ◌<◌, sym, ap, ◌∙◌, arith, rules}
+use Rattle.std.proofs.Common.{◌%◌, ◌<◌, sym, ap, ◌∙◌, arith}
 use Rattle.float.specs.Operators.{of_nat64}
 use Rattle.moment.specs.Skew.{skew_correction}
 use Rattle.float.proofs.Cases.{apart}

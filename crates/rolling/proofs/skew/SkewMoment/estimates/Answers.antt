@@ -1,9 +1,7 @@
 -- One slot more. Assumes nothing.
-use Rattle.std.proofs.Common.{◌≡◌, ◌-◌, ◌≤◌, ◌++◌, length, get_or, drop, refl, ◌∙◌, arith, length-set, rules}
-use lib.Ieee.{nan}
+use Rattle.std.proofs.Common.{◌≡◌, length, refl, ◌∙◌, arith, length-set}
 use Rattle.float.specs.Tables.{table}
 use Rattle.float.proofs.Tables.{table_more, table-over}
-use Rattle.rolling.specs.Code.Slots.{estimate}
 use Rattle.rolling.proofs.skew.SkewMoment.estimates.Goals as goal
 
 pub loop-i-init : goal.loop-i-init

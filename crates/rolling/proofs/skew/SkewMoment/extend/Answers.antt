@@ -1,5 +1,5 @@
 -- What is appended to the part that begins after the front stack is the back stack grown. Assumes nothing.
-use Rattle.std.proofs.Common.{le_trans, rules}
+use Rattle.std.proofs.Common.{le_trans}
 use Rattle.window.proofs.Steps.{extend-appendable, extend-appended}
 use Rattle.rolling.specs.Code.Layouts.{skew_stored, skew_states}
 use Rattle.rolling.proofs.Weighed.{skew_weighs, rising-weight}

@@ -1,5 +1,5 @@
 -- By the roots of the first n slots. Assumes nothing.
-use Rattle.std.proofs.Common.{◌∙◌, arith, length-take, rules}
+use Rattle.std.proofs.Common.{◌∙◌, arith, length-take}
 use Rattle.rolling.proofs.Slots.{finished}
 use Rattle.rolling.proofs.skew.SkewMoment.finish.Goals as goal
 

@@ -1,6 +1,6 @@
 -- By the turns of a flip; the weight counts what is inserted. Assumes nothing.
-use Rattle.std.proofs.Common.{◌∙◌, arith, length-set, rules}
-use Rattle.window.proofs.Readings.{Flipping, flipping-start, flipping-turn, flipping-done}
+use Rattle.std.proofs.Common.{◌∙◌, arith, length-set}
+use Rattle.window.proofs.Readings.{flipping-start, flipping-turn, flipping-done}
 use Rattle.rolling.proofs.Rolling.{puts4}
 use Rattle.rolling.proofs.Weighed.{skew_weighs, flip-inserted}
 use Rattle.rolling.specs.Code.Layouts.{skew_states}

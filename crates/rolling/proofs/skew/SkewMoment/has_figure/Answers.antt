@@ -1,5 +1,4 @@
 -- By the setting. Assumes nothing.
-use Rattle.std.proofs.Common.{⊎_elim}
 use Rattle.rolling.proofs.skew.SkewMoment.has_figure.Goals as goal
 use Rattle.rolling.proofs.skew.SkewMoment.has_figure.Goals.{else-self, then-self}
 

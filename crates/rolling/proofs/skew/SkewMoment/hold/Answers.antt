@@ -1,5 +1,5 @@
 -- By the two tests. Assumes nothing.
-use Rattle.std.proofs.Common.{sym, refl, ◌∙◌, rules, eq-eqb, ne_eqb}
+use Rattle.std.proofs.Common.{sym, refl, ◌∙◌, eq-eqb, ne_eqb}
 use lib.Ieee.{div, of_bits}
 use Rattle.rolling.proofs.skew.SkewMoment.hold.Goals as goal
 

@@ -1,5 +1,5 @@
 -- By the two tests. Assumes nothing.
-use Rattle.std.proofs.Common.{sym, ap, ◌∙◌, rules}
+use Rattle.std.proofs.Common.{sym, ap, ◌∙◌}
 use Rattle.rolling.specs.Code.Slots.{pending_of}
 use Rattle.rolling.specs.declared.skew.SkewPending.TheVariants.{State}
 use Rattle.rolling.proofs.skew.SkewMoment.pending.Goals as goal

@@ -1,5 +1,5 @@
 -- By whether the row has a state to finalise. Assumes nothing.
-use Rattle.std.proofs.Common.{◌+◌, sym, ap, ◌∙◌, rules}
+use Rattle.std.proofs.Common.{◌+◌, sym, ap, ◌∙◌}
 use Rattle.moment.specs.Skew.{skew_finalize}
 use Rattle.moment.specs.declared.skew_state.SkewState.{SkewState}
 use Rattle.window.specs.Window.{or_nan}

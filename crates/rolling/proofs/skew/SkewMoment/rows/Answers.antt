@@ -1,15 +1,14 @@
 -- Block after block the outputs hold the answers of the rows before. Assumes nothing.
-use Rattle.std.proofs.Common.{ℕ, min, ap, ◌≡◌, ◌+◌, ◌-◌, ◌<◌, ◌≤◌, length, take, drop, sym, refl, ◌∙◌, arith, length-drop, length-take, rules}
+use Rattle.std.proofs.Common.{ℕ, min, ap, ◌≡◌, ◌+◌, ◌-◌, ◌<◌, ◌≤◌, length, take, drop, sym, refl, ◌∙◌, arith, length-take}
 use lib.ListN.{length-replicate}
 use lib.Ieee.{Float}
 use Rattle.float.specs.Operators.{zero64}
-use Rattle.moment.specs.Skew.{skew_finalize}
-use Rattle.plan.specs.Plan.{Plan, rows}
+use Rattle.plan.specs.Plan.{rows}
 use Rattle.rolling.specs.Code.Layouts.{skew_stored}
 use Rattle.rolling.specs.Code.Rows.{plan_by}
 use Rattle.rolling.proofs.RowLoops.{many_rows, rows-kept, rows-columns}
 use Rattle.rolling.proofs.Slots.{first_places}
-use Rattle.rolling.proofs.Blocks.{Blocks, blocks_start, blocks-can, blocks-next}
+use Rattle.rolling.proofs.Blocks.{blocks_start, blocks-can, blocks-next}
 use Rattle.rolling.proofs.skew.SkewMoment.rows.Goals as goal
 
 -- where a block ends

@@ -1,5 +1,5 @@
 -- By whether the row moves the window. Assumes nothing.
-use Rattle.std.proofs.Common.{sym, ◌∙◌, rules}
+use Rattle.std.proofs.Common.{sym, ◌∙◌}
 use Rattle.window.proofs.Steps.{step-moves, step_stays}
 use Rattle.rolling.specs.Code.Layouts.{skew_stored}
 use Rattle.rolling.proofs.skew.SkewMoment.step.Goals as goal

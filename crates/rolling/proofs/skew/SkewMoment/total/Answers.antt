@@ -1,5 +1,5 @@
 -- By the counts. Assumes nothing.
-use Rattle.std.proofs.Common.{sym, ap, ◌∙◌, arith, rules, eq-eqb, ne_eqb}
+use Rattle.std.proofs.Common.{sym, ap, ◌∙◌, arith, eq-eqb, ne_eqb}
 use Rattle.moment.specs.Skew.{skew_merged}
 use Rattle.moment.proofs.Weights.{skew_by_counts, skew_merged_lem}
 use Rattle.rolling.proofs.skew.SkewMoment.total.Goals as goal

@@ -1,5 +1,5 @@
 -- By the test and the figure. Assumes nothing.
-use Rattle.std.proofs.Common.{sym, ◌∙◌, rules}
+use Rattle.std.proofs.Common.{sym, ◌∙◌}
 use Rattle.rolling.proofs.variance.VarianceMoment.answer.Goals as goal
 
 pub returns-then-is_valid : goal.returns-then-is_valid

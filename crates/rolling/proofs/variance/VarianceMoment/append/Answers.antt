@@ -1,8 +1,7 @@
 -- One place more: a reading appended as it is, or a place passed over. Assumes nothing.
-use Rattle.std.proofs.Common.{◌≡◌, ◌-◌, ◌<◌, Bool, true, not, length, sym, refl, ap, ◌∙◌, ⊎_elim, arith, rules}
-use mir.Val.{bool_byte}
+use Rattle.std.proofs.Common.{not, sym, refl, ◌∙◌, arith}
 use Rattle.window.specs.Readings.{reading_of}
-use Rattle.window.proofs.Readings.{Appending, appending-start, appending-room, appending-nonfinite, appending-hit, appending-missing}
+use Rattle.window.proofs.Readings.{appending-start, appending-room, appending-nonfinite, appending-hit, appending-missing}
 use Rattle.window.proofs.Readings.{appending-done}
 use Rattle.rolling.specs.Code.Layouts.{var_states}
 use Rattle.rolling.proofs.Rolling.{bit_le}
@@ -45,12 +44,15 @@ loop-i-preserved c =
     let more = c.loop-i-test.true in
     let plain = append-inserted var_states var_weighs _ _ _ _ _ _ _ _ _ _ l.loop-i.invariant more s.requires.appendable s.requires.agg_back_value in
     let x = reading_of s.args.values.now l.loop-i.i in
-    elim c.if-valid.branch [ then-valid w ↦ 
-    rw (w.back-is, w.state-is, w.at-is, w.count-is)
-    (appending-hit var_states _ _ _ _ _ _ _ _ _ _ l.loop-i.invariant more s.requires.appendable (sym c.valid.ensures ∙ w.if-valid.true) x refl _
-    (w.inserted-state.ensures ∙ plain x) w.is_finite.result (sym w.is_finite.ensures) _ refl) | else-valid w ↦ 
-    rw (w.back-is, w.state-is, w.at-is, w.count-is)
-    (appending-missing var_states _ _ _ _ _ _ _ _ _ _ l.loop-i.invariant more s.requires.appendable (sym c.valid.ensures ∙ w.if-valid.false)) ]
+    elim c.if-valid.branch [
+      | then-valid w ↦
+          rw (w.back-is, w.state-is, w.at-is, w.count-is)
+          (appending-hit var_states _ _ _ _ _ _ _ _ _ _ l.loop-i.invariant more s.requires.appendable (sym c.valid.ensures ∙ w.if-valid.true) x refl _
+          (w.inserted-state.ensures ∙ plain x) w.is_finite.result (sym w.is_finite.ensures) _ refl)
+      | else-valid w ↦
+          rw (w.back-is, w.state-is, w.at-is, w.count-is)
+          (appending-missing var_states _ _ _ _ _ _ _ _ _ _ l.loop-i.invariant more s.requires.appendable (sym c.valid.ensures ∙ w.if-valid.false))
+    ]
 
 pub returns : goal.returns
 returns c = appending-done var_states _ _ _ _ _ _ _ _ _ _ c.loop-i.invariant c.loop-i-test.false

@@ -1,12 +1,8 @@
 -- One place more: a reading appended as it is, or a place passed over. Assumes nothing.
-use Rattle.std.proofs.Common.{◌≡◌, ◌-◌, ◌<◌, Bool, true, not, length, sym, refl, ap, ◌∙◌, ⊎_elim, arith, rules}
-use mir.Val.{bool_byte}
+use Rattle.std.proofs.Common.{◌-◌}
 use Rattle.window.specs.Readings.{reading_of}
-use Rattle.window.proofs.Readings.{Appending, appending-start, appending-room, appending-nonfinite, appending-hit, appending-missing}
-use Rattle.window.proofs.Readings.{appending-done}
+use Rattle.window.proofs.Readings.{Appending}
 use Rattle.rolling.specs.Code.Layouts.{var_states}
-use Rattle.rolling.proofs.Rolling.{bit_le}
-use Rattle.rolling.proofs.Weighed.{var_weighs, append-inserted}
 use Rattle.rolling.proofs.variance.VarianceMoment.append.Given as goal
 
 abbrev pub invariant-loop-i : goal.invariant-loop-i

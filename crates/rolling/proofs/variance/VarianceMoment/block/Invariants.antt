@@ -1,22 +1,13 @@
 -- Row after row the window holds the account, and the lists its answers. Assumes nothing.
-use Rattle.std.proofs.Common.{◌≡◌, ◌+◌, ◌-◌, ◌*◌, ◌^◌, ◌≤◌, List, [], ◌∷◌, length, refl, ap, ◌∙◌, arith, rules}
+use Rattle.std.proofs.Common.{◌-◌, [], ◌∷◌, length}
 use Rattle.trace.specs.Trace.{trace_of}
-use Rattle.moment.specs.Var.{var_finalize}
-use Rattle.moment.specs.declared.Figure.{Figure}
-use Rattle.window.specs.Outputs.{Column, column}
-use Rattle.window.specs.Code.Stacks.{answer_from}
+use Rattle.window.specs.Outputs.{column}
 use Rattle.window.specs.Code.Widening.{raw_series}
-use Rattle.window.proofs.Outputs.{◌then◌}
 use Rattle.rolling.specs.Moments.{Variance}
 use Rattle.rolling.specs.Calls.{query, yields}
-use Rattle.rolling.specs.Code.Layouts.{var_stored, var_states}
+use Rattle.rolling.specs.Code.Layouts.{var_stored}
 use Rattle.rolling.specs.Code.Rows.{plan_by}
-use Rattle.rolling.specs.declared.extremes.VarExtremes.{VarExtremes}
-use Rattle.rolling.specs.declared.row.Rows.{Rows}
-use Rattle.rolling.proofs.LowestHighest.{variance_row, lowest-row, highest-row}
-use Rattle.rolling.proofs.RowLoops.{ColumnTurn, columns-start, columns-row, columns-have, columns-movable, columns-fits}
-use Rattle.rolling.proofs.RowLoops.{columns-answer, columns-turn, columns-done}
-use Rattle.rolling.proofs.Weighed.{var_weighs, weighed}
+use Rattle.rolling.proofs.RowLoops.{ColumnTurn}
 use Rattle.rolling.proofs.variance.VarianceMoment.block.Given as goal
 
 abbrev pub invariant-loop-row : goal.invariant-loop-row

@@ -1,7 +1,7 @@
 -- By the turns of a flip; the weight counts what is inserted. Assumes nothing.
-use Rattle.std.proofs.Common.{◌+◌, ◌-◌, get_or, ◌∙◌, arith, length-set, rules}
+use Rattle.std.proofs.Common.{◌+◌, ◌-◌, get_or, ◌∙◌, arith, length-set}
 use lib.Ieee.{nan}
-use Rattle.window.proofs.Readings.{Flipping, flipping-start, flipping-turn, flipping-done}
+use Rattle.window.proofs.Readings.{flipping-start, flipping-turn, flipping-done}
 use Rattle.rolling.proofs.Rolling.{puts5}
 use Rattle.rolling.proofs.Weighed.{var_weighs, flip-inserted}
 use Rattle.rolling.specs.Code.Layouts.{var_states}

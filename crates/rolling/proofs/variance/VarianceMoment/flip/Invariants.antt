@@ -1,9 +1,5 @@
 -- By the turns of a flip; the weight counts what is inserted. Assumes nothing.
-use Rattle.std.proofs.Common.{◌+◌, ◌-◌, get_or, ◌∙◌, arith, length-set, rules}
-use lib.Ieee.{nan}
-use Rattle.window.proofs.Readings.{Flipping, flipping-start, flipping-turn, flipping-done}
-use Rattle.rolling.proofs.Rolling.{puts5}
-use Rattle.rolling.proofs.Weighed.{var_weighs, flip-inserted}
+use Rattle.window.proofs.Readings.{Flipping}
 use Rattle.rolling.specs.Code.Layouts.{var_states}
 use Rattle.rolling.proofs.variance.VarianceMoment.flip.Given as goal
 

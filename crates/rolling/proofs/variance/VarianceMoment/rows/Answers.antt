@@ -1,8 +1,6 @@
 -- From a fresh window on, every row. Assumes nothing.
-use Rattle.std.proofs.Common.{◌≡◌, length, refl, ◌∙◌, le_refl, arith, rules}
-use Rattle.plan.specs.Plan.{rows}
+use Rattle.std.proofs.Common.{length, refl, ◌∙◌, le_refl}
 use Rattle.rolling.specs.Code.Layouts.{var_stored}
-use Rattle.rolling.specs.Code.Rows.{plan_by}
 use Rattle.rolling.proofs.RowLoops.{many_rows, rows-can, rows-kept, rows-columns}
 use Rattle.rolling.proofs.variance.VarianceMoment.rows.Goals as goal
 

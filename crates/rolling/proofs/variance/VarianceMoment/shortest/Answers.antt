@@ -1,5 +1,4 @@
 -- Two at a time. Assumes nothing.
-use Rattle.std.proofs.Common.{rules}
 use Rattle.rolling.proofs.variance.VarianceMoment.shortest.Goals as goal
 
 pub returns : goal.returns

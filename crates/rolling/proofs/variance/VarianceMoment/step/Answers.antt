@@ -1,5 +1,5 @@
 -- By whether the row moves the window. Assumes nothing.
-use Rattle.std.proofs.Common.{sym, ◌∙◌, rules}
+use Rattle.std.proofs.Common.{sym, ◌∙◌}
 use Rattle.window.proofs.Steps.{step-moves, step_stays}
 use Rattle.rolling.specs.Code.Layouts.{var_stored}
 use Rattle.rolling.proofs.variance.VarianceMoment.step.Goals as goal

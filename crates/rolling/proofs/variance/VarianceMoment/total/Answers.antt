@@ -1,5 +1,5 @@
 -- By the counts: where the front stack is empty nothing is lower, higher or heavier than what the back state has. Assumes nothing.
-use Rattle.std.proofs.Common.{◌≡◌, true, false, cond, sym, ap, ◌∙◌, arith, rules, eq-eqb, ne_eqb}
+use Rattle.std.proofs.Common.{sym, ap, ◌∙◌}
 use Rattle.rolling.specs.Code.Extremes.{extremes_merged}
 use Rattle.rolling.proofs.LowestHighest.{extremes-alone, extremes-both}
 use Rattle.rolling.proofs.variance.VarianceMoment.total.Goals as goal
