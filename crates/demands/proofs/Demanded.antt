@@ -23,7 +23,7 @@ use Rattle.moment.specs.declared.pearson_state.PearsonState.{PearsonState}
 use Rattle.moment.specs.Skew.{skew_insert, skew_combine, skew_finalize}
 use Rattle.promises.specs.SourceStates.{SkewState-insert_one, SkewState-combine, SkewState-finalize}
 use Rattle.moment.specs.declared.skew_state.SkewState.{SkewState}
-use Rattle.moment.specs.Kurtosis.{kurtosis_insert, kurtosis_combine, kurtosis_finalize}
+use Rattle.moment.specs.Kurtosis.{skew_part, kurtosis_insert, kurtosis_combine, kurtosis_finalize}
 use Rattle.promises.specs.SourceStates.{KurtosisState-insert_one, KurtosisState-combine, KurtosisState-finalize}
 use Rattle.moment.specs.declared.kurtosis_state.KurtosisState.{KurtosisState}
 use Rattle.promises.specs.DemandTwo.{CorrectRoot}
@@ -33,7 +33,8 @@ use Rattle.plan.specs.declared.bounds.Offsets.{Offsets}
 use Rattle.plan.proofs.FixedWindows.{steps-bounds}
 use Rattle.window.specs.Given.{Given, places_of}
 use Rattle.window.specs.Outputs.{Column, Lent}
-use Rattle.rolling.specs.Moments.{Statistic, Variance, Skewness, Kurtosis, Covariance, Correlation, kind_of}
+use Rattle.window.specs.Histories.{History, after}
+use Rattle.rolling.specs.Moments.{Statistic, Variance, Skewness, Kurtosis, Covariance, Correlation, kind_of, skewness, kurtosis}
 use Rattle.rolling.specs.Calls.{Query, query, GivenTo, Called}
 use Rattle.rolling.specs.Fixed.{fixed_query, CalledFixed}
 use Rattle.weighted.specs.Weights.{CalledWeights}
@@ -48,10 +49,12 @@ use Rattle.promises.proofs.DemandThree.{demand_three}
 use Rattle.promises.proofs.TwoTraces.{pair_statement}
 use Rattle.promises.proofs.LowestHighest.{lowest_highest}
 use Rattle.promises.proofs.Maps.{map_law}
+use Rattle.promises.proofs.SkewInKurtosis.{skew_in_kurtosis}
 use Rattle.promises.specs.KeptBounds.{left_window, RaisesEach}
 use Rattle.promises.proofs.KeptBounds.{left_is, kept_bounds}
 use Rattle.demands.specs.Meets.{MeetsHost, MeetTwoHosts, MeetsPlan, MeetTwoPlans, MeetsFixed, MeetTwoFixed, MeetsWeights}
 use Rattle.demands.specs.Meets.{MeetTwoWeights, MeetsStep, MeetsState, MeetsFigure, MeetsRoot, MeetTwoMaps, MeetTwoPairs}
+use Rattle.demands.specs.Meets.{MadeBy}
 use Rattle.demands.specs.Meets.{MeetsArray, of_var, of_skew, of_kurtosis, of_cov, of_pearson, of_skew_range, of_kurtosis_range}
 
 -- ---- two calls
@@ -392,3 +395,7 @@ step_meets {center} {size} {n} {i} {right} {at} {next} r few is steps =
                 (kept_bounds.raises i (at.start, at.end) (left_window center size) n);
           };
     }
+
+-- ---- a skewness state beside a kurtosis state
+pub made_by : (h : History Float) {s : SkewState} {k : KurtosisState} → s ≡ after skewness h → k ≡ after kurtosis h → MadeBy h s k
+made_by h e f = record { skew_is = e; kurtosis_is = f; shares = ap skew_part f ∙ skew_in_kurtosis.members h ∙ sym e }

@@ -2,16 +2,18 @@
 -- calls,
 -- each as the contract of a function of this crate that makes them: demands 1, 2 and 3 of a call without weights, 3 also of two such
 -- calls, or for 2 and 3 the statement for pairs, where the figure is of two traces; of a variance the other statement too; 1 and 2 of the
--- others, and the law of any two that are lent maps; and what is shown of a step from row to row. What they mean is in `promises`
--- DemandOne, DemandTwo, DemandThree, TwoTraces, LowestHighest, Maps and KeptBounds. Lists that are lent come as (before, after). Assumes
--- nothing.
+-- others, and the law of any two that are lent maps; what is shown of a step from row to row, and of a skewness state beside a kurtosis
+-- state. What they mean is in `promises` DemandOne, DemandTwo, DemandThree, TwoTraces, LowestHighest, Maps, KeptBounds and SkewInKurtosis.
+-- Lists that are lent come as (before, after). Assumes nothing.
 use Rattle.std.specs.Prelude.{ℕ, ◌+◌, ◌<◌, ◌≡◌, Bool, List, [], ◌∷◌, length, Float}
 use Rattle.root.specs.Root.{root}
 use Rattle.trace.specs.Slices.{MutSlice, entering_mut, leaving}
 use Rattle.trace.specs.Trace.{Trace}
 use Rattle.moment.specs.declared.Figure.{Figure}
 use Rattle.moment.specs.Skew.{skew_new}
-use Rattle.moment.specs.Kurtosis.{kurtosis_new}
+use Rattle.moment.specs.Kurtosis.{kurtosis_new, skew_part}
+use Rattle.moment.specs.declared.skew_state.SkewState.{SkewState}
+use Rattle.moment.specs.declared.kurtosis_state.KurtosisState.{KurtosisState}
 use Rattle.moment.specs.Arrays.{var_whole, cov_whole, pearson_whole, skew_whole, kurtosis_whole}
 use Rattle.plan.specs.Plan.{rows}
 use Rattle.plan.specs.Bounds.{bounds_at, offsets_at, next_offsets}
@@ -19,12 +21,14 @@ use Rattle.plan.specs.Code.Reaching.{StepsTo}
 use Rattle.plan.specs.declared.bounds.Offsets.{Offsets}
 use Rattle.window.specs.Given.{Given}
 use Rattle.window.specs.Outputs.{Column, Lent, column_after}
-use Rattle.rolling.specs.Moments.{Statistic, kind_of}
+use Rattle.window.specs.Histories.{History, inserted, combined, after}
+use Rattle.rolling.specs.Moments.{Statistic, kind_of, skewness, kurtosis as kurtosis_moment}
 use Rattle.rolling.specs.Calls.{Query, GivenTo, Left}
 use Rattle.rolling.specs.Fixed.{fixed_query}
 use Rattle.weighted.specs.Weights.{weighted_at}
 use Rattle.moments.specs.HostCall.{Host, decoded_of, ReadingLists}
 use Rattle.moments.specs.Results.{FigureResult}
+use Rattle.demands.specs.declared.states.Both.{Both}
 use Rattle.promises.specs.Rust.{Rust}
 use Rattle.promises.specs.Calls.{readings_of, readings_in, pairs_of, var_list, skew_list, kurtosis_list, cov_list, pearson_list}
 use Rattle.promises.specs.Calls.{OfOneTrace, OfTwoTraces}
@@ -212,6 +216,23 @@ pub record MeetsState {A : Type 0} (definition source r : A) : Type 0 where
 pub record MeetsFigure (definition source : Figure) (byte : ℕ) (before after : Float) : Type 0 where
   pub one : Answered [] 0 before after (FigureResult definition byte after)
   pub two : FigureResult source byte after
+
+-- ---- a skewness state and a kurtosis state after one list of inserts and combines: the first is in the second
+pub record MadeBy (h : History Float) (skew : SkewState) (kurtosis : KurtosisState) : Type 0 where
+  pub skew_is : skew ≡ after skewness h
+  pub kurtosis_is : kurtosis ≡ after kurtosis_moment h
+  pub shares : skew_part kurtosis ≡ skew
+
+-- an insert more on both, whatever list they come from
+abbrev pub MeetsInsert : Both → Float → Both → Type 0
+MeetsInsert s x r =
+    (h : History Float) → MadeBy h s.skew s.kurtosis → MadeBy (inserted h x) r.skew r.kurtosis
+
+-- a combine on both
+abbrev pub MeetsCombine : Both → Both → Both → Type 0
+MeetsCombine s o r =
+    (h g : History Float) → MadeBy h s.skew s.kurtosis → MadeBy g o.skew o.kurtosis
+    → MadeBy (combined h g) r.skew r.kurtosis
 
 -- ---- root
 pub record MeetsRoot (x r : Float) : Type 0 where

@@ -1,7 +1,7 @@
-// The three demands, the statement for pairs of traces, that of the lowest and highest reading and the law of maps, of the code itself:
-// each function here makes calls of the entries, of `moments` and for plans of doubles of `rolling`, and has as its contract what they
-// say of them; one steps from row to row as the row loops do, by `plan`. Were the contract of an entry weaker than they are, its function
-// here could not be proved. No host calls this crate.
+// The three demands, the statement for pairs of traces, that of the lowest and highest reading, the law of maps and that of a skewness
+// state in a kurtosis state, of the code itself: each function here makes calls of the entries, of `moments` and for plans of doubles of
+// `rolling`, and has as its contract what they say of them; one steps from row to row as the row loops do, by `plan`. Were the contract of
+// an entry weaker than they are, its function here could not be proved. No host calls this crate.
 #![tactic(auto)]
 
 pub mod arrays;

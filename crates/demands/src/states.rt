@@ -9,7 +9,8 @@ ghost use Rattle.promises.specs.SourceStates.{CovState-insert_one, CovState-comb
 ghost use Rattle.promises.specs.SourceStates.{PearsonState-insert_one, PearsonState-combine, PearsonState-finalize};
 ghost use Rattle.promises.specs.SourceStates.{SkewState-insert_one, SkewState-combine, SkewState-finalize};
 ghost use Rattle.promises.specs.SourceStates.{KurtosisState-insert_one, KurtosisState-combine, KurtosisState-finalize};
-ghost use Rattle.demands.specs.Meets.{MeetsState, MeetsFigure, MeetsRoot};
+ghost use Rattle.window.specs.Histories.{empty};
+ghost use Rattle.demands.specs.Meets.{MeetsState, MeetsFigure, MeetsRoot, MadeBy, MeetsInsert, MeetsCombine};
 
 use moment::{CovState, KurtosisState, PearsonState, SkewState, VarState};
 
@@ -108,4 +109,57 @@ pub fn root(x: f64) -> f64
     ensures { MeetsRoot x result }
 {
     moments::moments_root(x)
+}
+
+// A skewness state and a kurtosis state that were made alike.
+#[derive(Clone, Copy)]
+pub struct Both {
+    pub skew: SkewState,
+    pub kurtosis: KurtosisState,
+}
+
+// As a host makes them: no entry answers an empty state.
+pub fn both_empty() -> Both
+    ensures { MadeBy empty result.skew result.kurtosis }
+{
+    let nothing = 0.0;
+    Both {
+        skew: SkewState {
+            weight: nothing,
+            mean: nothing,
+            m2: nothing,
+            m3: nothing,
+        },
+        kurtosis: KurtosisState {
+            weight: nothing,
+            mean: nothing,
+            m2: nothing,
+            m3: nothing,
+            m4: nothing,
+        },
+    }
+}
+
+pub fn both_insert_one(state: Both, x: f64) -> Both
+    ensures { MeetsInsert state x result }
+{
+    let skew = state.skew;
+    let kurtosis = state.kurtosis;
+    Both {
+        skew: moments::moments_skew_insert_one(skew, x),
+        kurtosis: moments::moments_kurtosis_insert_one(kurtosis, x),
+    }
+}
+
+pub fn both_combine(state: Both, other: Both) -> Both
+    ensures { MeetsCombine state other result }
+{
+    let skew = state.skew;
+    let kurtosis = state.kurtosis;
+    let other_skew = other.skew;
+    let other_kurtosis = other.kurtosis;
+    Both {
+        skew: moments::moments_skew_combine(skew, other_skew),
+        kurtosis: moments::moments_kurtosis_combine(kurtosis, other_kurtosis),
+    }
 }

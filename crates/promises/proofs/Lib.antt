@@ -1,7 +1,7 @@
 -- Laws by subject: the source's states, whole arrays and ranges; the account over a plan; the source's windows, marks and rows, its
 -- fixed windows and its weights; then the demands, the statement for pairs of traces, that of the lowest and highest reading, the law of
--- maps and the step from row to row, computed examples of the source, accepted and refused calls that bear witness, maps of other lengths,
--- and the table.
+-- maps, the step from row to row and the skewness in a kurtosis state, computed examples of the source, accepted and refused calls that
+-- bear witness, maps of other lengths, and the table.
 pub mod SourceStates
 pub mod Spans
 pub mod SourceArrays
@@ -22,6 +22,7 @@ pub mod TwoTraces
 pub mod LowestHighest
 pub mod Maps
 pub mod KeptBounds
+pub mod SkewInKurtosis
 pub mod Examples
 pub mod Witnesses
 pub mod PairWitnesses

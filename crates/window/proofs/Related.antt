@@ -1,5 +1,5 @@
--- What empty states share, and inserts and combines preserve, every window of two moments over the same places preserves, whatever its
--- account is: the parts of a window are folds of inserts, and a row's state is their combine. Assumes nothing.
+-- What empty states share, and inserts and combines preserve, every history of two moments preserves, and every window of them over the
+-- same places, whatever its account is: the parts of a window are folds of inserts, and a row's state is their combine. Assumes nothing.
 use Prim.Native.Nat.{ℕ, zero, suc, ◌+◌, ◌≤◌}
 use mathlib.Core.Path.{◌≡◌, refl, sym, ap, subst}
 use mathlib.Core.Bool.{Bool, true, false, cond}
@@ -13,6 +13,7 @@ use Rattle.moment.specs.declared.Figure.TheVariants.{Missing}
 use Rattle.plan.specs.Plan.{Plan, row_start, row_end}
 use Rattle.window.specs.Places.{Places, Series, entries_from, entries, nonfinite_count}
 use Rattle.window.specs.Window.{Account, Moment, front, back, rising, falling, as_nan, or_nan, figure_of}
+use Rattle.window.specs.Histories.{History, empty, inserted, combined, after}
 use Rattle.window.specs.Rows.{account_at, counted, answer_of, answer_at}
 
 -- two lists, place by place
@@ -93,23 +94,43 @@ module _ {A B : Type 0} {M : Moment A} {N : Moment B} {Small : ℕ → Type 0} {
   unfolding figure_of
   figures F final final' t t' a p q h f = f _ _ (parts q p h)
 
+-- two histories, made alike
+pub data Alike (A B : Type 0) (E : A → B → Type 0) : History A → History B → Type 0 where
+  both_empty : Alike A B E empty empty
+  both_inserted : {h : History A} {g : History B} {x : A} {y : B} → Alike A B E h g → E x y → Alike A B E (inserted h x) (inserted g y)
+  both_combined : {h i : History A} {g j : History B} → Alike A B E h g → Alike A B E i j → Alike A B E (combined h i) (combined g j)
+
+-- one beside itself
+pub itself : {A : Type 0} (h : History A) → Alike A A (◌≡◌ {A = A}) h h
+itself empty = both_empty
+itself (inserted h x) = both_inserted (itself h) refl
+itself (combined h g) = both_combined (itself h) (itself g)
+
+-- where every number of entries is meant
+pub histories : {A B : Type 0} {M : Moment A} {N : Moment B} {E : A → B → Type 0} {S : M.State → N.State → Type 0}
+    → Related M N (λ n. Unit {0}) E (λ n. S) → {h : History A} {g : History B} → Alike A B E h g → S (after M h) (after N g)
+unfolding after
+histories R both_empty = R.empties
+histories R (both_inserted h e) = R.inserts 0 _ _ _ _ tt (histories R h) e
+histories R (both_combined h g) = R.combines 0 0 _ _ _ _ tt (histories R h) (histories R g)
+
 -- the account after row k's part in it
-abbrev after : {A : Type 0} → Series A → ℕ → Plan → ℕ → Account
-after t min_periods p k = account_at t.places.valid t.places.mapped min_periods p (suc k)
+abbrev moved_to : {A : Type 0} → Series A → ℕ → Plan → ℕ → Account
+moved_to t min_periods p k = account_at t.places.valid t.places.mapped min_periods p (suc k)
 
 -- a row's answer, with the account after its move
 module _ {A B : Type 0} (F : Figure → Figure → Type 0) (M : Moment A) (N : Moment B) (final : M.State → Figure) (final' : N.State → Figure)
     (t : Series A) (t' : Series B) (min_periods : ℕ) (p : Plan) (k : ℕ) where
-  abbrev Alike : Type 0
-  Alike = F (figure_of M final t (after t min_periods p k)) (figure_of N final' t' (after t' min_periods p k))
+  abbrev Same : Type 0
+  Same = F (figure_of M final t (moved_to t min_periods p k)) (figure_of N final' t' (moved_to t' min_periods p k))
 
-  either-alike : (b : Bool) → F Missing Missing → (b ≡ true → Alike) →
-      F (cond b (figure_of M final t (after t min_periods p k)) Missing) (cond b (figure_of N final' t' (after t' min_periods p k)) Missing)
+  either-alike : (b : Bool) → F Missing Missing → (b ≡ true → Same) →
+      F (cond b (figure_of M final t (moved_to t min_periods p k)) Missing) (cond b (figure_of N final' t' (moved_to t' min_periods p k)) Missing)
   either-alike true missing f = f refl
   either-alike false missing f = missing
 
   pub answers : counted t.places (row_start p k) (row_end p k) ≡ counted t'.places (row_start p k) (row_end p k) → F Missing Missing →
-      (leb min_periods (counted t.places (row_start p k) (row_end p k)) ≡ true → Alike) →
+      (leb min_periods (counted t.places (row_start p k) (row_end p k)) ≡ true → Same) →
       F (answer_at M final t min_periods p k) (answer_at N final' t' min_periods p k)
   unfolding answer_at answer_of
   answers e missing f = rw (← e) (either-alike _ missing f)

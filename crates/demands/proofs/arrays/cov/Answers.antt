@@ -1,5 +1,4 @@
 -- What the demands say of the call. Assumes nothing.
-use borrow.Author.Rules.{rules}
 use Rattle.demands.proofs.Demanded.{cov_meets}
 use Rattle.demands.proofs.arrays.cov.Goals as goal
 

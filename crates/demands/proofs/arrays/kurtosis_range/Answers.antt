@@ -1,5 +1,4 @@
 -- What the demands say of the call. Assumes nothing.
-use borrow.Author.Rules.{rules}
 use Rattle.demands.proofs.Demanded.{kurtosis_range_meets}
 use Rattle.demands.proofs.arrays.kurtosis_range.Goals as goal
 

@@ -1,5 +1,4 @@
 -- What the demands say of each call, and the law of maps of both. Assumes nothing.
-use borrow.Author.Rules.{rules}
 use Rattle.demands.proofs.Demanded.{two-kurtosis-meet}
 use Rattle.demands.proofs.arrays.two_kurtosis.Goals as goal
 

@@ -1,5 +1,4 @@
 -- What the demands say of each call, and the law of maps of both. Assumes nothing.
-use borrow.Author.Rules.{rules}
 use Rattle.demands.proofs.Demanded.{two-pearson-meet}
 use Rattle.demands.proofs.arrays.two_pearson_corr.Goals as goal
 

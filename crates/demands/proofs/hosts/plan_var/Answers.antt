@@ -1,6 +1,5 @@
 -- What the demands say of the call. Assumes nothing.
 use native.Mathlib.Omega.{arith}
-use borrow.Author.Rules.{rules}
 use Rattle.demands.proofs.Demanded.{host_meets}
 use Rattle.demands.proofs.hosts.plan_var.Goals as goal
 

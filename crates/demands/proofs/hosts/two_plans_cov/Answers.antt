@@ -1,6 +1,5 @@
 -- What the demands say of each call, and of both. Assumes nothing.
 use native.Mathlib.Omega.{arith}
-use borrow.Author.Rules.{rules}
 use Rattle.demands.proofs.Demanded.{two_hosts_meet}
 use Rattle.demands.proofs.hosts.two_plans_cov.Goals as goal
 

@@ -1,6 +1,5 @@
 -- What the demands say of the call. Assumes nothing.
 use native.Mathlib.Omega.{arith}
-use borrow.Author.Rules.{rules}
 use Rattle.demands.proofs.Demanded.{plan_meets}
 use Rattle.demands.proofs.plans.plan_cov.Goals as goal
 

@@ -1,5 +1,4 @@
 -- What the demands say of the call. Assumes nothing.
-use borrow.Author.Rules.{rules}
 use Rattle.demands.proofs.Demanded.{plan_meets}
 use Rattle.demands.proofs.plans.plan_pearson_corr.Goals as goal
 

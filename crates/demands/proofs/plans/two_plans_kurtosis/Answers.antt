@@ -1,5 +1,4 @@
 -- What the demands say of each call, and of both. Assumes nothing.
-use borrow.Author.Rules.{rules}
 use Rattle.demands.proofs.Demanded.{two_plans_meet}
 use Rattle.demands.proofs.plans.two_plans_kurtosis.Goals as goal
 

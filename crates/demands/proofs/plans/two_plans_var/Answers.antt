@@ -1,6 +1,5 @@
 -- What the demands say of each call, and of both. Assumes nothing.
 use native.Mathlib.Omega.{arith}
-use borrow.Author.Rules.{rules}
 use Rattle.demands.proofs.Demanded.{two_plans_meet}
 use Rattle.demands.proofs.plans.two_plans_var.Goals as goal
 

@@ -1,5 +1,4 @@
 -- What the demands say of the call. Assumes nothing.
-use borrow.Author.Rules.{rules}
 use Rattle.demands.proofs.Demanded.{figure_meets, cov_finalize_lem}
 use Rattle.demands.proofs.states.cov_finalize.Goals as goal
 

@@ -1,5 +1,4 @@
 -- What the demands say of the call. Assumes nothing.
-use borrow.Author.Rules.{rules}
 use Rattle.demands.proofs.Demanded.{state_meets, pearson_combine_lem}
 use Rattle.demands.proofs.states.pearson_combine.Goals as goal
 

@@ -1,5 +1,4 @@
 -- What the demands say of the call: its argument is a double. Assumes nothing.
-use borrow.Author.Rules.{rules}
 use denote.Floats.{passes}
 use Rattle.demands.proofs.Demanded.{root_meets}
 use Rattle.demands.proofs.states.root.Goals as goal

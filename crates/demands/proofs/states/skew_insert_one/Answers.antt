@@ -1,5 +1,4 @@
 -- What the demands say of the call. Assumes nothing.
-use borrow.Author.Rules.{rules}
 use Rattle.demands.proofs.Demanded.{state_meets, skew_insert_lem}
 use Rattle.demands.proofs.states.skew_insert_one.Goals as goal
 

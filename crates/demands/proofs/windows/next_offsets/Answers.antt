@@ -1,7 +1,6 @@
 -- What is shown of a step, of a row that `det_offsets` answers. Assumes nothing.
 use Prim.Native.Nat.{◌^◌, ◌<◌}
 use native.Mathlib.Omega.{arith}
-use borrow.Author.Rules.{rules}
 use Rattle.demands.proofs.Demanded.{step_meets}
 use Rattle.demands.proofs.windows.next_offsets.Goals as goal
 

@@ -1,6 +1,5 @@
 -- What the demands say of each call, and of both. Assumes nothing.
 use native.Mathlib.Omega.{arith}
-use borrow.Author.Rules.{rules}
 use Rattle.demands.proofs.Demanded.{two-fixed-meet}
 use Rattle.demands.proofs.windows.two_rolling_pearson_corr.Goals as goal
 

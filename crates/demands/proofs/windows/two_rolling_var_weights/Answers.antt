@@ -1,6 +1,5 @@
 -- What the demands say of each call, and the law of maps of both. Assumes nothing.
 use native.Mathlib.Omega.{arith}
-use borrow.Author.Rules.{rules}
 use Rattle.demands.proofs.Demanded.{two_weights_meet}
 use Rattle.demands.proofs.windows.two_rolling_var_weights.Goals as goal
 
