@@ -540,12 +540,7 @@ fn store_skew(answer: SkewAnswer, state: &mut [f64; 4]) -> u32
     }
 }
 
-pub fn moments_skew(
-    trace: &[f64],
-    has_map: bool,
-    map: &[u8],
-    state: &mut [f64; 4],
-) -> u32
+pub fn moments_skew(trace: &[f64], has_map: bool, map: &[u8], state: &mut [f64; 4]) -> u32
     ensures { StateResult skew_number skew_members (skew_answer trace.now has_map map.now)
         state.old result state.new }
 {
@@ -581,12 +576,7 @@ fn store_kurtosis(answer: KurtosisAnswer, state: &mut [f64; 5]) -> u32
     }
 }
 
-pub fn moments_kurtosis(
-    trace: &[f64],
-    has_map: bool,
-    map: &[u8],
-    state: &mut [f64; 5],
-) -> u32
+pub fn moments_kurtosis(trace: &[f64], has_map: bool, map: &[u8], state: &mut [f64; 5]) -> u32
     ensures { StateResult kurtosis_number kurtosis_members (kurtosis_answer trace.now has_map map.now)
         state.old result state.new }
 {
@@ -710,10 +700,7 @@ pub fn moments_skew_combine(state: SkewState, other: SkewState) -> SkewState
     SkewState::combine(state, other)
 }
 
-pub fn moments_kurtosis_combine(
-    state: KurtosisState,
-    other: KurtosisState,
-) -> KurtosisState
+pub fn moments_kurtosis_combine(state: KurtosisState, other: KurtosisState) -> KurtosisState
     ensures { result ≡ kurtosis_combine state other }
 {
     KurtosisState::combine(state, other)
