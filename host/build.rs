@@ -13,12 +13,15 @@ fn fail(why: &str) -> ! {
     exit(1)
 }
 
-/// When anything of a folder was last written, or a name in it made or removed.
+/// When anything of a folder was last written, or a name in it made or removed; what a check keeps, in `out`, is no source.
 fn youngest(path: &Path) -> io::Result<SystemTime> {
     let mut time = fs::metadata(path)?.modified()?;
     if path.is_dir() {
         for entry in fs::read_dir(path)? {
-            time = time.max(youngest(&entry?.path())?);
+            let entry = entry?;
+            if entry.file_name() != "out" {
+                time = time.max(youngest(&entry.path())?);
+            }
         }
     }
     Ok(time)

@@ -218,9 +218,9 @@ def judge(edit):
     why = unfit(errors, text, left)
     faults, shown, theorems, worked = [say + why] if why else [], 0, 0, 0
     while left:
-        open_ = [name for name in left if not own_refusal(name, text, errors, without)]
+        torn = {name for name in left for path, _, message in errors if UNREAD.search(message) and answers_of(name).search(path)}
+        open_ = [name for name in left if name in torn - set(without) or not own_refusal(name, text, errors, without)]
         shown += len(left) - len(open_)
-        torn = {name for name in open_ for path, _, message in errors if UNREAD.search(message) and answers_of(name).search(path)}
         later = [name for name in open_ if name in torn and name not in without or waits(name, text)]
         faults += [say + f"{name} is not refused for itself" + " without its answers, which name what the edit took away" * (name in without) for name in open_ if name not in later]
         again = [pair for pair in pairs if any(pair in pairs_in(name, pairs) for name in later)]

@@ -3,8 +3,8 @@
 # without a word where the compiler no longer inlines a function, as at its second call site (docs/DECISIONS.md, 10 and 18).
 #
 # From each entry over windows it follows the calls. Of every function that it comes to, the entry itself too,
-# - no loop may call anything but the root, which is meant to be called, and which is not followed, and in a flip of pairs memset: where every
-#   state that it stores is zero the compiler of kit 13f clears that part of the list at once;
+# - no loop may call anything but the root, which is meant to be called, and which is not followed, and in the rows of pairs one memset: where
+#   every state that a flip stores is zero the compiler of kit 13f clears that part of the list at once;
 # - one of `rolling` whose last name is `rows` or `block` may call nothing else outside its loops either, but for memset, memcpy and memmove,
 #   by which the compiler clears or copies a list once in a call.
 # A loop is what lies between a jump back and the place that it leads to. Each entry must come to a row loop, whatever its name: a loop that
@@ -26,7 +26,7 @@ objdump -dr --no-show-raw-insn -M intel "$1" | awk '
     for (k = 1; k <= calls[f]; k++) {
       callee = called[f, k]
       if (callee ~ /^root::/) continue
-      if (callee == "memset" && f ~ /^rolling::(cov|pearson)::/) continue
+      if (callee == "memset" && f ~ /^rolling::(cov|pearson)::.*::rows$/ && !cleared[entry, f]++) continue
       if (in_loop(f, call[f, k])) fault(f " calls " callee " in a loop")
       else if (f ~ /^rolling::(.*::)?(rows|block)$/ && callee !~ /^mem(set|cpy|move)$/) fault(f " calls " callee)
       follow(callee)
