@@ -158,7 +158,7 @@ def errors_of(text):
 
 def worked_out(message):
     if re.search(r"but this has type `(Prim\.)?Unit\b", message):  # a list of tests: it computes to false, and not only to no end
-        return bool(re.search(r"`(Prim\.)?⊥` \(expected\)", message)) or "computing it took more than" in message
+        return bool(re.search(r"`(Prim\.)?⊥` \(expected\)|expected type `(Prim\.)?⊥`", message)) or "computing it took more than" in message
     return bool(WORKED.search(message))
 
 
