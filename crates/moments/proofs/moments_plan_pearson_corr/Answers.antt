@@ -2,7 +2,6 @@
 use mathlib.Core.Path.{refl, sym}
 use mathlib.Core.List.{List}
 use native.Mathlib.Omega.{arith}
-use lib.ListN.{length}
 use lib.Seq.{length-take-le}
 use lib.Ieee.{Float}
 use Rattle.trace.specs.Trace.{trace_of}
@@ -11,14 +10,20 @@ use Rattle.window.proofs.Outputs.{unfilled}
 use Rattle.rolling.specs.Moments.{Correlation}
 use Rattle.rolling.specs.Calls.{query}
 use Rattle.rolling.proofs.Calls.{refused_left}
+use Rattle.moments.specs.HostCall.{BytePair}
 use Rattle.moments.proofs.HostCalls.{odd_first, odd_second, pair-number, pair-rooms, pair_accepted, pair-again}
 use Rattle.moments.proofs.HostCalls.{decoded_all, filled_by, called_on_both, both_lists}
 use Rattle.moments.proofs.moments_plan_pearson_corr.Goals as goal
 
 pub returns-then-x-ne0 : goal.returns-then-x-ne0
 returns-then-x-ne0 c =
+    let g = c.args in
+    let t : BytePair = record {
+      x = record { bytes = g.x.now; mapped = g.x_has_map; map = g.x_map.now };
+      y = record { bytes = g.y.now; mapped = g.y_has_map; map = g.y_map.now };
+    } in
     record {
-      number_is = odd_first (let g = c.args in record { x = record { bytes = g.x.now; mapped = g.x_has_map; map = g.x_map.now }; y = record { bytes = g.y.now; mapped = g.y_has_map; map = g.y_map.now } }) _
+      number_is = odd_first t _
           c.if-x-ne0.true;
       readings_are = both_lists (unfilled _ 14 _ _ (λ z. omega arith)) (unfilled _ 14 _ _ (λ z. omega arith));
       left = refused_left _ _ _ 14 (record { answers = refl; counts = refl }) (λ z. omega arith);
@@ -26,8 +31,13 @@ returns-then-x-ne0 c =
 
 pub returns-then-y-ne0 : goal.returns-then-y-ne0
 returns-then-y-ne0 c =
+    let g = c.args in
+    let t : BytePair = record {
+      x = record { bytes = g.x.now; mapped = g.x_has_map; map = g.x_map.now };
+      y = record { bytes = g.y.now; mapped = g.y_has_map; map = g.y_map.now };
+    } in
     record {
-      number_is = odd_second (let g = c.args in record { x = record { bytes = g.x.now; mapped = g.x_has_map; map = g.x_map.now }; y = record { bytes = g.y.now; mapped = g.y_has_map; map = g.y_map.now } }) _
+      number_is = odd_second t _
           c.if-x-ne0.false c.if-y-ne0.true;
       readings_are = both_lists (unfilled _ 14 _ _ (λ z. omega arith)) (unfilled _ 14 _ _ (λ z. omega arith));
       left = refused_left _ _ _ 14 (record { answers = refl; counts = refl }) (λ z. omega arith);
@@ -36,7 +46,7 @@ returns-then-y-ne0 c =
 pub returns-then-checked-ne0 : goal.returns-then-checked-ne0
 returns-then-checked-ne0 c =
     record {
-      number_is = pair-number (let g = c.args in record { x = record { bytes = g.x.now; mapped = g.x_has_map; map = g.x_map.now }; y = record { bytes = g.y.now; mapped = g.y_has_map; map = g.y_map.now } }) (let g = c.args in plan_of g.starts.now g.ends.now) (length c.args.x_readings.now) (length c.args.y_readings.now)
+      number_is = pair-number _ _ _ _
           c.if-x-ne0.false
           c.if-y-ne0.false
           c.pair_refusal.ensures c.either.ensures
@@ -48,7 +58,7 @@ returns-then-checked-ne0 c =
 pub slice_bounds-plan_pearson_corr-end : goal.slice_bounds-plan_pearson_corr-end
 slice_bounds-plan_pearson_corr-end c =
     rw c.decode.auto.readings
-    (pair-rooms (let g = c.args in record { x = record { bytes = g.x.now; mapped = g.x_has_map; map = g.x_map.now }; y = record { bytes = g.y.now; mapped = g.y_has_map; map = g.y_map.now } }) (let g = c.args in plan_of g.starts.now g.ends.now) (length c.args.x_readings.now) (length c.args.y_readings.now)
+    (pair-rooms _ _ _ _
     c.if-x-ne0.false
     c.if-y-ne0.false
     c.pair_refusal.ensures
@@ -60,7 +70,7 @@ slice_bounds-plan_pearson_corr-end c =
 pub slice_bounds-plan_pearson_corr-end-2 : goal.slice_bounds-plan_pearson_corr-end-2
 slice_bounds-plan_pearson_corr-end-2 c =
     let o = c.decode.auto.readings in
-    let h = (pair-rooms (let g = c.args in record { x = record { bytes = g.x.now; mapped = g.x_has_map; map = g.x_map.now }; y = record { bytes = g.y.now; mapped = g.y_has_map; map = g.y_map.now } }) (let g = c.args in plan_of g.starts.now g.ends.now) (length c.args.x_readings.now) (length c.args.y_readings.now)
+    let h = (pair-rooms _ _ _ _
     c.if-x-ne0.false c.if-y-ne0.false
     c.pair_refusal.ensures
     c.either.ensures
@@ -72,7 +82,7 @@ slice_bounds-plan_pearson_corr-end-2 c =
 pub slice_bounds-plan_pearson_corr-end-3 : goal.slice_bounds-plan_pearson_corr-end-3
 slice_bounds-plan_pearson_corr-end-3 c =
     rw c.decode-2.auto.readings
-    (pair-rooms (let g = c.args in record { x = record { bytes = g.x.now; mapped = g.x_has_map; map = g.x_map.now }; y = record { bytes = g.y.now; mapped = g.y_has_map; map = g.y_map.now } }) (let g = c.args in plan_of g.starts.now g.ends.now) (length c.args.x_readings.now) (length c.args.y_readings.now)
+    (pair-rooms _ _ _ _
     c.if-x-ne0.false c.if-y-ne0.false
     c.pair_refusal.ensures
     c.either.ensures
@@ -83,7 +93,7 @@ slice_bounds-plan_pearson_corr-end-3 c =
 pub slice_bounds-plan_pearson_corr-end-4 : goal.slice_bounds-plan_pearson_corr-end-4
 slice_bounds-plan_pearson_corr-end-4 c =
     let o = c.decode-2.auto.readings in
-    let h = (pair-rooms (let g = c.args in record { x = record { bytes = g.x.now; mapped = g.x_has_map; map = g.x_map.now }; y = record { bytes = g.y.now; mapped = g.y_has_map; map = g.y_map.now } }) (let g = c.args in plan_of g.starts.now g.ends.now) (length c.args.x_readings.now) (length c.args.y_readings.now)
+    let h = (pair-rooms _ _ _ _
     c.if-x-ne0.false
     c.if-y-ne0.false c.pair_refusal.ensures
     c.either.ensures
@@ -96,7 +106,7 @@ pub returns : goal.returns
 returns c =
     let g = c.args in
     let z = c.if-checked-ne0.false in
-    let h = pair-rooms (let g = c.args in record { x = record { bytes = g.x.now; mapped = g.x_has_map; map = g.x_map.now }; y = record { bytes = g.y.now; mapped = g.y_has_map; map = g.y_map.now } }) (let g = c.args in plan_of g.starts.now g.ends.now) (length c.args.x_readings.now) (length c.args.y_readings.now)
+    let h = pair-rooms _ _ _ _
     c.if-x-ne0.false
     c.if-y-ne0.false
     c.pair_refusal.ensures
@@ -108,10 +118,10 @@ returns c =
     c.decode.ensures in
     let d' = decoded_all g.y.now c.args.y_readings.now _ _ refl h.1
     c.decode-2.ensures in
-    let m = called_on_both (query (let g = c.args in plan_of g.starts.now g.ends.now) g.min_periods Correlation)
+    let m = called_on_both (query (plan_of g.starts.now g.ends.now) g.min_periods Correlation)
     (λ (x y : List Float). record { x = trace_of x g.x_has_map g.x_map.now; y = trace_of y g.y_has_map g.y_map.now })
     d.1 d'.1 c.plan_pearson_corr.ensures in
-    let accepted = pair_accepted (let g = c.args in record { x = record { bytes = g.x.now; mapped = g.x_has_map; map = g.x_map.now }; y = record { bytes = g.y.now; mapped = g.y_has_map; map = g.y_map.now } }) (let g = c.args in plan_of g.starts.now g.ends.now) (length c.args.x_readings.now) (length c.args.y_readings.now)
+    let accepted = pair_accepted _ _ _ _
     c.if-x-ne0.false
     c.if-y-ne0.false
     c.pair_refusal.ensures
@@ -119,7 +129,7 @@ returns c =
     c.shorter.ensures
     c.plan_refusal-checked.ensures z m.number_is in
     record {
-      number_is = pair-again (let g = c.args in record { x = record { bytes = g.x.now; mapped = g.x_has_map; map = g.x_map.now }; y = record { bytes = g.y.now; mapped = g.y_has_map; map = g.y_map.now } }) (let g = c.args in plan_of g.starts.now g.ends.now) (length c.args.x_readings.now) (length c.args.y_readings.now)
+      number_is = pair-again _ _ _ _
           c.if-x-ne0.false
           c.if-y-ne0.false
           c.pair_refusal.ensures

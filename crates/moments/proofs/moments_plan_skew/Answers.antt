@@ -2,7 +2,6 @@
 use mathlib.Core.Path.{refl, sym}
 use mathlib.Core.List.{List}
 use native.Mathlib.Omega.{arith}
-use lib.ListN.{length}
 use lib.Seq.{length-take-le}
 use lib.Ieee.{Float}
 use Rattle.trace.specs.Trace.{trace_of}
@@ -24,39 +23,34 @@ returns-then-trace-ne0 c =
 
 pub returns-then-checked-ne0 : goal.returns-then-checked-ne0
 returns-then-checked-ne0 c =
-    let k = c in
     record {
-      number_is = host_number_lem (let g = k.args in record { bytes = g.trace.now; mapped = g.has_map; map = g.map.now }) (let g = k.args in plan_of g.starts.now g.ends.now) (length k.args.readings.now) k.if-trace-ne0.false k.array_refusal.ensures k.shorter.ensures k.plan_refusal-checked.ensures;
+      number_is = host_number_lem _ _ _ c.if-trace-ne0.false c.array_refusal.ensures c.shorter.ensures c.plan_refusal-checked.ensures;
       readings_are = unfilled _ _ _ _ c.if-checked-ne0.true;
       left = refused_left _ _ _ _ (record { answers = refl; counts = refl }) c.if-checked-ne0.true;
     }
 
 pub slice_bounds-plan_skew-end : goal.slice_bounds-plan_skew-end
-slice_bounds-plan_skew-end c =
-    let k = c in
-    rw c.decode.auto.readings
-    (host-room (let g = k.args in record { bytes = g.trace.now; mapped = g.has_map; map = g.map.now }) (let g = k.args in plan_of g.starts.now g.ends.now) (length k.args.readings.now) k.if-trace-ne0.false k.array_refusal.ensures k.shorter.ensures k.plan_refusal-checked.ensures c.if-checked-ne0.false)
+slice_bounds-plan_skew-end c = rw c.decode.auto.readings
+    (host-room _ _ _ c.if-trace-ne0.false c.array_refusal.ensures c.shorter.ensures c.plan_refusal-checked.ensures c.if-checked-ne0.false)
 
 pub slice_bounds-plan_skew-end-2 : goal.slice_bounds-plan_skew-end-2
 slice_bounds-plan_skew-end-2 c =
-    let k = c in
     let o = c.decode.auto.readings in
-    let h = host-room (let g = k.args in record { bytes = g.trace.now; mapped = g.has_map; map = g.map.now }) (let g = k.args in plan_of g.starts.now g.ends.now) (length k.args.readings.now) k.if-trace-ne0.false k.array_refusal.ensures k.shorter.ensures k.plan_refusal-checked.ensures c.if-checked-ne0.false in
+    let h = host-room _ _ _ c.if-trace-ne0.false c.array_refusal.ensures c.shorter.ensures c.plan_refusal-checked.ensures c.if-checked-ne0.false in
     sym (length-take-le _ _ (omega arith))
 
 pub returns : goal.returns
 returns c =
-    let k = c in
-    let g = k.args in
-    let w = k.if-trace-ne0.false in
-    let a = k.array_refusal.ensures in
-    let o = k.shorter.ensures in
+    let g = c.args in
+    let w = c.if-trace-ne0.false in
+    let a = c.array_refusal.ensures in
+    let o = c.shorter.ensures in
     let z = c.if-checked-ne0.false in
-    let h = host-room (let g = k.args in record { bytes = g.trace.now; mapped = g.has_map; map = g.map.now }) (let g = k.args in plan_of g.starts.now g.ends.now) (length k.args.readings.now) w a o k.plan_refusal-checked.ensures z in
-    let d = decoded_all g.trace.now k.args.readings.now _ _ refl h c.decode.ensures in
-    let m = called_on (query (let g = k.args in plan_of g.starts.now g.ends.now) g.min_periods (Skewness g.bias)) (λ (l : List Float). trace_of l g.has_map g.map.now) d.1 c.plan_skew.ensures in
+    let h = host-room _ _ _ w a o c.plan_refusal-checked.ensures z in
+    let d = decoded_all g.trace.now c.args.readings.now _ _ refl h c.decode.ensures in
+    let m = called_on (query (plan_of g.starts.now g.ends.now) g.min_periods (Skewness g.bias)) (λ (l : List Float). trace_of l g.has_map g.map.now) d.1 c.plan_skew.ensures in
     record {
-      number_is = host-again (let g = k.args in record { bytes = g.trace.now; mapped = g.has_map; map = g.map.now }) (let g = k.args in plan_of g.starts.now g.ends.now) (length k.args.readings.now) w a o k.plan_refusal-checked.ensures z m.number_is;
-      readings_are = filled_by _ _ _ _ (host_accepted (let g = k.args in record { bytes = g.trace.now; mapped = g.has_map; map = g.map.now }) (let g = k.args in plan_of g.starts.now g.ends.now) (length k.args.readings.now) w a o k.plan_refusal-checked.ensures z m.number_is) d.0;
+      number_is = host-again _ _ _ w a o c.plan_refusal-checked.ensures z m.number_is;
+      readings_are = filled_by _ _ _ _ (host_accepted _ _ _ w a o c.plan_refusal-checked.ensures z m.number_is) d.0;
       left = m.left;
     }
