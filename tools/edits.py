@@ -67,8 +67,16 @@ def sum_of(crate):
     return total
 
 
+def in_name(type_):
+    """A type or trait as the prover writes it in the name of an `impl`: `(f64, f64)` is Tuple2F64F64, `[f64; 3]` ArrayF643."""
+    it = re.sub(r"'\w+", "", type_)
+    it = re.sub(r"\(([^()]*)\)", lambda m: f"Tuple{m[1].count(',') + 1} {m[1]}", it)
+    it = re.sub(r"\[([^];]*);", r"Array \1 ", it)
+    return "".join(word[0].upper() + word[1:] for word in re.findall(r"\w+", it))
+
+
 def place_of(path, text, at):
-    """The names around a place of a source file: its modules, the type of its `impl`, its function; with no function none."""
+    """The names around a place of a source file: its modules, its `impl` and the type of it, its function; with no function none."""
     names = [n for n in path.removeprefix("src/").removesuffix(".rt").split("/") if n not in ("lib", "main", "mod")]
     lines, around = text[:at].split("\n"), {}
     for line in lines[:-1] + [text.split("\n")[len(lines) - 1]]:
@@ -77,11 +85,13 @@ def place_of(path, text, at):
             around = {depth: it for depth, it in around.items() if depth < indent or line.strip() == "}" and depth == indent}
         if line.strip() == "}":
             around.pop(indent, None)
-        kept = re.match(r"\s*impl\b(?:<[^{]*?>)? (?:.* for )?(\w+)", line)
+        kept = re.match(r"\s*impl\b(?:<[^{]*?>)? (?:(.*) for )?([^{]+)", line)
         function = re.match(r'\s*(?:pub(?:\([^)]*\))? )?(?:const |unsafe |extern "C" )*fn (\w+)', line)
-        if kept or function:
-            around[indent] = ("fn " if function else "") + (function or kept)[1]
-    around = [around[depth] for depth in sorted(around)]
+        if function:
+            around[indent] = ["fn " + function[1]]
+        elif kept:
+            around[indent] = re.findall(r"^\w+", kept[2]) + [in_name(kept[2]) + in_name(kept[1] or "")]
+    around = [it for depth in sorted(around) for it in around[depth]]
     return names + [it.removeprefix("fn ") for it in around] if any(it.startswith("fn ") for it in around) else []
 
 

@@ -26,7 +26,7 @@ SOURCE = """KurtosisState::from_iter MomentWindow State alg_add_f64 alg_sum_f64 
 # Words of the languages, of the shell and of files that the collector reads, one parameter, and forms in which capitals stand for any name.
 WORDS = """ensures requires u8 u32 usize libmoments.a Vec<Option<f64>> Option<f64> rt Cargo.toml MOMENTS_LIB_DIR ORACLE_SRC ORACLE_SEED shared/docs/src
     logic-built=trusted libraries-built=trusted NA nan inf 1e999 start,end label,start,end time,temperature has_map
-    work.old work.new x.now x.old memset""".split()
+    work.old work.new x.now x.old memset Result impl""".split()
 WORDS += ["# refuses: FUNCTION", "# refuses-theorem: NAME", "Rattle.NAME.proofs.LAW", "var insert_one", 'moments = { path = "host" }']
 WORDS += ["Clone, Copy", "rattle-kit-13f logic dac8208d650f15bf"]
 

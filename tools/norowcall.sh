@@ -7,7 +7,7 @@
 #   every state that a flip stores is zero the compiler of kit 13f clears that part of the list at once;
 # - one of `rolling` whose last name is `rows` or `block` may call nothing else outside its loops either, but for memset, memcpy and memmove,
 #   by which the compiler clears or copies a list once in a call.
-# A loop is what lies between a jump back and the place that it leads to. Each entry must come to a row loop, whatever its name: a loop that
+# A loop is what lies between a jump back and the place that it leads to, where that place comes to the jump again. Each entry must come to a row loop, whatever its name: a loop that
 # divides doubles, as every insertion and every figure does. Where one comes to none this looks at the wrong code, and fails.
 set -euo pipefail
 [ -f "${1:?usage: norowcall.sh ARCHIVE}" ] || { echo "norowcall.sh: there is no $1"; exit 1; }
@@ -16,6 +16,19 @@ objdump -dr --no-show-raw-insn -M intel "$1" | awk '
   function in_loop(f, at,    k) { for (k = 1; k <= loops[f]; k++) if (from[f, k] <= at && at <= upto[f, k]) return 1; return 0 }
   function fault(words) { if (!told[words]++) print "norowcall.sh: " words; bad = 1 }
   function add_call(f, at, callee) { call[f, ++calls[f]] = at; called[f, calls[f]] = callee }
+
+  # Whether control can go from one instruction of f to another.
+  function comes(f, start, goal,    stack, top, n, on, been) {
+    stack[top = 1] = number[f, start]
+    while (top) {
+      n = stack[top--]
+      if (!n || n > lines[f] || been[n]++) continue
+      if (line[f, n] == goal) return 1
+      if ((f, n) in leads) stack[++top] = number[f, leads[f, n]]
+      if (!ends[f, n]) stack[++top] = n + 1
+    }
+    return 0
+  }
 
   # Every function that f comes to, once for each entry; those with a row loop are put to the list `holders`.
   function follow(f,    k, callee, holds) {
@@ -26,9 +39,9 @@ objdump -dr --no-show-raw-insn -M intel "$1" | awk '
     for (k = 1; k <= calls[f]; k++) {
       callee = called[f, k]
       if (callee ~ /^root::/) continue
-      if (callee == "memset" && f ~ /^rolling::(cov|pearson)::.*::rows$/ && !cleared[entry, f]++) continue
+      if (callee == "memset" && entry ~ /_(cov|pearson_corr)$/ && f ~ /^rolling::figures::rows/ && !cleared[entry, f]++) continue
       if (in_loop(f, call[f, k])) fault(f " calls " callee " in a loop")
-      else if (f ~ /^rolling::(.*::)?(rows|block)$/ && callee !~ /^mem(set|cpy|move)$/) fault(f " calls " callee)
+      else if (f ~ /^rolling::(.*::)?(rows|block)(::<#[0-9a-f]+>)?$/ && callee !~ /^mem(set|cpy|move)$/) fault(f " calls " callee)
       follow(callee)
     }
   }
@@ -43,7 +56,9 @@ objdump -dr --no-show-raw-insn -M intel "$1" | awk '
   }
   /^ *[0-9a-f]+:\t/ {
     at = address(substr($1, 1, length($1) - 1)); what = $2
-    target = index($0, "<") ? substr($0, index($0, "<") + 1) : "an unknown place"; sub(/(\+0x[0-9a-f]+)?>.*$/, "", target)
+    line[f, ++lines[f]] = at; number[f, at] = lines[f]; ends[f, lines[f]] = what ~ /^(jmp|ret|ud2)/
+    if (what ~ /^j/ && $3 ~ /^[0-9a-f]+$/) leads[f, lines[f]] = address($3)
+    target = index($0, "<") ? substr($0, index($0, "<") + 1) : "an unknown place"; sub(/(\+0x[0-9a-f]+)?>[^>]*$/, "", target)
     if (what ~ /^v?div[sp]d$/) division[f, ++divisions[f]] = at
     else if (what == "call" || what ~ /^j/ && target != f && $3 ~ /^[0-9a-f]+$/) add_call(f, at, target)
     else if (what ~ /^j/ && $3 !~ /^[0-9a-f]+$/) tables[f] = 1
@@ -51,6 +66,10 @@ objdump -dr --no-show-raw-insn -M intel "$1" | awk '
   }
 
   END {
+    for (n = 1; n <= functions; n++) {
+      f = order[n]; all = loops[f]; loops[f] = 0
+      for (k = 1; k <= all; k++) if (comes(f, from[f, k], upto[f, k])) { from[f, ++loops[f]] = from[f, k]; upto[f, loops[f]] = upto[f, k] }
+    }
     k = split("plan_var plan_skew plan_kurtosis rolling_var rolling_skew rolling_kurtosis", wanted)
     for (; k > 0; k--) if (!("moments_" wanted[k] in known)) fault("the archive has no moments_" wanted[k])
     for (k = 1; k <= functions; k++) if ((entry = order[k]) ~ /^moments_(plan|rolling)_/) {

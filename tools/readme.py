@@ -30,7 +30,7 @@ with tempfile.TemporaryDirectory() as room:
     for crate in os.listdir("crates"):
         shutil.copytree(f"crates/{crate}", f"{room}/crates/{crate}", ignore=shutil.ignore_patterns("out", "data", "must-fail"))
     with open(f"{room}/crates.txt", "w") as out:
-        out.write(open("crates.txt").read() + "readme: rolling moment check\n")
+        out.write(open("crates.txt").read() + "readme: rolling plan moment trace check\n")
     with open(f"{room}/crates/readme/src/main.rt", "w") as out:
         out.write(f"use moment::{{Figure, VarState}};\n\nfn main() {{\n{body}}}\n")
     run = subprocess.run(["rt", "try"], cwd=f"{room}/crates/readme", capture_output=True, text=True)

@@ -30,7 +30,8 @@ use Rattle.moments.specs.HostCall.{Host, decoded_of, ReadingLists}
 use Rattle.moments.specs.Results.{FigureResult}
 use Rattle.demands.specs.declared.states.Both.{Both}
 use Rattle.promises.specs.Rust.{Rust}
-use Rattle.promises.specs.Calls.{readings_of, readings_in, pairs_of, var_list, skew_list, kurtosis_list, cov_list, pearson_list}
+use Rattle.moment.specs.Arrays.{var_list, skew_list, kurtosis_list, cov_list, pearson_list}
+use Rattle.promises.specs.Calls.{readings_of, readings_in, pairs_of}
 use Rattle.promises.specs.Calls.{OfOneTrace, OfTwoTraces}
 use Rattle.promises.specs.DemandOne.{Check, trace_checks, pair_checks, range_checks, plan_checks, host_checks, fixed_checks, weights_checks}
 use Rattle.promises.specs.DemandOne.{Answered, HostLeft}

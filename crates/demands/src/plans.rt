@@ -1,18 +1,18 @@
 // Plan calls with the trace as doubles, which a program in Rattle makes: as a host's, with nothing to decode.
-ghost use Rattle.trace.specs.Trace.{tracing};
-ghost use Rattle.window.specs.Pairs.{pairing};
+ghost use Rattle.trace.specs.Lent.{traced};
+ghost use Rattle.trace.specs.Outcomes.{outcome_number};
+ghost use Rattle.plan.specs.Plan.{planned};
 ghost use Rattle.rolling.specs.Moments.{Variance, Skewness, Kurtosis, Covariance, Correlation};
-ghost use Rattle.rolling.specs.Calls.{querying, lending, lending_three};
+ghost use Rattle.rolling.specs.Calls.{query, lending, lending_three};
+ghost use Rattle.rolling.specs.Code.Rows.{paired};
 ghost use Rattle.demands.specs.Meets.{MeetsPlan, MeetTwoPlans};
 
-use crate::Numbers;
+use plan::Plan;
+use trace::{Pair, Refusal, Trace};
 
 pub fn plan_var(
-    trace: &[f64],
-    has_map: bool,
-    map: &[u8],
-    starts: &[u32],
-    ends: &[u32],
+    x: Trace,
+    plan: Plan,
     min_periods: usize,
     ddof: u8,
     work: &mut [f64],
@@ -22,16 +22,13 @@ pub fn plan_var(
     lowest_present: &mut [u8],
     highest: &mut [f64],
     highest_present: &mut [u8],
-) -> u32
-    ensures { MeetsPlan (querying starts ends min_periods (Variance ddof)) (tracing trace has_map map)
-        (lending_three work figures present lowest lowest_present highest highest_present) result }
+) -> Result<(), Refusal>
+    ensures { MeetsPlan (query (planned plan.entry) min_periods (Variance ddof)) (traced x.entry)
+        (lending_three work figures present lowest lowest_present highest highest_present) (outcome_number result) }
 {
     rolling::plan_var(
-        trace,
-        has_map,
-        map,
-        starts,
-        ends,
+        x,
+        plan,
         min_periods,
         ddof,
         work,
@@ -45,14 +42,9 @@ pub fn plan_var(
 }
 
 pub fn two_plans_var(
-    x: &[f64],
-    x_has_map: bool,
-    x_map: &[u8],
-    y: &[f64],
-    y_has_map: bool,
-    y_map: &[u8],
-    starts: &[u32],
-    ends: &[u32],
+    x: Trace,
+    y: Trace,
+    plan: Plan,
     min_periods: usize,
     ddof: u8,
     x_work: &mut [f64],
@@ -69,19 +61,15 @@ pub fn two_plans_var(
     y_lowest_present: &mut [u8],
     y_highest: &mut [f64],
     y_highest_present: &mut [u8],
-) -> Numbers
-    ensures { MeetTwoPlans (querying starts ends min_periods (Variance ddof))
-        (tracing x x_has_map x_map) (tracing y y_has_map y_map)
+) -> (Result<(), Refusal>, Result<(), Refusal>)
+    ensures { MeetTwoPlans (query (planned plan.entry) min_periods (Variance ddof)) (traced x.entry) (traced y.entry)
         (lending_three x_work x_figures x_present x_lowest x_lowest_present x_highest x_highest_present)
         (lending_three y_work y_figures y_present y_lowest y_lowest_present y_highest y_highest_present)
-        result.first result.second }
+        (outcome_number result.0) (outcome_number result.1) }
 {
     let first = rolling::plan_var(
         x,
-        x_has_map,
-        x_map,
-        starts,
-        ends,
+        plan,
         min_periods,
         ddof,
         x_work,
@@ -94,10 +82,7 @@ pub fn two_plans_var(
     );
     let second = rolling::plan_var(
         y,
-        y_has_map,
-        y_map,
-        starts,
-        ends,
+        plan,
         min_periods,
         ddof,
         y_work,
@@ -108,47 +93,28 @@ pub fn two_plans_var(
         y_highest,
         y_highest_present,
     );
-    Numbers { first, second }
+    (first, second)
 }
 
 pub fn plan_skew(
-    trace: &[f64],
-    has_map: bool,
-    map: &[u8],
-    starts: &[u32],
-    ends: &[u32],
+    x: Trace,
+    plan: Plan,
     min_periods: usize,
     bias: bool,
     work: &mut [f64],
     figures: &mut [f64],
     present: &mut [u8],
-) -> u32
-    ensures { MeetsPlan (querying starts ends min_periods (Skewness bias)) (tracing trace has_map map)
-        (lending work figures present) result }
+) -> Result<(), Refusal>
+    ensures { MeetsPlan (query (planned plan.entry) min_periods (Skewness bias)) (traced x.entry)
+        (lending work figures present) (outcome_number result) }
 {
-    rolling::plan_skew(
-        trace,
-        has_map,
-        map,
-        starts,
-        ends,
-        min_periods,
-        bias,
-        work,
-        figures,
-        present,
-    )
+    rolling::plan_skew(x, plan, min_periods, bias, work, figures, present)
 }
 
 pub fn two_plans_skew(
-    x: &[f64],
-    x_has_map: bool,
-    x_map: &[u8],
-    y: &[f64],
-    y_has_map: bool,
-    y_map: &[u8],
-    starts: &[u32],
-    ends: &[u32],
+    x: Trace,
+    y: Trace,
+    plan: Plan,
     min_periods: usize,
     bias: bool,
     x_work: &mut [f64],
@@ -157,78 +123,37 @@ pub fn two_plans_skew(
     y_work: &mut [f64],
     y_figures: &mut [f64],
     y_present: &mut [u8],
-) -> Numbers
-    ensures { MeetTwoPlans (querying starts ends min_periods (Skewness bias))
-        (tracing x x_has_map x_map) (tracing y y_has_map y_map)
-        (lending x_work x_figures x_present) (lending y_work y_figures y_present) result.first result.second }
+) -> (Result<(), Refusal>, Result<(), Refusal>)
+    ensures { MeetTwoPlans (query (planned plan.entry) min_periods (Skewness bias)) (traced x.entry) (traced y.entry)
+        (lending x_work x_figures x_present)
+        (lending y_work y_figures y_present)
+        (outcome_number result.0) (outcome_number result.1) }
 {
-    let first = rolling::plan_skew(
-        x,
-        x_has_map,
-        x_map,
-        starts,
-        ends,
-        min_periods,
-        bias,
-        x_work,
-        x_figures,
-        x_present,
-    );
-    let second = rolling::plan_skew(
-        y,
-        y_has_map,
-        y_map,
-        starts,
-        ends,
-        min_periods,
-        bias,
-        y_work,
-        y_figures,
-        y_present,
-    );
-    Numbers { first, second }
+    let first = rolling::plan_skew(x, plan, min_periods, bias, x_work, x_figures, x_present);
+    let second = rolling::plan_skew(y, plan, min_periods, bias, y_work, y_figures, y_present);
+    (first, second)
 }
 
 pub fn plan_kurtosis(
-    trace: &[f64],
-    has_map: bool,
-    map: &[u8],
-    starts: &[u32],
-    ends: &[u32],
+    x: Trace,
+    plan: Plan,
     min_periods: usize,
     fisher: bool,
     bias: bool,
     work: &mut [f64],
     figures: &mut [f64],
     present: &mut [u8],
-) -> u32
-    ensures { MeetsPlan (querying starts ends min_periods (Kurtosis fisher bias)) (tracing trace has_map map)
-        (lending work figures present) result }
+) -> Result<(), Refusal>
+    ensures { MeetsPlan (query (planned plan.entry) min_periods (Kurtosis fisher bias)) (traced x.entry)
+        (lending work figures present) (outcome_number result) }
 {
-    rolling::plan_kurtosis(
-        trace,
-        has_map,
-        map,
-        starts,
-        ends,
-        min_periods,
-        fisher,
-        bias,
-        work,
-        figures,
-        present,
-    )
+    rolling::plan_kurtosis(x, plan, min_periods, fisher, bias, work, figures, present)
 }
 
 pub fn two_plans_kurtosis(
-    x: &[f64],
-    x_has_map: bool,
-    x_map: &[u8],
-    y: &[f64],
-    y_has_map: bool,
-    y_map: &[u8],
-    starts: &[u32],
-    ends: &[u32],
+    x: Trace,
+    y: Trace,
+    plan: Plan,
     min_periods: usize,
     fisher: bool,
     bias: bool,
@@ -238,17 +163,15 @@ pub fn two_plans_kurtosis(
     y_work: &mut [f64],
     y_figures: &mut [f64],
     y_present: &mut [u8],
-) -> Numbers
-    ensures { MeetTwoPlans (querying starts ends min_periods (Kurtosis fisher bias))
-        (tracing x x_has_map x_map) (tracing y y_has_map y_map)
-        (lending x_work x_figures x_present) (lending y_work y_figures y_present) result.first result.second }
+) -> (Result<(), Refusal>, Result<(), Refusal>)
+    ensures { MeetTwoPlans (query (planned plan.entry) min_periods (Kurtosis fisher bias)) (traced x.entry) (traced y.entry)
+        (lending x_work x_figures x_present)
+        (lending y_work y_figures y_present)
+        (outcome_number result.0) (outcome_number result.1) }
 {
     let first = rolling::plan_kurtosis(
         x,
-        x_has_map,
-        x_map,
-        starts,
-        ends,
+        plan,
         min_periods,
         fisher,
         bias,
@@ -258,10 +181,7 @@ pub fn two_plans_kurtosis(
     );
     let second = rolling::plan_kurtosis(
         y,
-        y_has_map,
-        y_map,
-        starts,
-        ends,
+        plan,
         min_periods,
         fisher,
         bias,
@@ -269,59 +189,28 @@ pub fn two_plans_kurtosis(
         y_figures,
         y_present,
     );
-    Numbers { first, second }
+    (first, second)
 }
 
 pub fn plan_cov(
-    x: &[f64],
-    x_has_map: bool,
-    x_map: &[u8],
-    y: &[f64],
-    y_has_map: bool,
-    y_map: &[u8],
-    starts: &[u32],
-    ends: &[u32],
+    pair: Pair,
+    plan: Plan,
     min_periods: usize,
     ddof: u8,
     work: &mut [f64],
     figures: &mut [f64],
     present: &mut [u8],
-) -> u32
-    ensures { MeetsPlan (querying starts ends min_periods (Covariance ddof)) (pairing x x_has_map x_map y y_has_map y_map)
-        (lending work figures present) result }
+) -> Result<(), Refusal>
+    ensures { MeetsPlan (query (planned plan.entry) min_periods (Covariance ddof)) (paired pair.entry)
+        (lending work figures present) (outcome_number result) }
 {
-    rolling::plan_cov(
-        x,
-        x_has_map,
-        x_map,
-        y,
-        y_has_map,
-        y_map,
-        starts,
-        ends,
-        min_periods,
-        ddof,
-        work,
-        figures,
-        present,
-    )
+    rolling::plan_cov(pair, plan, min_periods, ddof, work, figures, present)
 }
 
 pub fn two_plans_cov(
-    x: &[f64],
-    x_has_map: bool,
-    x_map: &[u8],
-    y: &[f64],
-    y_has_map: bool,
-    y_map: &[u8],
-    u: &[f64],
-    u_has_map: bool,
-    u_map: &[u8],
-    v: &[f64],
-    v_has_map: bool,
-    v_map: &[u8],
-    starts: &[u32],
-    ends: &[u32],
+    pair: Pair,
+    other: Pair,
+    plan: Plan,
     min_periods: usize,
     ddof: u8,
     work: &mut [f64],
@@ -330,92 +219,43 @@ pub fn two_plans_cov(
     other_work: &mut [f64],
     other_figures: &mut [f64],
     other_present: &mut [u8],
-) -> Numbers
-    ensures { MeetTwoPlans (querying starts ends min_periods (Covariance ddof))
-        (pairing x x_has_map x_map y y_has_map y_map) (pairing u u_has_map u_map v v_has_map v_map)
-        (lending work figures present) (lending other_work other_figures other_present) result.first result.second }
+) -> (Result<(), Refusal>, Result<(), Refusal>)
+    ensures { MeetTwoPlans (query (planned plan.entry) min_periods (Covariance ddof)) (paired pair.entry) (paired other.entry)
+        (lending work figures present)
+        (lending other_work other_figures other_present)
+        (outcome_number result.0) (outcome_number result.1) }
 {
-    let first = rolling::plan_cov(
-        x,
-        x_has_map,
-        x_map,
-        y,
-        y_has_map,
-        y_map,
-        starts,
-        ends,
-        min_periods,
-        ddof,
-        work,
-        figures,
-        present,
-    );
+    let first = rolling::plan_cov(pair, plan, min_periods, ddof, work, figures, present);
     let second = rolling::plan_cov(
-        u,
-        u_has_map,
-        u_map,
-        v,
-        v_has_map,
-        v_map,
-        starts,
-        ends,
+        other,
+        plan,
         min_periods,
         ddof,
         other_work,
         other_figures,
         other_present,
     );
-    Numbers { first, second }
+    (first, second)
 }
 
 pub fn plan_pearson_corr(
-    x: &[f64],
-    x_has_map: bool,
-    x_map: &[u8],
-    y: &[f64],
-    y_has_map: bool,
-    y_map: &[u8],
-    starts: &[u32],
-    ends: &[u32],
+    pair: Pair,
+    plan: Plan,
     min_periods: usize,
     work: &mut [f64],
     figures: &mut [f64],
     present: &mut [u8],
-) -> u32
-    ensures { MeetsPlan (querying starts ends min_periods Correlation) (pairing x x_has_map x_map y y_has_map y_map)
-        (lending work figures present) result }
+) -> Result<(), Refusal>
+    ensures { MeetsPlan (query (planned plan.entry) min_periods Correlation) (paired pair.entry)
+        (lending work figures present) (outcome_number result) }
 {
-    rolling::plan_pearson_corr(
-        x,
-        x_has_map,
-        x_map,
-        y,
-        y_has_map,
-        y_map,
-        starts,
-        ends,
-        min_periods,
-        work,
-        figures,
-        present,
-    )
+    rolling::plan_pearson_corr(pair, plan, min_periods, work, figures, present)
 }
 
 pub fn two_plans_pearson_corr(
-    x: &[f64],
-    x_has_map: bool,
-    x_map: &[u8],
-    y: &[f64],
-    y_has_map: bool,
-    y_map: &[u8],
-    u: &[f64],
-    u_has_map: bool,
-    u_map: &[u8],
-    v: &[f64],
-    v_has_map: bool,
-    v_map: &[u8],
-    starts: &[u32],
-    ends: &[u32],
+    pair: Pair,
+    other: Pair,
+    plan: Plan,
     min_periods: usize,
     work: &mut [f64],
     figures: &mut [f64],
@@ -423,38 +263,20 @@ pub fn two_plans_pearson_corr(
     other_work: &mut [f64],
     other_figures: &mut [f64],
     other_present: &mut [u8],
-) -> Numbers
-    ensures { MeetTwoPlans (querying starts ends min_periods Correlation)
-        (pairing x x_has_map x_map y y_has_map y_map) (pairing u u_has_map u_map v v_has_map v_map)
-        (lending work figures present) (lending other_work other_figures other_present) result.first result.second }
+) -> (Result<(), Refusal>, Result<(), Refusal>)
+    ensures { MeetTwoPlans (query (planned plan.entry) min_periods Correlation) (paired pair.entry) (paired other.entry)
+        (lending work figures present)
+        (lending other_work other_figures other_present)
+        (outcome_number result.0) (outcome_number result.1) }
 {
-    let first = rolling::plan_pearson_corr(
-        x,
-        x_has_map,
-        x_map,
-        y,
-        y_has_map,
-        y_map,
-        starts,
-        ends,
-        min_periods,
-        work,
-        figures,
-        present,
-    );
+    let first = rolling::plan_pearson_corr(pair, plan, min_periods, work, figures, present);
     let second = rolling::plan_pearson_corr(
-        u,
-        u_has_map,
-        u_map,
-        v,
-        v_has_map,
-        v_map,
-        starts,
-        ends,
+        other,
+        plan,
         min_periods,
         other_work,
         other_figures,
         other_present,
     );
-    Numbers { first, second }
+    (first, second)
 }

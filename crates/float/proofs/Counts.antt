@@ -1,20 +1,21 @@
 -- The float of a whole number up to 2 ^ 53 is that number: such floats add and compare as the numbers do. So a weight that
 -- starts at 0.0 and is raised by 1.0 counts exactly. Assumes nothing.
 use mathlib.Core.Path.{◌≡◌, refl, sym, ap, ◌∙◌, subst}
-use mathlib.Core.Logic.{inl, inr}
 use Prim.Native.Nat.{ℕ, ◌+◌, ◌*◌, ◌^◌, ◌≤◌, ◌<◌}
-use native.Mathlib.Nat.{eq-or-lt_of_le, mul-one, mul_comm, mul_assoc, add-mul, mul-pos, le_of_eq, eq_of_mul-eq-mul_right, mul-le-mul_right, mul-lt-mul_of_pos_right, not-le_of_lt, lt_of_not-le, zero-lt-suc}
+use native.Mathlib.Nat.{mul-one, mul_comm, mul_assoc, add-mul, mul-pos, eq_of_mul-eq-mul_right, mul-lt-mul_of_pos_right, lt_of_mul-lt-mul_right, zero-lt-suc}
 use native.Mathlib.Omega.{arith}
 use mathlib.Core.Bool.{Bool, true, false, ◌||◌, true≢false}
 use lib.IntN.{ℤ}
-use lib.Dec.{T, ltb, leb, eqb, lt→ltb, le→leb, ltb→lt, leb→le, eqb→eq, eqb_refl, lit≤}
+use lib.Dec.{ltb, leb, eqb, lt→ltb, ltb→lt, eqb→eq, lit≤}
 use lib.Ieee.{Float, nan, inf, fin, binary64, up, down, round, sum, add, eq, lt, le, of_int, of_bits}
-use lib.Ieee.Fits.{down_pos}
+use lib.Ieee.Fits.{down_pos, eq→eqb}
 use lib.Ieee.Exact.{HasValue}
 use lib.Ieee.Back.{round_whole}
 use lib.Ieee.Scale.{round_same}
 use Rattle.float.specs.Operators.{◌⊕◌, zero64, one64, of_nat64}
-use Rattle.float.proofs.Booleans.{bool_same, and-true, or_left, or_right}
+use mathlib.Core.Bool.{and-true}
+use Rattle.std.proofs.lemmas.Bool.Decides.{nat_tests}
+use Rattle.float.proofs.Booleans.{bool_same}
 
 -- ---- sums
 add_values_lem : (x y : Float) (a b : ℕ) → HasValue x false a 1 → HasValue y false b 1 → add binary64 x y ≡ round binary64 false (a + b) 1
@@ -52,22 +53,16 @@ pub count_one : (n : ℕ) → n ≤ 2 ^ 53 → of_nat64 n ⊕ one64 ≡ of_nat64
 count_one n h = rw one_is_lem (count_add n 1 h (lit≤ tt))
 
 -- ---- order
-eq→eqb : (a b : ℕ) → a ≡ b → T (eqb a b)
-eq→eqb a b e = subst (λ (x : ℕ). T (eqb a x)) e (eqb_refl a)
-
 eqb_scaled : (a b k x y : ℕ) → 0 < k → x ≡ a * k → y ≡ b * k → eqb x y ≡ eqb a b
 eqb_scaled a b k x y K p q =
     bool_same (eqb x y) (eqb a b)
-    (λ t. eq→eqb a b (eq_of_mul-eq-mul_right k K a b (sym p ∙ eqb→eq x y t ∙ q)))
-    (λ t. eq→eqb x y (p ∙ ap (λ (z : ℕ). z * k) (eqb→eq a b t) ∙ sym q))
-
-lt_of_mul : (a b k : ℕ) → a * k < b * k → a < b
-lt_of_mul a b k h = lt_of_not-le (λ (g : b ≤ a). not-le_of_lt h (mul-le-mul_right k g))
+    (λ t. eq→eqb (eq_of_mul-eq-mul_right k K a b (sym p ∙ eqb→eq x y t ∙ q)))
+    (λ t. eq→eqb (p ∙ ap (λ (z : ℕ). z * k) (eqb→eq a b t) ∙ sym q))
 
 ltb_scaled : (a b k x y : ℕ) → 0 < k → x ≡ a * k → y ≡ b * k → ltb x y ≡ ltb a b
 ltb_scaled a b k x y K p q =
     bool_same (ltb x y) (ltb a b)
-    (λ t. lt→ltb a b (lt_of_mul a b k (subst (λ (z : ℕ). z < b * k) p (subst (λ (z : ℕ). x < z) q (ltb→lt x y t)))))
+    (λ t. lt→ltb a b (lt_of_mul-lt-mul_right k (subst (λ (z : ℕ). z < b * k) p (subst (λ (z : ℕ). x < z) q (ltb→lt x y t)))))
     (λ t. lt→ltb x y (subst (λ (z : ℕ). z < y) (sym p) (subst (λ (z : ℕ). a * k < z) (sym q) (mul-lt-mul_of_pos_right (ltb→lt a b t) K))))
 
 -- of two values that are whole: the two cross products are those numbers, times one number
@@ -102,14 +97,7 @@ eq_values_lem (fin false m e) (fin false n d) a b p q =
 
 -- below or equal is at most
 pub or_leb : (a b : ℕ) → (ltb a b || eqb a b) ≡ leb a b
-or_leb a b = bool_same (ltb a b || eqb a b) (leb a b) (λ t. le→leb a b (back (ltb a b) (eqb a b) (ltb→lt a b) (eqb→eq a b) t)) (λ t. forth (leb→le a b t))
-  where
-    back : (x y : Bool) → (T x → a < b) → (T y → a ≡ b) → T (x || y) → a ≤ b
-    back true y f g t = let h : a < b = f tt in omega arith
-    back false y f g t = le_of_eq (g t)
-
-    forth : a ≤ b → T (ltb a b || eqb a b)
-    forth h = elim (eq-or-lt_of_le h) [ inl e ↦ or_right (ltb a b) (eqb a b) (eq→eqb a b e) | inr l ↦ or_left (ltb a b) (eqb a b) (lt→ltb a b l) ]
+or_leb a b = grind (arith, nat_tests)
 
 le_values : (x y : Float) (a b : ℕ) → HasValue x false a 1 → HasValue y false b 1 → le x y ≡ leb a b
 unfolding le

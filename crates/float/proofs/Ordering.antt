@@ -2,21 +2,24 @@
 -- bits. Assumes nothing.
 use mathlib.Core.Path.{◌≡◌, refl, sym, ap, ◌∙◌, subst}
 use Prim.Native.Nat.{ℕ, zero, suc, ◌+◌, ◌-◌, ◌*◌, ◌/◌, ◌%◌, ◌^◌, ◌≤◌, ◌<◌, suc-le-suc}
-use native.Mathlib.Nat.{zero-lt-suc, le_refl, le_antisymm, lt_of_not-le, not-le_of_lt, zero-mul, one-mul, mul-one, mul_comm, mul_assoc}
-use native.Mathlib.Nat.{mul_right_comm, mul-pos, mul-le-mul_right, mul-lt-mul_of_pos_right, le_of_mul-le-mul_right, lt_of_mul-lt-mul_right}
+use native.Mathlib.Nat.{zero-lt-suc, le_antisymm, lt_of_not-le, not-le_of_lt, zero-mul, one-mul, mul-one, mul_comm, mul_assoc}
+use native.Mathlib.Nat.{mul_right_comm, mul-pos, mul-lt-mul_of_pos_right, le_of_mul-le-mul_right, lt_of_mul-lt-mul_right}
 use native.Mathlib.Omega.{arith}
 use mathlib.Core.Bool.{Bool, true, false, not, ◌&&◌, ◌||◌, beq, cond, false≢true}
+use mathlib.Core.Logic.{inl, inr}
 use lib.IntN.{ℤ, pos, negsuc}
-use lib.Dec.{T, ltb, leb, eqb, ltb→lt, lt→ltb, leb→le, nltb→le, eqb→eq}
+use lib.Dec.{T, ltb, leb, eqb, ltb→lt, lt→ltb, leb→le, eqb→eq}
 use lib.Pow.{pow-add, pow_pos, pow-lt}
-use lib.Ieee.{Float, nan, inf, fin, Format, binary64, prec, emax, low, up, down, size, round, sum, add, below, lt, eq, fits}
-use lib.Ieee.{hid, top, of_bits, to_bits}
-use lib.Ieee.Bits.{cond_no, of_bits-to_bits}
+use lib.Ieee.{Float, nan, inf, fin, Format, binary64, prec, emax, low, up, down, size, round, sum, add, lt, eq, fits}
+use lib.Ieee.{hid, top, of_bits, to_bits, le, level, is_nan}
+use lib.Ieee.Bits.{cond_no, is_true, of_bits-to_bits}
 use lib.Ieee.Digits.{back}
 use lib.Ieee.Exact.{HasValue, round_exact}
 use lib.Ieee.Fits.{down_pos, up_pos, round-fits, and_l, and_r}
 use lib.Ieee.Nearest.{div_same}
 use lib.Ieee.Scale.{round_same, finite}
+use Rattle.std.proofs.lemmas.Bool.{both_ways, false_from_ne_true, le-ltb, ne_eqb}
+use Rattle.std.proofs.lemmas.Float.{lt_irrefl, lt_trans, lt_of_lt_of_le, le_of_not-lt, lt-or-eq, T_from_true, T_from_false}
 use Rattle.float.specs.Operators.{◌⊕◌, zero64}
 use Rattle.float.proofs.Booleans.{bool_same}
 use Rattle.float.proofs.Finiteness.{plus_zero, zero_fin, round-zero}
@@ -33,99 +36,26 @@ pub record Orders (beyond : Float → Float → Bool) (limit : Float) : Type 0 w
       → beyond z x ≡ false
   pub same : (x y : Float) → finite x ≡ true → finite y ≡ true → beyond x y ≡ false → beyond y x ≡ false → x ⊕ zero64 ≡ y ⊕ zero64
 
--- ---- not below: each number is split into what it is above zero and what it is under zero, so that one inequality says it
--- for all signs, and the law of three numbers needs no cases
-abbrev above : Bool → ℕ → ℕ
-above s a = cond s 0 a
-
-abbrev under : Bool → ℕ → ℕ
-under s a = cond s a 0
-
-ltb_no : (a b : ℕ) → b ≤ a → ltb a b ≡ false
-ltb_no a b h = bool_same (ltb a b) false (λ t. let k : a < b = ltb→lt a b t in omega arith) (λ t. absurd t)
-
-no_ltb : (a b : ℕ) → ltb a b ≡ false → b ≤ a
-no_ltb a b e = nltb→le a b (rw e tt)
-
-not-below : (s : Bool) (a : ℕ) (t : Bool) (b : ℕ) → below s a t b ≡ false → above t b + under s a ≤ above s a + under t b
-not-below false a false b e = let h : b ≤ a = no_ltb a b e in omega arith
-not-below false a true b e = omega arith
-not-below true a false b e = let h : a + b ≤ 0 = no_ltb 0 (a + b) e in omega arith
-not-below true a true b e = let h : a ≤ b = no_ltb b a e in omega arith
-
-below_not : (s : Bool) (a : ℕ) (t : Bool) (b : ℕ) → above t b + under s a ≤ above s a + under t b → below s a t b ≡ false
-below_not false a false b h = ltb_no a b (omega arith)
-below_not false a true b h = refl
-below_not true a false b h = ltb_no 0 (a + b) (omega arith)
-below_not true a true b h = ltb_no b a (omega arith)
-
--- the same of two fractions a / p and b / q: a product is split as its first factor is
-above_times : (s : Bool) (a k : ℕ) → above s (a * k) ≡ above s a * k
-above_times true a k = sym (zero-mul k)
-above_times false a k = refl
-
-under_times : (s : Bool) (a k : ℕ) → under s (a * k) ≡ under s a * k
-under_times true a k = refl
-under_times false a k = sym (zero-mul k)
-
-abbrev AtLeast : (s : Bool) (a p : ℕ) (t : Bool) (b q : ℕ) → Type 0
-AtLeast s a p t b q = above t b * p + under s a * q ≤ above s a * q + under t b * p
-
-at_least : (s : Bool) (a p : ℕ) (t : Bool) (b q : ℕ) → below s (a * q) t (b * p) ≡ false → AtLeast s a p t b q
-at_least s a p t b q e =
-    let h = not-below s (a * q) t (b * p) e in
-    rw (sym (above_times t b p)) (rw (sym (under_times s a q)) (rw (sym (above_times s a q)) (rw (sym (under_times t b p)) h)))
-
-of_at_least : (s : Bool) (a p : ℕ) (t : Bool) (b q : ℕ) → AtLeast s a p t b q → below s (a * q) t (b * p) ≡ false
-of_at_least s a p t b q h =
-    below_not s (a * q) t (b * p)
-    (rw (above_times t b p) (rw (under_times s a q) (rw (above_times s a q) (rw (under_times t b p) h))))
-
--- three numbers (P - N) / p, (Q - M) / q, (R - L) / r
-through : (P N p Q M q R L r : ℕ) → 0 < q → P * q + M * p ≤ Q * p + N * q → Q * r + L * q ≤ R * q + M * r → P * r + L * p ≤ R * p + N * r
-through P N p Q M q R L r D h k =
-    let a : (P * q + M * p) * r ≤ (Q * p + N * q) * r = mul-le-mul_right r h in
-    let b : (Q * r + L * q) * p ≤ (R * q + M * r) * p = mul-le-mul_right p k in
-    let c : (P * r + L * p) * q ≤ (R * p + N * r) * q = omega arith in
-    le_of_mul-le-mul_right c D
-
 -- ---- the laws of `lt`
-lt_itself : (x : Float) → finite x ≡ true → lt x x ≡ false
-unfolding lt
-lt_itself nan f = absurd (false≢true f)
-lt_itself (inf s) f = absurd (false≢true f)
-lt_itself (fin true m e) f = ltb_no (m * up e * down e) (m * up e * down e) (le_refl (m * up e * down e))
-lt_itself (fin false m e) f = ltb_no (m * up e * down e) (m * up e * down e) (le_refl (m * up e * down e))
+number : (x : Float) → finite x ≡ true → T (not (is_nan x))
+unfolding is_nan
+number nan f = absurd (false≢true f)
+number (inf s) f = tt
+number (fin s m e) f = tt
 
-below_one_way : (s : Bool) (a : ℕ) (t : Bool) (b : ℕ) → below s a t b ≡ true → below t b s a ≡ false
-below_one_way false a false b e = let h : a < b = ltb→lt a b (rw e tt) in ltb_no b a (omega arith)
-below_one_way false a true b e = absurd (false≢true e)
-below_one_way true a false b e = refl
-below_one_way true a true b e = let h : b < a = ltb→lt b a (rw e tt) in ltb_no a b (omega arith)
+lt_itself : (x : Float) → finite x ≡ true → lt x x ≡ false
+lt_itself x f = false_from_ne_true (lt x x) (λ e. lt_irrefl x (T_from_true (lt x x) e))
 
 lt_one_way : (x y : Float) → finite x ≡ true → finite y ≡ true → lt x y ≡ true → lt y x ≡ false
-unfolding lt
-lt_one_way nan y f g h = absurd (false≢true f)
-lt_one_way (inf s) y f g h = absurd (false≢true f)
-lt_one_way (fin s m e) nan f g h = absurd (false≢true g)
-lt_one_way (fin s m e) (inf t) f g h = absurd (false≢true g)
-lt_one_way (fin s m e) (fin t n d) f g h = below_one_way s (m * up e * down d) t (n * up d * down e) h
+lt_one_way x y f g h = false_from_ne_true (lt y x) (λ e. lt_irrefl x (lt_trans x y x (T_from_true (lt x y) h) (T_from_true (lt y x) e)))
+
+not_under : (x y : Float) → finite x ≡ true → finite y ≡ true → lt y x ≡ false → T (le x y)
+not_under x y f g h = le_of_not-lt y x (number y g) (number x f) (T_from_false (lt y x) h)
 
 lt_along : (x y z : Float) → finite x ≡ true → finite y ≡ true → finite z ≡ true → lt y x ≡ false → lt z y ≡ false → lt z x ≡ false
-unfolding lt
-lt_along nan y z f g i h k = absurd (false≢true f)
-lt_along (inf s) y z f g i h k = absurd (false≢true f)
-lt_along (fin s m e) nan z f g i h k = absurd (false≢true g)
-lt_along (fin s m e) (inf t) z f g i h k = absurd (false≢true g)
-lt_along (fin s m e) (fin t n d) nan f g i h k = absurd (false≢true i)
-lt_along (fin s m e) (fin t n d) (inf u) f g i h k = absurd (false≢true i)
-lt_along (fin s m e) (fin t n d) (fin u o c) f g i h k =
-    let x = m * up e in
-    let y = n * up d in
-    let z = o * up c in
-    of_at_least u z (down c) s x (down e)
-    (through (above s x) (under s x) (down e) (above t y) (under t y) (down d) (above u z) (under u z) (down c) (down_pos d)
-    (at_least t y (down d) s x (down e) h) (at_least u z (down c) t y (down d) k))
+lt_along x y z f g i h k =
+    false_from_ne_true (lt z x) (λ e.
+    both_ways (lt z y) k (is_true (lt z y) (lt_of_lt_of_le z x y (T_from_true (lt z x) e) (not_under x y f g h))))
 
 -- ---- the sum with +0.0: the number itself, rounded; the sign of a zero is lost
 plain_num : (a p : ℕ) → a * 1 + 0 * 1 * p ≡ a
@@ -143,7 +73,7 @@ sum-zero false a p = ap (λ (k : ℕ). round binary64 false k (p * 1)) (plain_nu
 sum-zero true a p =
     cond_no (ltb (a * 1) (0 * 1 * p)) (round binary64 false (0 * 1 * p - a * 1) (p * 1))
     (round binary64 (ltb (0 * 1 * p) (a * 1)) (a * 1 - 0 * 1 * p) (p * 1))
-    (rw (ltb_no (a * 1) (0 * 1 * p) (omega arith)) tt)
+    (rw (le-ltb (a * 1) (0 * 1 * p) (omega arith)) tt)
     ∙ ap (λ (k : ℕ). round binary64 (ltb (0 * 1 * p) (a * 1)) k (p * 1)) (plain_less a p)
     ∙ ap (λ (k : ℕ). round binary64 (ltb (0 * 1 * p) (a * 1)) a k) (mul-one p)
     ∙ ap (λ (k : ℕ). round binary64 (ltb (0 * 1 * p) k) a p) (mul-one a)
@@ -154,39 +84,47 @@ unfolding add
 add-zero s m e = rw zero_fin (sum-zero s (m * up e) (down e))
 
 -- where neither of two numbers is below the other they are one fraction, or both zero
-no_number : (a k : ℕ) → 0 < k → a * k ≡ 0 → a ≡ 0
-no_number a k K e = le_antisymm (let h : a * k ≤ 0 * k = omega arith in le_of_mul-le-mul_right h K) (omega arith)
-
 positive : (a b p q : ℕ) → 0 < q → a * q ≡ b * p → T (ltb 0 a) → T (ltb 0 b)
 positive zero b p q Q e t = absurd t
 positive (suc a) zero p q Q e t =
     let h : 0 < suc a * q = mul-pos (zero-lt-suc a) Q in let k : 0 * p ≡ 0 = zero-mul p in let c : ⊥ = omega arith in absurd c
 positive (suc a) (suc b) p q Q e t = lt→ltb 0 (suc b) (zero-lt-suc b)
 
-both_zero : (a p b q : ℕ) → 0 < p → 0 < q → a * q ≡ 0 → b * p ≡ 0 → round binary64 (ltb 0 a) a p ≡ round binary64 false b q
-both_zero a p b q P Q h k = rw (no_number a q Q h) (rw (no_number b p P k) (round-zero false p P ∙ sym (round-zero false q Q)))
+no_sign : (s : Bool) (a : ℕ) → a ≡ 0 → (s && ltb 0 a) ≡ false
+no_sign false a e = refl
+no_sign true a e = le-ltb 0 a (omega arith)
 
-round_plain : (s : Bool) (a p : ℕ) (t : Bool) (b q : ℕ) → 0 < p → 0 < q → AtLeast s a p t b q → AtLeast t b q s a p
+no_number : (a k : ℕ) → 0 < k → a * k ≡ 0 → a ≡ 0
+no_number a k K e = let h : a * k ≤ 0 * k = omega arith in le_antisymm (le_of_mul-le-mul_right h K) (omega arith)
+
+same_sign : (s : Bool) (a p : ℕ) (t : Bool) (b q : ℕ) → 0 < p → 0 < q → a * q ≡ b * p → T (beq s t || eqb (a * q) 0)
+    → (s && ltb 0 a) ≡ (t && ltb 0 b)
+same_sign false a p false b q P Q e h = refl
+same_sign true a p true b q P Q e h = bool_same (ltb 0 a) (ltb 0 b) (positive a b p q Q e) (positive b a q p P (sym e))
+same_sign false a p true b q P Q e h = let z = eqb→eq (a * q) 0 h in sym (no_sign true b (no_number b p P (omega arith)))
+same_sign true a p false b q P Q e h = let z = eqb→eq (a * q) 0 h in no_sign true a (no_number a q Q z)
+
+round_plain : (s : Bool) (a p : ℕ) (t : Bool) (b q : ℕ) → 0 < p → 0 < q → T (level s (a * q) t (b * p))
     → round binary64 (s && ltb 0 a) a p ≡ round binary64 (t && ltb 0 b) b q
-round_plain false a p false b q P Q h k = round_same binary64 false a p b q P Q (omega arith)
-round_plain false a p true b q P Q h k = sym (both_zero b q a p Q P (omega arith) (omega arith))
-round_plain true a p false b q P Q h k = both_zero a p b q P Q (omega arith) (omega arith)
-round_plain true a p true b q P Q h k =
-    let e : a * q ≡ b * p = omega arith in
-    ap (λ (c : Bool). round binary64 c a p) (bool_same (ltb 0 a) (ltb 0 b) (positive a b p q Q e) (positive b a q p P (sym e)))
-    ∙ round_same binary64 (ltb 0 b) a p b q P Q e
+round_plain s a p t b q P Q l =
+    let e : a * q ≡ b * p = eqb→eq (a * q) (b * p) (and_l (eqb (a * q) (b * p)) (beq s t || eqb (a * q) 0) l) in
+    ap (λ (c : Bool). round binary64 c a p) (same_sign s a p t b q P Q e (and_r (eqb (a * q) (b * p)) (beq s t || eqb (a * q) 0) l))
+    ∙ round_same binary64 (t && ltb 0 b) a p b q P Q e
+
+eq_same : (x y : Float) → finite x ≡ true → finite y ≡ true → T (eq x y) → x ⊕ zero64 ≡ y ⊕ zero64
+unfolding eq
+eq_same nan y f g h = absurd (false≢true f)
+eq_same (inf s) y f g h = absurd (false≢true f)
+eq_same (fin s m e) nan f g h = absurd (false≢true g)
+eq_same (fin s m e) (inf t) f g h = absurd (false≢true g)
+eq_same (fin s m e) (fin t n d) f g h =
+    add-zero s m e ∙ round_plain s (m * up e) (down e) t (n * up d) (down d) (down_pos e) (down_pos d) h ∙ sym (add-zero t n d)
 
 lt_same : (x y : Float) → finite x ≡ true → finite y ≡ true → lt x y ≡ false → lt y x ≡ false → x ⊕ zero64 ≡ y ⊕ zero64
-unfolding lt
-lt_same nan y f g h k = absurd (false≢true f)
-lt_same (inf s) y f g h k = absurd (false≢true f)
-lt_same (fin s m e) nan f g h k = absurd (false≢true g)
-lt_same (fin s m e) (inf t) f g h k = absurd (false≢true g)
-lt_same (fin s m e) (fin t n d) f g h k =
-    add-zero s m e
-    ∙ round_plain s (m * up e) (down e) t (n * up d) (down d) (down_pos e) (down_pos d)
-    (at_least s (m * up e) (down e) t (n * up d) (down d) h) (at_least t (n * up d) (down d) s (m * up e) (down e) k)
-    ∙ sym (add-zero t n d)
+lt_same x y f g h k = elim (lt-or-eq x y (not_under x y f g k)) [
+  | inl l ↦ absurd (both_ways (lt x y) h (is_true (lt x y) l))
+  | inr e ↦ eq_same x y f g e
+]
 
 -- ---- the infinities
 lt_last : (s : Bool) (x : Float) → finite x ≡ true → lt (inf s) x ≡ s
@@ -294,9 +232,6 @@ unfolding eq
 eq-zero true e = rw (zero-mul (up e)) (rw (zero-mul (down e)) refl)
 eq-zero false e = rw (zero-mul (up e)) (rw (zero-mul (down e)) refl)
 
-eqb_no : (a b : ℕ) → b < a → eqb a b ≡ false
-eqb_no a b h = bool_same (eqb a b) false (λ t. let e : a ≡ b = eqb→eq a b t in omega arith) (λ t. absurd t)
-
 above_zero : (m : ℕ) (e : ℤ) → 0 < suc m * up e
 above_zero m e = mul-pos (zero-lt-suc m) (up_pos e)
 
@@ -304,7 +239,7 @@ eq_other : (s : Bool) (m : ℕ) (e : ℤ) → eq (fin s (suc m) e) plus_zero ≡
 unfolding eq
 eq_other s m e =
     let h : 0 < suc m * up e = above_zero m e in
-    ap (λ (b : Bool). b && (beq s false || eqb (suc m * up e * 1) 0)) (eqb_no (suc m * up e * 1) (0 * 1 * down e) (omega arith))
+    ap (λ (b : Bool). b && (beq s false || eqb (suc m * up e * 1) 0)) (ne_eqb (suc m * up e * 1) (0 * 1 * down e) (λ e. omega arith))
 
 signed : (s b : Bool) → T b → (s && b) ≡ s
 signed true true t = refl

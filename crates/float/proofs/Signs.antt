@@ -3,12 +3,12 @@ use mathlib.Core.Path.{◌≡◌, sym, ap, ◌∙◌, subst}
 use Prim.Native.Nat.{ℕ, ◌+◌, ◌*◌, ◌≤◌}
 use native.Mathlib.Nat.{zero-mul}
 use native.Mathlib.Omega.{arith}
-use mathlib.Core.Bool.{Bool, true, false, not, ◌&&◌, ◌||◌, cond}
+use mathlib.Core.Bool.{and-true, Bool, true, false, not, ◌&&◌, ◌||◌, cond}
 use lib.IntN.{ℤ}
 use lib.Dec.{T, ltb, eqb, le→leb, nltb→le, eqb_refl}
 use lib.Ieee.{Float, nan, inf, fin, up, down, is_nan, lt, le}
 use Rattle.float.specs.Operators.{zero64}
-use Rattle.float.proofs.Booleans.{and-true, and_both}
+use lib.Ieee.Fits.{and_i}
 use Rattle.float.proofs.Counts.{or_leb}
 use Rattle.float.proofs.Finiteness.{plus_zero, zero_fin}
 
@@ -34,7 +34,7 @@ by_cases (fin true m e) =
     let y = 0 * 1 * down e in
     kept (ltb 0 (x + y)) true m e
     (λ n. subst (λ (k : ℕ). T (false || (eqb k x && (false || eqb k 0)))) (sym (zero-mul (down e)))
-    (and_both (eqb 0 x) true (let h : x + y ≤ 0 = nltb→le 0 (x + y) n in let e : 0 ≡ x = omega arith in subst (λ (k : ℕ). T (eqb 0 k)) e (eqb_refl 0)) tt))
+    (and_i (eqb 0 x) true (let h : x + y ≤ 0 = nltb→le 0 (x + y) n in let e : 0 ≡ x = omega arith in subst (λ (k : ℕ). T (eqb 0 k)) e (eqb_refl 0)) tt))
 
 -- what is left where values below zero are replaced
 pub nan_or_at_least_zero : (v : Float) → T (is_nan (cond (lt v zero64) zero64 v) || le zero64 (cond (lt v zero64) zero64 v))

@@ -1,80 +1,80 @@
--- A loop that folds a list from the left: what is folded so far, carried on over what is left, is the whole fold. Over any
--- list, and over the valid ones of a list. Assumes nothing.
-use Rattle.std.proofs.Common.{◌≡◌, ℕ, ◌+◌, ◌<◌, ◌≤◌, Bool, true, false, List, [], ◌∷◌, length, get_or, drop, sym, refl, ap, ◌∙◌, add-zero, add-one, arith, drop_of_length-le, drop-cons}
+-- A loop over the places of a list that folds the valid ones from the left: what is folded so far, carried on over what is left, is the
+-- whole fold. Assumes nothing.
+use Rattle.std.proofs.Common.{◌≡◌, ℕ, zero, suc, ◌+◌, ◌<◌, ◌≤◌, Bool, true, false, List, [], ◌∷◌, ◌++◌, length, get_or, drop, sym, refl, ap}
+use Rattle.std.proofs.Common.{◌∙◌, append_assoc, append-nil, add-zero, add-one, arith, drop_of_length-le, drop-cons}
 use mathlib.Core.List.{foldl}
-use lib.Ieee.{Float, nan}
-use Rattle.float.specs.Operators.{◌⊕◌, zero64}
-use Rattle.trace.specs.Trace.{valid_at, valid_from}
-use Rattle.trace.proofs.Maps.{none_missing_lem}
+use Rattle.trace.specs.Trace.{valid_from}
 
--- ---- every one of a list
-module _ {A B : Type 0} (f : B → A → B) (b : B) (xs : List A) where
-  abbrev pub Folded : B → ℕ → Type 0
-  Folded t i = foldl f t (drop i xs) ≡ foldl f b xs
+-- the valid ones of a list from its place i on
+abbrev pub rest : {A : Type 0} → (ℕ → Bool) → List A → ℕ → List A
+rest valid xs i = valid_from valid i (drop i xs)
 
-  pub fold_step : (t : B) (i : ℕ) (d : A) → i < length xs → Folded t i → Folded (f t (get_or xs i d)) (i + 1)
-  fold_step t i d h e = rw add-one (sym (ap (foldl f t) (drop-cons xs i d h)) ∙ e)
-
-  pub fold_end : (t : B) (i : ℕ) → length xs ≤ i → Folded t i → t ≡ foldl f b xs
-  fold_end t i h e = sym (ap (foldl f t) (drop_of_length-le xs h)) ∙ e
-
--- as a sum is
-abbrev pub Summed : {A : Type 0} → (A → Float) → List A → Float → ℕ → Type 0
-Summed f = Folded (λ t x. t ⊕ f x) zero64
-
--- ---- the valid ones; the list's place i is place p of its trace
-module _ {A : Type 0} (valid : ℕ → Bool) (xs : List A) (d : A) (p i : ℕ) (h : i < length xs) where
-  pub from-valid : valid p ≡ true → valid_from valid p (drop i xs) ≡ get_or xs i d ∷ valid_from valid (p + 1) (drop (i + 1) xs)
+module _ {A : Type 0} (valid : ℕ → Bool) where
+  pub from-valid : (xs : List A) (d : A) (i : ℕ) → i < length xs → valid i ≡ true → rest valid xs i ≡ get_or xs i d ∷ rest valid xs (i + 1)
   unfolding valid_from
-  from-valid v = rw (add-one i, add-one p, drop-cons xs i d h, v)
+  from-valid xs d i h v = rw (add-one i, drop-cons xs i d h, v)
 
-  pub from-missing : valid p ≡ false → valid_from valid p (drop i xs) ≡ valid_from valid (p + 1) (drop (i + 1) xs)
+  past_missing : (k : ℕ) (xs : List A) (i : ℕ) → i < length xs → valid k ≡ false
+      → valid_from valid k (drop i xs) ≡ valid_from valid (suc k) (drop (suc i) xs)
   unfolding valid_from
-  from-missing v = rw (add-one i, add-one p, drop-cons xs i d h, v)
+  past_missing k [] i h v = absurd (omega arith)
+  past_missing k (x ∷ xs) zero h v = rw v
+  past_missing k (x ∷ xs) (suc i) h v = past_missing k xs i (omega arith) v
 
-pub from_end : {A : Type 0} (valid : ℕ → Bool) (xs : List A) (p i : ℕ) → length xs ≤ i → valid_from valid p (drop i xs) ≡ []
+  pub from-missing : (xs : List A) (i : ℕ) → i < length xs → valid i ≡ false → rest valid xs i ≡ rest valid xs (i + 1)
+  from-missing xs i h v = rw add-one (past_missing i xs i h v)
+
+pub from_end : {A : Type 0} (valid : ℕ → Bool) (xs : List A) (i : ℕ) → length xs ≤ i → rest valid xs i ≡ []
 unfolding valid_from
-from_end valid xs p i h = rw (drop_of_length-le xs h)
+from_end valid xs i h = rw (drop_of_length-le xs h)
 
--- without a map the valid ones are all
-pub all_valid : {A : Type 0} (map : List ℕ) (i : ℕ) (xs : List A) → valid_from (valid_at false map) i xs ≡ xs
-unfolding valid_at
-all_valid map i xs = none_missing_lem (valid_at false map) i xs (λ j k l. refl)
+-- where nothing is missing
+pub all_valid : {A : Type 0} (i : ℕ) (xs : List A) → valid_from (λ j. true) i xs ≡ xs
+unfolding valid_from
+all_valid i [] = refl
+all_valid i (x ∷ xs) = ap (λ l. x ∷ l) (all_valid (suc i) xs)
 
--- so what is made of a list is made of its valid ones
-pub unmapped : {A S : Type 0} (new : List A → S) (has : Bool) (map : List ℕ) (i : ℕ) (xs : List A) → has ≡ false → new xs ≡ new (valid_from (valid_at has map) i xs)
-unmapped new has map i xs e = ap new (sym (ap (λ (h : Bool). valid_from (valid_at h map) i xs) e ∙ all_valid map i xs))
+-- what is folded so far, with what is left folded, is the whole fold
+pub record Folded {A B : Type 0} (f : B → A → B) (b : B) (valid : ℕ → Bool) (xs : List A) (t : B) (i : ℕ) : Type 0 where
+  pub with_rest : foldl f t (rest valid xs i) ≡ foldl f b (rest valid xs 0)
 
--- the list starts at place s of its trace
-module _ {B : Type 0} (f : B → Float → B) (b : B) (valid : ℕ → Bool) (s : ℕ) (xs : List Float) where
-  abbrev pub ValidFolded : B → ℕ → Type 0
-  ValidFolded t i = foldl f t (valid_from valid (s + i) (drop i xs)) ≡ foldl f b (valid_from valid s xs)
+module _ {A B : Type 0} {f : B → A → B} {b : B} {valid : ℕ → Bool} {xs : List A} where
+  pub folded_start : {t : B} → t ≡ b → Folded f b valid xs t 0
+  folded_start e = record { with_rest = rw e }
 
-  pub valid-start : ValidFolded b 0
-  valid-start = rw add-zero
+  -- a valid place, whose entry x is folded
+  pub folded_valid : {t u : B} {i : ℕ} {x : A} {v : Bool} → Folded f b valid xs t i → i < length xs → x ≡ get_or xs i x → u ≡ f t x
+      → v ≡ valid i → v ≡ true → Folded f b valid xs u (i + 1)
+  folded_valid {i = i} {x} k h r e v w =
+      record { with_rest = rw (e, r) (rw (from-valid valid xs x i h (sym v ∙ w)) at k.with_rest) }
 
-  next : (i : ℕ) → s + (i + 1) ≡ s + i + 1
-  next i = omega arith
+  pub folded_missing : {t : B} {i : ℕ} {v : Bool} → Folded f b valid xs t i → i < length xs → v ≡ valid i → v ≡ false
+      → Folded f b valid xs t (i + 1)
+  folded_missing {i = i} k h v w = record { with_rest = rw (from-missing valid xs i h (sym v ∙ w)) at k.with_rest }
 
-  pub valid-step : (t : B) (i : ℕ) → i < length xs → {u : Bool} → u ≡ valid (s + i) → u ≡ true → ValidFolded t i → ValidFolded (f t (get_or xs i nan)) (i + 1)
-  valid-step t i h v u e = rw (next i) (rw (from-valid valid xs nan (s + i) i h (sym v ∙ u)) at e)
-
-  pub missing-step : (t : B) (i : ℕ) → i < length xs → {u : Bool} → u ≡ valid (s + i) → u ≡ false → ValidFolded t i → ValidFolded t (i + 1)
-  missing-step t i h v u e = rw (next i) (rw (from-missing valid xs nan (s + i) i h (sym v ∙ u)) at e)
-
-  pub valid-end : (t : B) (i : ℕ) → length xs ≤ i → ValidFolded t i → t ≡ foldl f b (valid_from valid s xs)
-  valid-end t i h e = rw (from_end valid xs (s + i) i h) at e
-
-abbrev pub ValidSummed : (Float → Float) → (ℕ → Bool) → ℕ → List Float → Float → ℕ → Type 0
-ValidSummed f = ValidFolded (λ t x. t ⊕ f x) zero64
+  -- no place is left
+  pub folded_end : {t : B} {i : ℕ} → Folded f b valid xs t i → length xs ≤ i → t ≡ foldl f b (valid_from valid 0 xs)
+  folded_end {i = i} k h = rw (from_end valid xs i h) at k.with_rest
 
 -- ---- a count as a fold
-abbrev pub one_more : ℕ → Float → ℕ
+abbrev pub one_more : {A : Type 0} → ℕ → A → ℕ
 one_more n x = n + 1
 
-counted_from : (k : ℕ) (xs : List Float) → foldl one_more k xs ≡ k + length xs
+counted_from : {A : Type 0} (k : ℕ) (xs : List A) → foldl one_more k xs ≡ k + length xs
 counted_from k [] = sym (add-zero k)
-counted_from k (x ∷ xs) = let e = counted_from (k + 1) xs in omega arith
+counted_from k (x ∷ xs) = omega (arith, counted_from (k + 1) xs)
 
-pub counted_end : (valid : ℕ → Bool) (s : ℕ) (xs : List Float) (n i : ℕ) → length xs ≤ i → ValidFolded one_more 0 valid s xs n i → n ≡ length (valid_from valid s xs)
-counted_end valid s xs n i h e = let k = counted_from 0 (valid_from valid s xs) in let v = valid-end one_more 0 valid s xs n i h e in omega arith
+pub counted : {A : Type 0} (n : ℕ) (xs : List A) → n ≡ foldl one_more 0 xs → n ≡ length xs
+counted n xs e = omega (arith, counted_from 0 xs)
+
+-- ---- what is made of a list is what is made of the first of it, with one entry more at a time
+module _ {E S : Type 0} (make : List E → S) (more : S → E → S) (law : (xs : List E) (x : E) → make (xs ++ x ∷ []) ≡ more (make xs) x) where
+  made_on : (ys xs : List E) → foldl more (make ys) xs ≡ make (ys ++ xs)
+  made_on ys [] = ap make (sym (append-nil ys))
+  made_on ys (x ∷ xs) = rw (← law ys x) (made_on (ys ++ x ∷ []) xs ∙ ap make (append_assoc ys (x ∷ []) xs))
+
+  pub one_by_one : (xs : List E) → foldl more (make []) xs ≡ make xs
+  one_by_one xs = made_on [] xs
+
+-- what a loop over the places of a list cites
+pub ruleset folding = (folded_start, folded_valid, folded_missing, folded_end, counted)

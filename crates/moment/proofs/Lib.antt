@@ -1,9 +1,10 @@
--- Laws by subject. The crates above cite Folds, Filling, Chunked, Weights and Figures. A function's own file answers its needs in the
--- code's order, in a list before `close`: so a function is judged for itself, even where one that it calls is refused.
+-- Laws by subject. The crates above cite Pairs, Chunked, Weights and Figures. A function's own file answers what is asked of it in the
+-- code's order: so a function is judged for itself, even where one that it calls is refused.
 pub mod Folds
 pub mod Pairs
 pub mod Filling
 pub mod Chunked
 pub mod Answers
+pub mod Lent
 pub mod Weights
 pub mod Figures

@@ -44,19 +44,23 @@ skew_part s = record { weight = s.weight; mean = s.mean; m2 = s.m2; m3 = s.m3 }
 abbrev pub with_m4 : SkewState → Float → KurtosisState
 with_m4 s m4 = record { weight = s.weight; mean = s.mean; m2 = s.m2; m3 = s.m3; m4 = m4 }
 
--- `KurtosisState::insert_one`
-abbrev pub kurtosis_insert : KurtosisState → Float → KurtosisState
-kurtosis_insert s x =
+-- `KurtosisState::insert_one`, before its clear_zero_weight_nan
+abbrev pub kurtosis_inserted : KurtosisState → Float → KurtosisState
+kurtosis_inserted s x =
     let t = skew_inserted (skew_part s) x in
     let delta = x ⊖ s.mean in
     let delta_w = delta ⊘ t.weight in
     let update = (x ⊖ t.mean) ⊗ delta in
     let spread = update ⊗ (s.weight ⊗ (s.weight ⊖ one64) ⊕ one64) in
-    kurtosis_clear (with_m4 t (s.m4 ⊕ delta_w ⊗ (delta_w ⊗ (spread ⊕ six64 ⊗ s.m2) ⊖ four64 ⊗ s.m3)))
+    with_m4 t (s.m4 ⊕ delta_w ⊗ (delta_w ⊗ (spread ⊕ six64 ⊗ s.m2) ⊖ four64 ⊗ s.m3))
 
--- `KurtosisState::combine`, where neither weight is zero
-abbrev pub kurtosis_merge : KurtosisState → KurtosisState → KurtosisState
-kurtosis_merge s o =
+-- `KurtosisState::insert_one`
+abbrev pub kurtosis_insert : KurtosisState → Float → KurtosisState
+kurtosis_insert s x = kurtosis_clear (kurtosis_inserted s x)
+
+-- `KurtosisState::combine` after its tests of weights and before its clear_zero_weight_nan
+abbrev pub kurtosis_merged : KurtosisState → KurtosisState → KurtosisState
+kurtosis_merged s o =
     let t = skew_merged (skew_part s) (skew_part o) in
     let delta = o.mean ⊖ s.mean in
     let delta_w = delta ⊘ t.weight in
@@ -64,7 +68,11 @@ kurtosis_merge s o =
     let spread = update ⊗ (s.weight ⊗ (s.weight ⊖ o.weight) ⊕ o.weight ⊗ o.weight) in
     let squares = s.weight ⊗ (s.weight ⊗ o.m2) ⊕ o.weight ⊗ (o.weight ⊗ s.m2) in
     let cubes = s.weight ⊗ o.m3 ⊖ o.weight ⊗ s.m3 in
-    kurtosis_clear (with_m4 t (s.m4 ⊕ o.m4 ⊕ delta_w ⊗ (delta_w ⊗ (spread ⊕ six64 ⊗ squares) ⊕ four64 ⊗ cubes)))
+    with_m4 t (s.m4 ⊕ o.m4 ⊕ delta_w ⊗ (delta_w ⊗ (spread ⊕ six64 ⊗ squares) ⊕ four64 ⊗ cubes))
+
+-- `KurtosisState::combine`, where neither weight is zero
+abbrev pub kurtosis_merge : KurtosisState → KurtosisState → KurtosisState
+kurtosis_merge s o = kurtosis_clear (kurtosis_merged s o)
 
 -- `KurtosisState::combine`
 unfoldable pub kurtosis_combine : KurtosisState → KurtosisState → KurtosisState

@@ -17,11 +17,13 @@ var_empty = record { weight = zero64; mean = zero64; dp = zero64 }
 abbrev pub mean_of : List Float → Float
 mean_of xs = sum_of itself xs ⊘ of_nat64 (length xs)
 
+-- `VarState::new` of one or more readings, about a mean
+abbrev pub var_about : Float → Float → List Float → VarState
+var_about w mean xs = record { weight = w; mean = mean; dp = sum_of (square mean) xs }
+
 -- `VarState::new`
 unfoldable pub var_new : List Float → VarState
-var_new xs =
-    cond (length xs == 0) var_empty
-    (record { weight = of_nat64 (length xs); mean = mean_of xs; dp = sum_of (square (mean_of xs)) xs })
+var_new xs = cond (length xs == 0) var_empty (var_about (of_nat64 (length xs)) (mean_of xs) xs)
 
 -- `VarState::clear_zero_weight_nan`
 unfoldable pub var_clear : VarState → VarState

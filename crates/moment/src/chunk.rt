@@ -1,69 +1,57 @@
-// Filling an array of 128 doubles with a trace's valid readings: the source's `chunk_as_float` and `chunk_as_float_binary`.
-ghost use Rattle.std.specs.Prelude.{◌≡◌, length};
-ghost use Rattle.trace.specs.Trace.{valid_at, both_at};
-ghost use Rattle.moment.specs.Code.Filling.{Filled, Fillable, FilledBoth};
+// Whole arrays: the valid entries in chunks of 128, each made a state by `new` and combined in order.
+ghost use Rattle.std.specs.Prelude.{◌≡◌, [], length};
+ghost use Rattle.float.specs.Operators.{zero64};
+ghost use Rattle.trace.specs.Trace.{valid_from};
+ghost use Rattle.moment.specs.Chunks.{in_chunks};
+ghost use Rattle.moment.specs.Code.Filling.{Filled};
 
-// How many readings a chunk holds.
-const CHUNK_SIZE: usize = 128;
+use crate::entries::{Entry, Places};
+use crate::states;
+use crate::states::State;
 
-// Where filling stopped: the first place not looked at, and how many readings the chunk holds.
+// How many entries a chunk holds.
+pub(crate) const CHUNK_SIZE: usize = 128;
+
+// Where filling stopped: the first place not looked at, and how many entries the chunk holds.
 #[derive(Clone, Copy)]
-pub(crate) struct Stop {
-    pub(crate) place: usize,
-    pub(crate) count: usize,
+struct Stop {
+    place: usize,
+    count: usize,
 }
 
-// Fills the chunk with the valid readings from `place` on, 128 or all that are left. A reading is stored before its
-// validity is known and counted by it: that has no branch, and a missing one is overwritten by the next.
-pub(crate) fn fill(
-    values: &[f64],
-    has_map: bool,
-    map: &[u8],
-    place: usize,
-    chunk: &mut [f64],
-) -> Stop
+// The source's `chunk_as_float` and `chunk_as_float_binary`: fills the chunk with the valid entries from `place` on, 128 or all that are
+// left. An entry is stored before its validity is known and counted by it: that has no branch, and a missing one is overwritten by the
+// next.
+fn fill<P: Places>(places: P, place: usize, chunk: &mut [P::Entry]) -> Stop
     requires { length chunk.old ≡ 128 }
-    ensures { Filled (valid_at has_map map.now) values.now place result.place result.count chunk.new }
+    ensures { Filled (P.valid places) (P.entries places) place result.place result.count chunk.new }
 {
-    let mut at = place;
     let mut count = 0;
-    while at < values.len() {
+    let end = places.len();
+    for at in place..end {
         if count == CHUNK_SIZE {
             return Stop { place: at, count };
         }
-        chunk[count] = values[at];
-        count += trace::valid(has_map, map, at) as usize;
-        at += 1;
+        chunk[count] = places.entry(at);
+        count += places.is_valid(at) as usize;
     }
-    Stop { place: at, count }
+    Stop { place: end, count }
 }
 
-// The same for two traces, with the places that are valid in both.
-pub(crate) fn fill_pairs(
-    x: &[f64],
-    x_has_map: bool,
-    x_map: &[u8],
-    y: &[f64],
-    y_has_map: bool,
-    y_map: &[u8],
-    place: usize,
-    x_chunk: &mut [f64],
-    y_chunk: &mut [f64],
-) -> Stop
-    requires { Fillable x.now y.now x_chunk.old y_chunk.old }
-    ensures { FilledBoth (both_at x_has_map x_map.now y_has_map y_map.now)
-        x.now y.now place result.place result.count x_chunk.new y_chunk.new }
+// The chunk is lent by those who know what kind of entry it holds: how large an array of any kind is, no proof knows.
+pub(crate) fn whole<P: Places, S: State<Entry = P::Entry>>(places: P, chunk: &mut [P::Entry]) -> S
+    requires { length chunk.old ≡ 128 }
+    ensures { result ≡ in_chunks S.new S.combine (S.about zero64 P.Entry.none [])
+        (valid_from (P.valid places) 0 (P.entries places)) }
 {
-    let mut at = place;
-    let mut count = 0;
-    while at < x.len() {
-        if count == CHUNK_SIZE {
-            return Stop { place: at, count };
-        }
-        x_chunk[count] = x[at];
-        y_chunk[count] = y[at];
-        count += trace::both(x_has_map, x_map, y_has_map, y_map, at) as usize;
-        at += 1;
+    let mut out = S::about(0.0, P::Entry::none());
+    let mut place = 0;
+    // no `for`: it goes on where filling stopped
+    while place < places.len() {
+        let stop = fill(places, place, chunk);
+        let count = stop.count;
+        out = states::combine(out, states::new(&chunk[..count]));
+        place = stop.place;
     }
-    Stop { place: at, count }
+    out
 }

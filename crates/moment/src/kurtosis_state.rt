@@ -1,15 +1,18 @@
 // Kurtosis: the source's `KurtosisState`.
-ghost use Rattle.std.specs.Prelude.{◌≡◌, ◌+◌, ◌^◌, ◌<◌, length};
-ghost use Rattle.float.specs.Operators.{zero64};
-ghost use Rattle.moment.specs.Kurtosis.{kurtosis_empty, kurtosis_about, kurtosis_new, kurtosis_insert, kurtosis_merge};
-ghost use Rattle.moment.specs.Kurtosis.{kurtosis_combine, kurtosis_biased, kurtosis_unbiased, less_three, kurtosis_finalize};
-ghost use Rattle.moment.specs.Code.Parts.{valid_part};
-ghost use Rattle.moment.specs.Arrays.{kurtosis_range};
+ghost use Rattle.std.specs.Prelude.{◌≡◌, false, refl};
+ghost use Rattle.trace.specs.Lent.{traced};
+ghost use Rattle.moment.specs.Kurtosis.{kurtosis_empty, kurtosis_about, kurtosis_new, kurtosis_clear, kurtosis_inserted, kurtosis_insert};
+ghost use Rattle.moment.specs.Kurtosis.{kurtosis_merged, kurtosis_merge, kurtosis_combine};
+ghost use Rattle.moment.specs.Kurtosis.{kurtosis_biased, kurtosis_unbiased, less_three, kurtosis_finalize};
+ghost use Rattle.moment.specs.Arrays.{kurtosis_list, answered, kurtosis_range};
+ghost use Rattle.moment.specs.Code.Entrywise.{kurtosis_with, kurtosis_about_more, kurtosis_new_is, kurtosis_combine_is};
 
-use crate::{Figure, KurtosisAnswer, is_zero, sums};
+use crate::states::State;
+use crate::{Figure, is_zero, states};
+use trace::{Refusal, Trace};
 
 #[repr(C)]
-#[derive(Clone, Copy)]
+#[derive(Clone, Copy, Debug, PartialEq)]
 pub struct KurtosisState {
     pub weight: f64,
     pub mean: f64,
@@ -18,10 +21,11 @@ pub struct KurtosisState {
     pub m4: f64,
 }
 
-impl KurtosisState {
-    pub fn default() -> Self
-        ensures { result ≡ kurtosis_empty }
-    {
+// By hand: a derive ensures the same member by member, and callers cite the empty state whole.
+impl Default for KurtosisState {
+    ghost is_default = { λ s. s ≡ kurtosis_empty };
+
+    fn default() -> KurtosisState {
         KurtosisState {
             weight: 0.0,
             mean: 0.0,
@@ -30,120 +34,90 @@ impl KurtosisState {
             m4: 0.0,
         }
     }
+}
 
-    // `from_valid` after its test of the count, about a mean.
-    fn about_valid(
-        part: &[f64],
-        has_map: bool,
-        map: &[u8],
-        start: usize,
-        weight: f64,
-        mean: f64,
-    ) -> Self
-        requires { start + length part.now < 2 ^ 64 }
-        ensures { result ≡ kurtosis_about weight mean (valid_part has_map map.now start part.now) }
-    {
-        let mut m2 = 0.0;
-        let mut m3 = 0.0;
-        let mut m4 = 0.0;
-        let mut i = 0;
-        while i < part.len() {
-            if trace::valid(has_map, map, start + i) {
-                let d = part[i] - mean;
-                let d2 = d * d;
-                let d3 = d * d2;
-                let d4 = d2 * d2;
-                m2 = m2 + d2;
-                m3 = m3 + d3;
-                m4 = m4 + d4;
-            }
-            i += 1;
-        }
+// Its members, in the order of the source's struct.
+impl From<KurtosisState> for [f64; 5] {
+    ghost from_gives = { λ s members. members ≡ kurtosis_list s };
+
+    fn from(s: KurtosisState) -> [f64; 5] {
+        [s.weight, s.mean, s.m2, s.m3, s.m4]
+    }
+}
+
+impl State for KurtosisState {
+    type Entry = f64;
+
+    const MERGES_EMPTY: bool = false;
+
+    ghost MERGES_EMPTY = { false };
+
+    ghost about = { kurtosis_about };
+
+    ghost with_entry = { kurtosis_with };
+
+    ghost new = { kurtosis_new };
+
+    ghost weight = { λ s. s.weight };
+
+    ghost merge = { kurtosis_merge };
+
+    ghost combine = { kurtosis_combine };
+
+    ghost about_weight = { λ w mean. refl };
+
+    ghost about_more = { kurtosis_about_more };
+
+    ghost new_is = { kurtosis_new_is };
+
+    ghost combine_is = { kurtosis_combine_is };
+
+    fn about(weight: f64, mean: f64) -> KurtosisState {
         KurtosisState {
             weight,
             mean,
-            m2,
-            m3,
-            m4,
-        }
-    }
-
-    // The source's `from_iter`: one state, unchunked, of the valid readings of a part that starts at place `start` of its
-    // trace.
-    fn from_valid(part: &[f64], has_map: bool, map: &[u8], start: usize) -> Self
-        requires { start + length part.now < 2 ^ 64 }
-        ensures { result ≡ kurtosis_new (valid_part has_map map.now start part.now) }
-    {
-        let total = sums::valid_total(part, has_map, map, start);
-        let count = total.count;
-        if count == 0 {
-            return KurtosisState::default();
-        }
-        let weight = std::num::nearest_u64_to_f64(count as u64);
-        let mean = total.sum / weight;
-        KurtosisState::about_valid(part, has_map, map, start, weight, mean)
-    }
-
-    // `new` after its test of the length, about a mean. A loop of its own: beside the test of a map the compiler makes a
-    // slower one.
-    fn about(x: &[f64], weight: f64, mean: f64) -> Self
-        ensures { result ≡ kurtosis_about weight mean x.now }
-    {
-        let mut m2 = 0.0;
-        let mut m3 = 0.0;
-        let mut m4 = 0.0;
-        let mut i = 0;
-        while i < x.len() {
-            let d = x[i] - mean;
-            let d2 = d * d;
-            let d3 = d * d2;
-            let d4 = d2 * d2;
-            m2 = m2 + d2;
-            m3 = m3 + d3;
-            m4 = m4 + d4;
-            i += 1;
-        }
-        KurtosisState {
-            weight,
-            mean,
-            m2,
-            m3,
-            m4,
-        }
-    }
-
-    pub fn new(x: &[f64]) -> Self
-        ensures { result ≡ kurtosis_new x.now }
-    {
-        if x.len() == 0 {
-            return KurtosisState::default();
-        }
-        let weight = std::num::nearest_u64_to_f64(x.len() as u64);
-        let mean = sums::sum(x) / weight;
-        KurtosisState::about(x, weight, mean)
-    }
-
-    // The source's `clear_zero_weight_nan`, of a state whose weight is zero. The weight is tested before the other members are worked
-    // out: after them the compiler picks each member without a branch, which is slow.
-    fn zero_weight(weight: f64) -> Self
-        ensures { result ≡ record { weight = weight; mean = zero64; m2 = zero64; m3 = zero64; m4 = zero64 } }
-    {
-        KurtosisState {
-            weight,
-            mean: 0.0,
             m2: 0.0,
             m3: 0.0,
             m4: 0.0,
         }
     }
 
-    pub fn insert_one(self, x: f64) -> Self
-        ensures { result ≡ kurtosis_insert self x }
+    fn with_entry(self, x: f64) -> KurtosisState {
+        let d = x - self.mean;
+        let d2 = d * d;
+        let d3 = d * d2;
+        let d4 = d2 * d2;
+        KurtosisState {
+            m2: self.m2 + d2,
+            m3: self.m3 + d3,
+            m4: self.m4 + d4,
+            ..self
+        }
+    }
+
+    fn weight(self) -> f64 {
+        self.weight
+    }
+
+    #[tactic(auto, unfolding(crate::specs::Kurtosis::kurtosis_clear))]
+    fn merge(self, other: KurtosisState) -> KurtosisState {
+        let empty = KurtosisState::about(self.weight + other.weight, 0.0);
+        states::cleared(empty.weight, empty, || self.merged(other))
+    }
+}
+
+impl KurtosisState {
+    pub fn new(x: &[f64]) -> Self
+        ensures { result ≡ kurtosis_new x.now }
+    {
+        states::new(x)
+    }
+
+    // `insert_one` before its `clear_zero_weight_nan`.
+    fn inserted(self, x: f64) -> Self
+        ensures { result ≡ kurtosis_inserted self x }
     {
         let new_weight = self.weight + 1.0;
-        if new_weight == 0.0 {
-            return KurtosisState::zero_weight(new_weight);
-        }
         let delta_mean = x - self.mean;
         let delta_mean_weight = delta_mean / new_weight;
         let new_mean = self.mean + delta_mean_weight;
@@ -166,14 +140,19 @@ impl KurtosisState {
         }
     }
 
-    // `combine` after its tests of weights.
+    #[tactic(auto, unfolding(crate::specs::Kurtosis::kurtosis_clear))]
+    pub fn insert_one(self, x: f64) -> Self
+        ensures { result ≡ kurtosis_insert self x }
+    {
+        let empty = KurtosisState::about(self.weight + 1.0, 0.0);
+        states::cleared(empty.weight, empty, || self.inserted(x))
+    }
+
+    // `combine` of two weights that are not zero, before its `clear_zero_weight_nan`.
     fn merged(self, other: KurtosisState) -> Self
-        ensures { result ≡ kurtosis_merge self other }
+        ensures { result ≡ kurtosis_merged self other }
     {
         let new_weight = self.weight + other.weight;
-        if new_weight == 0.0 {
-            return KurtosisState::zero_weight(new_weight);
-        }
         let delta_mean = other.mean - self.mean;
         let delta_mean_weight = delta_mean / new_weight;
         let new_mean = self.mean + other.weight * delta_mean_weight;
@@ -208,15 +187,10 @@ impl KurtosisState {
     pub fn combine(self, other: KurtosisState) -> Self
         ensures { result ≡ kurtosis_combine self other }
     {
-        if other.weight == 0.0 {
-            return self;
-        }
-        if self.weight == 0.0 {
-            return other;
-        }
-        self.merged(other)
+        states::combine(self, other)
     }
 
+    #[tactic(auto, unfolding(crate::specs::Kurtosis::kurtosis_biased))]
     fn biased(self) -> f64
         ensures { result ≡ kurtosis_biased self }
     {
@@ -243,6 +217,7 @@ impl KurtosisState {
         if fisher { out - 3.0 } else { out }
     }
 
+    #[tactic(auto, unfolding(crate::specs::Kurtosis::kurtosis_finalize))]
     pub fn finalize(self, fisher: bool, bias: bool) -> Figure
         ensures { result ≡ kurtosis_finalize self fisher bias }
     {
@@ -262,25 +237,9 @@ impl KurtosisState {
         ))
     }
 
-    // One unchunked state of the valid readings of a range. The range is lent as a part that starts in the trace's middle.
-    pub fn from_array(
-        values: &[f64],
-        has_map: bool,
-        map: &[u8],
-        start: usize,
-        length: usize,
-    ) -> KurtosisAnswer
-        ensures { result ≡ kurtosis_range values.now has_map map.now start length }
+    pub fn from_array(x: Trace, start: usize, length: usize) -> Result<KurtosisState, Refusal>
+        ensures { answered result ≡ kurtosis_range (traced x.entry) start length }
     {
-        let number = trace::range_refusal(values.len(), has_map, map, start, length);
-        if number != 0 {
-            return KurtosisAnswer::Refused(number);
-        }
-        let end = start + length;
-        let part = &values[start..end];
-        if has_map {
-            return KurtosisAnswer::State(KurtosisState::from_valid(part, has_map, map, start));
-        }
-        KurtosisAnswer::State(KurtosisState::new(part))
+        states::from_array(x, start, length)
     }
 }

@@ -2,32 +2,40 @@
 // a struct of floats by value; every operation is rounded once, in the source's order.
 #![tactic(auto)]
 
-ghost use Rattle.std.specs.Prelude.{◌≡◌, length};
-ghost use Rattle.trace.specs.Trace.{valid_readings, valid_pairs};
+ghost use Rattle.std.specs.Prelude.{◌≡◌, []};
+ghost use Rattle.float.specs.Operators.{zero64};
+ghost use Rattle.trace.specs.Lent.{traced};
 ghost use Rattle.moment.specs.Skew.{is_zero};
-ghost use Rattle.moment.specs.Arrays.{var_whole, cov_whole, pearson_whole, skew_whole, kurtosis_whole};
+ghost use Rattle.moment.specs.Chunks.{in_chunks};
+ghost use Rattle.moment.specs.Arrays.{answered, trace_answer, pair_answer};
 ghost use Rattle.moment.specs.Arrays.{var_answer, cov_answer, pearson_answer, skew_answer, kurtosis_answer};
 
 mod chunk;
 pub mod cov_state;
+mod entries;
 pub mod kurtosis_state;
 pub mod pearson_state;
 pub mod skew_state;
+mod states;
 mod sums;
 pub mod var_state;
 
+use chunk::CHUNK_SIZE;
 pub use cov_state::CovState;
 pub use kurtosis_state::KurtosisState;
 pub use pearson_state::PearsonState;
 pub use skew_state::SkewState;
+use states::State;
 pub use sums::sum;
+use trace::{Pair, Refusal, Trace};
 pub use var_state::VarState;
 
 // f64::EPSILON, 2^-52.
 const EPSILON: f64 = 2.220446049250313e-16;
 
-// What `finalize` answers: a figure, or that it is missing.
-#[derive(Clone, Copy)]
+// What `finalize` answers: a figure, or that it is missing. Document 01 names the form, an enum that carries a figure, in place of
+// Option<f64>.
+#[derive(Clone, Copy, Debug, PartialEq)]
 pub enum Figure {
     Missing,
     Present(f64),
@@ -40,215 +48,48 @@ pub fn is_zero(m2: f64, mean: f64) -> bool
     m2 <= EPSILON * mean * (EPSILON * mean)
 }
 
-// Whole arrays: the valid readings in chunks of 128, each made a state by `new` and combined in order. A refusal is document
-// 01's number.
-#[derive(Clone, Copy)]
-pub enum VarAnswer {
-    State(VarState),
-    Refused(u32),
-}
-
-fn var_chunks(values: &[f64], has_map: bool, map: &[u8]) -> VarState
-    ensures { result ≡ var_whole (valid_readings has_map map.now values.now) }
+// Whole arrays: one state of the valid readings of a trace, or of the pairs that are valid in two.
+fn of_trace<S: State<Entry = f64>>(x: Trace) -> Result<S, Refusal>
+    ensures { answered result ≡ trace_answer (in_chunks S.new S.combine (S.about zero64 zero64 [])) (traced x.entry) }
 {
-    let mut chunk = [0.0; 128];
-    let mut out = VarState::default();
-    let mut place = 0;
-    while place < values.len() {
-        let stop = chunk::fill(values, has_map, map, place, &mut chunk);
-        let count = stop.count;
-        out = out.combine(VarState::new(&chunk[..count]));
-        place = stop.place;
-    }
-    out
+    x.check()?;
+    Ok(chunk::whole(x, &mut [0.0; CHUNK_SIZE]))
 }
 
-pub fn var(values: &[f64], has_map: bool, map: &[u8]) -> VarAnswer
-    ensures { result ≡ var_answer values.now has_map map.now }
+fn of_pair<S: State<Entry = (f64, f64)>>(pair: Pair) -> Result<S, Refusal>
+    ensures { answered result ≡ pair_answer (in_chunks S.new S.combine (S.about zero64 (zero64, zero64) []))
+        (traced pair.entry.x) (traced pair.entry.y) }
 {
-    let number = trace::array_refusal(values.len(), has_map, map);
-    if number != 0 {
-        return VarAnswer::Refused(number);
-    }
-    VarAnswer::State(var_chunks(values, has_map, map))
+    pair.check()?;
+    Ok(chunk::whole(pair, &mut [(0.0, 0.0); CHUNK_SIZE]))
 }
 
-#[derive(Clone, Copy)]
-pub enum CovAnswer {
-    State(CovState),
-    Refused(u32),
-}
-
-fn cov_chunks(
-    x: &[f64],
-    x_has_map: bool,
-    x_map: &[u8],
-    y: &[f64],
-    y_has_map: bool,
-    y_map: &[u8],
-) -> CovState
-    requires { length x.now ≡ length y.now }
-    ensures { result ≡ cov_whole (valid_pairs
-        x_has_map x_map.now x.now y_has_map y_map.now y.now) }
+pub fn var(x: Trace) -> Result<VarState, Refusal>
+    ensures { answered result ≡ var_answer (traced x.entry) }
 {
-    let mut x_chunk = [0.0; 128];
-    let mut y_chunk = [0.0; 128];
-    let mut out = CovState::default();
-    let mut place = 0;
-    while place < x.len() {
-        let stop = chunk::fill_pairs(
-            x,
-            x_has_map,
-            x_map,
-            y,
-            y_has_map,
-            y_map,
-            place,
-            &mut x_chunk,
-            &mut y_chunk,
-        );
-        let count = stop.count;
-        out = out.combine(CovState::new(&x_chunk[..count], &y_chunk[..count]));
-        place = stop.place;
-    }
-    out
+    of_trace(x)
 }
 
-pub fn cov(
-    x: &[f64],
-    x_has_map: bool,
-    x_map: &[u8],
-    y: &[f64],
-    y_has_map: bool,
-    y_map: &[u8],
-) -> CovAnswer
-    ensures { result ≡ cov_answer
-        x.now x_has_map x_map.now y.now y_has_map y_map.now }
+pub fn cov(pair: Pair) -> Result<CovState, Refusal>
+    ensures { answered result ≡ cov_answer (traced pair.entry.x) (traced pair.entry.y) }
 {
-    let number = trace::pair_refusal(x.len(), x_has_map, x_map, y.len(), y_has_map, y_map);
-    if number != 0 {
-        return CovAnswer::Refused(number);
-    }
-    CovAnswer::State(cov_chunks(x, x_has_map, x_map, y, y_has_map, y_map))
+    of_pair(pair)
 }
 
-#[derive(Clone, Copy)]
-pub enum PearsonAnswer {
-    State(PearsonState),
-    Refused(u32),
-}
-
-fn pearson_chunks(
-    x: &[f64],
-    x_has_map: bool,
-    x_map: &[u8],
-    y: &[f64],
-    y_has_map: bool,
-    y_map: &[u8],
-) -> PearsonState
-    requires { length x.now ≡ length y.now }
-    ensures { result ≡ pearson_whole (valid_pairs
-        x_has_map x_map.now x.now y_has_map y_map.now y.now) }
+pub fn pearson_corr(pair: Pair) -> Result<PearsonState, Refusal>
+    ensures { answered result ≡ pearson_answer (traced pair.entry.x) (traced pair.entry.y) }
 {
-    let mut x_chunk = [0.0; 128];
-    let mut y_chunk = [0.0; 128];
-    let mut out = PearsonState::default();
-    let mut place = 0;
-    while place < x.len() {
-        let stop = chunk::fill_pairs(
-            x,
-            x_has_map,
-            x_map,
-            y,
-            y_has_map,
-            y_map,
-            place,
-            &mut x_chunk,
-            &mut y_chunk,
-        );
-        let count = stop.count;
-        out = out.combine(PearsonState::new(&x_chunk[..count], &y_chunk[..count]));
-        place = stop.place;
-    }
-    out
+    of_pair(pair)
 }
 
-pub fn pearson_corr(
-    x: &[f64],
-    x_has_map: bool,
-    x_map: &[u8],
-    y: &[f64],
-    y_has_map: bool,
-    y_map: &[u8],
-) -> PearsonAnswer
-    ensures { result ≡ pearson_answer
-        x.now x_has_map x_map.now y.now y_has_map y_map.now }
+pub fn skew(x: Trace) -> Result<SkewState, Refusal>
+    ensures { answered result ≡ skew_answer (traced x.entry) }
 {
-    let number = trace::pair_refusal(x.len(), x_has_map, x_map, y.len(), y_has_map, y_map);
-    if number != 0 {
-        return PearsonAnswer::Refused(number);
-    }
-    PearsonAnswer::State(pearson_chunks(x, x_has_map, x_map, y, y_has_map, y_map))
+    of_trace(x)
 }
 
-#[derive(Clone, Copy)]
-pub enum SkewAnswer {
-    State(SkewState),
-    Refused(u32),
-}
-
-fn skew_chunks(values: &[f64], has_map: bool, map: &[u8]) -> SkewState
-    ensures { result ≡ skew_whole (valid_readings has_map map.now values.now) }
+pub fn kurtosis(x: Trace) -> Result<KurtosisState, Refusal>
+    ensures { answered result ≡ kurtosis_answer (traced x.entry) }
 {
-    let mut chunk = [0.0; 128];
-    let mut out = SkewState::default();
-    let mut place = 0;
-    while place < values.len() {
-        let stop = chunk::fill(values, has_map, map, place, &mut chunk);
-        let count = stop.count;
-        out = out.combine(SkewState::new(&chunk[..count]));
-        place = stop.place;
-    }
-    out
-}
-
-pub fn skew(values: &[f64], has_map: bool, map: &[u8]) -> SkewAnswer
-    ensures { result ≡ skew_answer values.now has_map map.now }
-{
-    let number = trace::array_refusal(values.len(), has_map, map);
-    if number != 0 {
-        return SkewAnswer::Refused(number);
-    }
-    SkewAnswer::State(skew_chunks(values, has_map, map))
-}
-
-#[derive(Clone, Copy)]
-pub enum KurtosisAnswer {
-    State(KurtosisState),
-    Refused(u32),
-}
-
-fn kurtosis_chunks(values: &[f64], has_map: bool, map: &[u8]) -> KurtosisState
-    ensures { result ≡ kurtosis_whole (valid_readings has_map map.now values.now) }
-{
-    let mut chunk = [0.0; 128];
-    let mut out = KurtosisState::default();
-    let mut place = 0;
-    while place < values.len() {
-        let stop = chunk::fill(values, has_map, map, place, &mut chunk);
-        let count = stop.count;
-        out = out.combine(KurtosisState::new(&chunk[..count]));
-        place = stop.place;
-    }
-    out
-}
-
-pub fn kurtosis(values: &[f64], has_map: bool, map: &[u8]) -> KurtosisAnswer
-    ensures { result ≡ kurtosis_answer values.now has_map map.now }
-{
-    let number = trace::array_refusal(values.len(), has_map, map);
-    if number != 0 {
-        return KurtosisAnswer::Refused(number);
-    }
-    KurtosisAnswer::State(kurtosis_chunks(values, has_map, map))
+    of_trace(x)
 }

@@ -1,13 +1,15 @@
 // Correlation: the source's `PearsonState`.
-ghost use Rattle.std.specs.Prelude.{◌≡◌, [], ◌∷◌, length};
-ghost use mathlib.Core.List.{zip};
-ghost use Rattle.moment.specs.Pearson.{pearson_empty, pearson_about, pearson_new, pearson_insert};
-ghost use Rattle.moment.specs.Pearson.{pearson_merge, pearson_combine, pearson_finalize};
+ghost use Rattle.std.specs.Prelude.{◌≡◌, false, refl, [], ◌∷◌};
+ghost use Rattle.moment.specs.Pearson.{square_x, square_y, pearson_empty, pearson_about, pearson_new, pearson_insert, pearson_merge};
+ghost use Rattle.moment.specs.Pearson.{pearson_combine, pearson_finalize};
+ghost use Rattle.moment.specs.Arrays.{pearson_list};
+ghost use Rattle.moment.specs.Code.Entrywise.{pearson_with, pearson_about_more, pearson_new_is, pearson_combine_is};
 
-use crate::sums;
+use crate::states;
+use crate::states::State;
 
 #[repr(C)]
-#[derive(Clone, Copy)]
+#[derive(Clone, Copy, Debug, PartialEq)]
 pub struct PearsonState {
     pub weight: f64,
     pub mean_x: f64,
@@ -17,10 +19,11 @@ pub struct PearsonState {
     pub dp_yy: f64,
 }
 
-impl PearsonState {
-    pub fn default() -> Self
-        ensures { result ≡ pearson_empty }
-    {
+// By hand: a derive ensures the same member by member, and callers cite the empty state whole.
+impl Default for PearsonState {
+    ghost is_default = { λ s. s ≡ pearson_empty };
+
+    fn default() -> PearsonState {
         PearsonState {
             weight: 0.0,
             mean_x: 0.0,
@@ -30,71 +33,103 @@ impl PearsonState {
             dp_yy: 0.0,
         }
     }
+}
 
+// Its members, in the order of the source's struct.
+impl From<PearsonState> for [f64; 6] {
+    ghost from_gives = { λ s members. members ≡ pearson_list s };
+
+    fn from(s: PearsonState) -> [f64; 6] {
+        [s.weight, s.mean_x, s.mean_y, s.dp_xx, s.dp_xy, s.dp_yy]
+    }
+}
+
+impl State for PearsonState {
+    type Entry = (f64, f64);
+
+    const MERGES_EMPTY: bool = false;
+
+    ghost MERGES_EMPTY = { false };
+
+    ghost about = { λ w mean. pearson_about w mean.0 mean.1 };
+
+    ghost with_entry = { pearson_with };
+
+    ghost new = { pearson_new };
+
+    ghost weight = { λ s. s.weight };
+
+    ghost merge = { pearson_merge };
+
+    ghost combine = { pearson_combine };
+
+    ghost about_weight = { λ w mean. refl };
+
+    ghost about_more = { pearson_about_more };
+
+    ghost new_is = { pearson_new_is };
+
+    ghost combine_is = { pearson_combine_is };
+
+    fn about(weight: f64, (mean_x, mean_y): (f64, f64)) -> PearsonState {
+        PearsonState {
+            weight,
+            mean_x,
+            mean_y,
+            dp_xx: 0.0,
+            dp_xy: 0.0,
+            dp_yy: 0.0,
+        }
+    }
+
+    fn with_entry(self, (x, y): (f64, f64)) -> PearsonState {
+        let dx = x - self.mean_x;
+        let dy = y - self.mean_y;
+        PearsonState {
+            dp_xx: self.dp_xx + dx * dx,
+            dp_xy: self.dp_xy + dx * dy,
+            dp_yy: self.dp_yy + dy * dy,
+            ..self
+        }
+    }
+
+    fn weight(self) -> f64 {
+        PearsonState::weight(self)
+    }
+
+    fn merge(self, other: PearsonState) -> PearsonState {
+        let new_weight = self.weight + other.weight;
+        let other_weight_frac = other.weight / new_weight;
+        let delta_mean_x = other.mean_x - self.mean_x;
+        let delta_mean_y = other.mean_y - self.mean_y;
+        let new_mean_x = self.mean_x + delta_mean_x * other_weight_frac;
+        let new_mean_y = self.mean_y + delta_mean_y * other_weight_frac;
+        PearsonState {
+            weight: new_weight,
+            mean_x: new_mean_x,
+            mean_y: new_mean_y,
+            dp_xx: self.dp_xx
+                + (other.dp_xx + other.weight * (other.mean_x - new_mean_x) * delta_mean_x),
+            dp_xy: self.dp_xy
+                + (other.dp_xy + other.weight * (other.mean_x - new_mean_x) * delta_mean_y),
+            dp_yy: self.dp_yy
+                + (other.dp_yy + other.weight * (other.mean_y - new_mean_y) * delta_mean_y),
+        }
+    }
+}
+
+impl PearsonState {
     pub fn weight(self) -> f64
         ensures { result ≡ self.weight }
     {
         self.weight
     }
 
-    // `new` after its test of the length, about the means.
-    fn about(x: &[f64], y: &[f64], weight: f64, mean_x: f64, mean_y: f64) -> Self
-        requires { length x.now ≡ length y.now }
-        ensures { result ≡ pearson_about weight mean_x mean_y (zip x.now y.now) }
-    {
-        let mut dp_xx = 0.0;
-        let mut dp_xy = 0.0;
-        let mut dp_yy = 0.0;
-        let mut i = 0;
-        while i < x.len() {
-            let dx = x[i] - mean_x;
-            let dy = y[i] - mean_y;
-            dp_xx = dp_xx + dx * dx;
-            dp_xy = dp_xy + dx * dy;
-            dp_yy = dp_yy + dy * dy;
-            i += 1;
-        }
-        PearsonState {
-            weight,
-            mean_x,
-            mean_y,
-            dp_xx,
-            dp_xy,
-            dp_yy,
-        }
-    }
-
-    pub(crate) fn new(x: &[f64], y: &[f64]) -> Self
-        requires { length x.now ≡ length y.now }
-        ensures { result ≡ pearson_new (zip x.now y.now) }
-    {
-        if x.len() == 0 {
-            return PearsonState::default();
-        }
-        let weight = std::num::nearest_u64_to_f64(x.len() as u64);
-        let inv_weight = 1.0 / weight;
-        let mean_x = sums::sum(x) * inv_weight;
-        let mean_y = sums::sum(y) * inv_weight;
-        PearsonState::about(x, y, weight, mean_x, mean_y)
-    }
-
     // `new` of one pair.
     pub fn of_pair(x: f64, y: f64) -> Self
         ensures { result ≡ pearson_new ((x, y) ∷ []) }
     {
-        let inv_weight = 1.0 / 1.0;
-        let mean_x = (0.0 + x) * inv_weight;
-        let mean_y = (0.0 + y) * inv_weight;
-        let dx = x - mean_x;
-        let dy = y - mean_y;
-        PearsonState {
-            weight: 1.0,
-            mean_x,
-            mean_y,
-            dp_xx: 0.0 + dx * dx,
-            dp_xy: 0.0 + dx * dy,
-            dp_yy: 0.0 + dy * dy,
-        }
+        states::of_one((x, y))
     }
 
     pub fn insert_one(self, x: f64, y: f64) -> Self
@@ -116,41 +151,13 @@ impl PearsonState {
         }
     }
 
-    // `combine` after its tests of weights.
-    fn merged(self, other: PearsonState) -> Self
-        ensures { result ≡ pearson_merge self other }
-    {
-        let new_weight = self.weight + other.weight;
-        let other_weight_frac = other.weight / new_weight;
-        let delta_mean_x = other.mean_x - self.mean_x;
-        let delta_mean_y = other.mean_y - self.mean_y;
-        let new_mean_x = self.mean_x + delta_mean_x * other_weight_frac;
-        let new_mean_y = self.mean_y + delta_mean_y * other_weight_frac;
-        PearsonState {
-            weight: new_weight,
-            mean_x: new_mean_x,
-            mean_y: new_mean_y,
-            dp_xx: self.dp_xx
-                + (other.dp_xx + other.weight * (other.mean_x - new_mean_x) * delta_mean_x),
-            dp_xy: self.dp_xy
-                + (other.dp_xy + other.weight * (other.mean_x - new_mean_x) * delta_mean_y),
-            dp_yy: self.dp_yy
-                + (other.dp_yy + other.weight * (other.mean_y - new_mean_y) * delta_mean_y),
-        }
-    }
-
     pub fn combine(self, other: PearsonState) -> Self
         ensures { result ≡ pearson_combine self other }
     {
-        if other.weight == 0.0 {
-            return self;
-        }
-        if self.weight == 0.0 {
-            return other;
-        }
-        self.merged(other)
+        states::combine(self, other)
     }
 
+    #[tactic(auto, unfolding(crate::specs::Pearson::pearson_finalize))]
     pub fn finalize(self) -> f64
         ensures { result ≡ pearson_finalize self }
     {

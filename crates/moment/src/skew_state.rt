@@ -1,15 +1,17 @@
 // Skewness: the source's `SkewState`.
-ghost use Rattle.std.specs.Prelude.{◌≡◌, ◌+◌, ◌^◌, ◌<◌, length};
-ghost use Rattle.float.specs.Operators.{zero64};
-ghost use Rattle.moment.specs.Skew.{skew_empty, skew_about, skew_new, skew_inserted, skew_insert};
-ghost use Rattle.moment.specs.Skew.{skew_merged, skew_combine, skew_biased, skew_correction, skew_finalize};
-ghost use Rattle.moment.specs.Code.Parts.{valid_part};
-ghost use Rattle.moment.specs.Arrays.{skew_range};
+ghost use Rattle.std.specs.Prelude.{◌≡◌, false, refl};
+ghost use Rattle.trace.specs.Lent.{traced};
+ghost use Rattle.moment.specs.Skew.{skew_empty, skew_about, skew_new, skew_clear, skew_inserted, skew_insert};
+ghost use Rattle.moment.specs.Skew.{skew_merged, skew_merge, skew_combine, skew_biased, skew_correction, skew_finalize};
+ghost use Rattle.moment.specs.Arrays.{skew_list, answered, skew_range};
+ghost use Rattle.moment.specs.Code.Entrywise.{skew_with, skew_about_more, skew_new_is, skew_combine_is};
 
-use crate::{Figure, SkewAnswer, is_zero, sums};
+use crate::states::State;
+use crate::{Figure, is_zero, states};
+use trace::{Refusal, Trace};
 
 #[repr(C)]
-#[derive(Clone, Copy)]
+#[derive(Clone, Copy, Debug, PartialEq)]
 pub struct SkewState {
     pub weight: f64,
     pub mean: f64,
@@ -17,10 +19,11 @@ pub struct SkewState {
     pub m3: f64,
 }
 
-impl SkewState {
-    pub fn default() -> Self
-        ensures { result ≡ skew_empty }
-    {
+// By hand: a derive ensures the same member by member, and callers cite the empty state whole.
+impl Default for SkewState {
+    ghost is_default = { λ s. s ≡ skew_empty };
+
+    fn default() -> SkewState {
         SkewState {
             weight: 0.0,
             mean: 0.0,
@@ -28,102 +31,80 @@ impl SkewState {
             m3: 0.0,
         }
     }
+}
 
-    // `from_valid` after its test of the count, about a mean.
-    fn about_valid(
-        part: &[f64],
-        has_map: bool,
-        map: &[u8],
-        start: usize,
-        weight: f64,
-        mean: f64,
-    ) -> Self
-        requires { start + length part.now < 2 ^ 64 }
-        ensures { result ≡ skew_about weight mean (valid_part has_map map.now start part.now) }
-    {
-        let mut m2 = 0.0;
-        let mut m3 = 0.0;
-        let mut i = 0;
-        while i < part.len() {
-            if trace::valid(has_map, map, start + i) {
-                let d = part[i] - mean;
-                let d2 = d * d;
-                let d3 = d * d2;
-                m2 = m2 + d2;
-                m3 = m3 + d3;
-            }
-            i += 1;
-        }
+// Its members, in the order of the source's struct.
+impl From<SkewState> for [f64; 4] {
+    ghost from_gives = { λ s members. members ≡ skew_list s };
+
+    fn from(s: SkewState) -> [f64; 4] {
+        [s.weight, s.mean, s.m2, s.m3]
+    }
+}
+
+impl State for SkewState {
+    type Entry = f64;
+
+    const MERGES_EMPTY: bool = false;
+
+    ghost MERGES_EMPTY = { false };
+
+    ghost about = { skew_about };
+
+    ghost with_entry = { skew_with };
+
+    ghost new = { skew_new };
+
+    ghost weight = { λ s. s.weight };
+
+    ghost merge = { skew_merge };
+
+    ghost combine = { skew_combine };
+
+    ghost about_weight = { λ w mean. refl };
+
+    ghost about_more = { skew_about_more };
+
+    ghost new_is = { skew_new_is };
+
+    ghost combine_is = { skew_combine_is };
+
+    fn about(weight: f64, mean: f64) -> SkewState {
         SkewState {
             weight,
             mean,
-            m2,
-            m3,
-        }
-    }
-
-    // The source's `from_iter`: one state, unchunked, of the valid readings of a part that starts at place `start` of its
-    // trace.
-    fn from_valid(part: &[f64], has_map: bool, map: &[u8], start: usize) -> Self
-        requires { start + length part.now < 2 ^ 64 }
-        ensures { result ≡ skew_new (valid_part has_map map.now start part.now) }
-    {
-        let total = sums::valid_total(part, has_map, map, start);
-        let count = total.count;
-        if count == 0 {
-            return SkewState::default();
-        }
-        let weight = std::num::nearest_u64_to_f64(count as u64);
-        let mean = total.sum / weight;
-        SkewState::about_valid(part, has_map, map, start, weight, mean)
-    }
-
-    // `new` after its test of the length, about a mean. A loop of its own: beside the test of a map the compiler makes a
-    // slower one.
-    fn about(x: &[f64], weight: f64, mean: f64) -> Self
-        ensures { result ≡ skew_about weight mean x.now }
-    {
-        let mut m2 = 0.0;
-        let mut m3 = 0.0;
-        let mut i = 0;
-        while i < x.len() {
-            let d = x[i] - mean;
-            let d2 = d * d;
-            let d3 = d * d2;
-            m2 = m2 + d2;
-            m3 = m3 + d3;
-            i += 1;
-        }
-        SkewState {
-            weight,
-            mean,
-            m2,
-            m3,
-        }
-    }
-
-    pub fn new(x: &[f64]) -> Self
-        ensures { result ≡ skew_new x.now }
-    {
-        if x.len() == 0 {
-            return SkewState::default();
-        }
-        let weight = std::num::nearest_u64_to_f64(x.len() as u64);
-        let mean = sums::sum(x) / weight;
-        SkewState::about(x, weight, mean)
-    }
-
-    // The source's `clear_zero_weight_nan`, of a state whose weight is zero. The weight is tested before the other members are worked
-    // out.
-    fn zero_weight(weight: f64) -> Self
-        ensures { result ≡ record { weight = weight; mean = zero64; m2 = zero64; m3 = zero64 } }
-    {
-        SkewState {
-            weight,
-            mean: 0.0,
             m2: 0.0,
             m3: 0.0,
         }
+    }
+
+    fn with_entry(self, x: f64) -> SkewState {
+        let d = x - self.mean;
+        let d2 = d * d;
+        let d3 = d * d2;
+        SkewState {
+            m2: self.m2 + d2,
+            m3: self.m3 + d3,
+            ..self
+        }
+    }
+
+    fn weight(self) -> f64 {
+        self.weight
+    }
+
+    #[tactic(auto, unfolding(crate::specs::Skew::skew_clear))]
+    fn merge(self, other: SkewState) -> SkewState {
+        let empty = SkewState::about(self.weight + other.weight, 0.0);
+        states::cleared(empty.weight, empty, || self.merged(other))
+    }
+}
+
+impl SkewState {
+    pub fn new(x: &[f64]) -> Self
+        ensures { result ≡ skew_new x.now }
+    {
+        states::new(x)
     }
 
     // `insert_one` before its `clear_zero_weight_nan`, which changes nothing where the weight counts readings.
@@ -146,14 +127,12 @@ impl SkewState {
         }
     }
 
+    #[tactic(auto, unfolding(crate::specs::Skew::skew_clear))]
     pub fn insert_one(self, x: f64) -> Self
         ensures { result ≡ skew_insert self x }
     {
-        let new_weight = self.weight + 1.0;
-        if new_weight == 0.0 {
-            return SkewState::zero_weight(new_weight);
-        }
-        self.inserted(x)
+        let empty = SkewState::about(self.weight + 1.0, 0.0);
+        states::cleared(empty.weight, empty, || self.inserted(x))
     }
 
     // `combine` of two weights that are not zero, before its `clear_zero_weight_nan`.
@@ -184,19 +163,10 @@ impl SkewState {
     pub fn combine(self, other: SkewState) -> Self
         ensures { result ≡ skew_combine self other }
     {
-        if other.weight == 0.0 {
-            return self;
-        }
-        if self.weight == 0.0 {
-            return other;
-        }
-        let new_weight = self.weight + other.weight;
-        if new_weight == 0.0 {
-            return SkewState::zero_weight(new_weight);
-        }
-        self.merged(other)
+        states::combine(self, other)
     }
 
+    #[tactic(auto, unfolding(crate::specs::Skew::skew_biased))]
     fn biased(self) -> f64
         ensures { result ≡ skew_biased self }
     {
@@ -214,6 +184,7 @@ impl SkewState {
         root::root(n * (n - 1.0)) / (n - 2.0)
     }
 
+    #[tactic(auto, unfolding(crate::specs::Skew::skew_finalize))]
     pub fn finalize(self, bias: bool) -> Figure
         ensures { result ≡ skew_finalize self bias }
     {
@@ -230,25 +201,9 @@ impl SkewState {
         Figure::Present(SkewState::correction(self.weight) * biased_est)
     }
 
-    // One unchunked state of the valid readings of a range. The range is lent as a part that starts in the trace's middle.
-    pub fn from_array(
-        values: &[f64],
-        has_map: bool,
-        map: &[u8],
-        start: usize,
-        length: usize,
-    ) -> SkewAnswer
-        ensures { result ≡ skew_range values.now has_map map.now start length }
+    pub fn from_array(x: Trace, start: usize, length: usize) -> Result<SkewState, Refusal>
+        ensures { answered result ≡ skew_range (traced x.entry) start length }
     {
-        let number = trace::range_refusal(values.len(), has_map, map, start, length);
-        if number != 0 {
-            return SkewAnswer::Refused(number);
-        }
-        let end = start + length;
-        let part = &values[start..end];
-        if has_map {
-            return SkewAnswer::State(SkewState::from_valid(part, has_map, map, start));
-        }
-        SkewAnswer::State(SkewState::new(part))
+        states::from_array(x, start, length)
     }
 }

@@ -1,16 +1,95 @@
 // Variance: the source's `VarState`.
-ghost use Rattle.std.specs.Prelude.{◌≡◌};
-ghost use Rattle.float.specs.Operators.{zero64};
-ghost use Rattle.moment.specs.Var.{var_empty, var_new, var_inserted, var_insert, var_merged, var_combine, not_negative, var_finalize};
+ghost use Rattle.std.specs.Prelude.{◌≡◌, true, refl};
+ghost use Rattle.moment.specs.Var.{var_empty, var_about, var_new, var_clear, var_inserted, var_insert, var_merged, var_merge, var_combine};
+ghost use Rattle.moment.specs.Var.{not_negative, var_finalize};
+ghost use Rattle.moment.specs.Arrays.{var_list};
+ghost use Rattle.moment.specs.Code.Entrywise.{var_with, var_about_more, var_new_is, var_combine_is};
 
-use crate::{Figure, sums};
+use crate::states::State;
+use crate::{Figure, states};
 
 #[repr(C)]
-#[derive(Clone, Copy)]
+#[derive(Clone, Copy, Debug, PartialEq)]
 pub struct VarState {
     pub weight: f64,
     pub mean: f64,
     pub dp: f64,
+}
+
+// By hand: a derive ensures the same member by member, and callers cite the empty state whole.
+impl Default for VarState {
+    ghost is_default = { λ s. s ≡ var_empty };
+
+    fn default() -> VarState {
+        VarState {
+            weight: 0.0,
+            mean: 0.0,
+            dp: 0.0,
+        }
+    }
+}
+
+// Its members, in the order of the source's struct.
+impl From<VarState> for [f64; 3] {
+    ghost from_gives = { λ s members. members ≡ var_list s };
+
+    fn from(s: VarState) -> [f64; 3] {
+        [s.weight, s.mean, s.dp]
+    }
+}
+
+impl State for VarState {
+    type Entry = f64;
+
+    const MERGES_EMPTY: bool = true;
+
+    ghost MERGES_EMPTY = { true };
+
+    ghost about = { var_about };
+
+    ghost with_entry = { var_with };
+
+    ghost new = { var_new };
+
+    ghost weight = { λ s. s.weight };
+
+    ghost merge = { var_merge };
+
+    ghost combine = { var_combine };
+
+    ghost about_weight = { λ w mean. refl };
+
+    ghost about_more = { var_about_more };
+
+    ghost new_is = { var_new_is };
+
+    ghost combine_is = { var_combine_is };
+
+    fn about(weight: f64, mean: f64) -> VarState {
+        VarState {
+            weight,
+            mean,
+            dp: 0.0,
+        }
+    }
+
+    fn with_entry(self, x: f64) -> VarState {
+        let d = x - self.mean;
+        VarState {
+            dp: self.dp + d * d,
+            ..self
+        }
+    }
+
+    fn weight(self) -> f64 {
+        self.weight
+    }
+
+    #[tactic(auto, unfolding(crate::specs::Var::var_clear))]
+    fn merge(self, other: VarState) -> VarState {
+        let empty = VarState::about(self.weight + other.weight, 0.0);
+        states::cleared(empty.weight, empty, || self.merged(other))
+    }
 }
 
 // A quotient below zero comes of rounding alone; a NaN stays.
@@ -21,38 +100,10 @@ fn not_negative(v: f64) -> f64
 }
 
 impl VarState {
-    pub fn default() -> Self
-        ensures { result ≡ var_empty }
-    {
-        VarState {
-            weight: 0.0,
-            mean: 0.0,
-            dp: 0.0,
-        }
-    }
-
     pub fn new(x: &[f64]) -> Self
         ensures { result ≡ var_new x.now }
     {
-        if x.len() == 0 {
-            return VarState::default();
-        }
-        let weight = std::num::nearest_u64_to_f64(x.len() as u64);
-        let mean = sums::sum(x) / weight;
-        let dp = sums::squares(x, mean);
-        VarState { weight, mean, dp }
-    }
-
-    // The source's `clear_zero_weight_nan`, of a state whose weight is zero. The weight is tested before the other members are worked
-    // out: after them the compiler picks each member without a branch, which is slow.
-    fn zero_weight(weight: f64) -> Self
-        ensures { result ≡ record { weight = weight; mean = zero64; dp = zero64 } }
-    {
-        VarState {
-            weight,
-            mean: 0.0,
-            dp: 0.0,
-        }
+        states::new(x)
     }
 
     // `insert_one` before its `clear_zero_weight_nan`, which changes nothing where the weight counts readings.
@@ -69,14 +120,12 @@ impl VarState {
         }
     }
 
+    #[tactic(auto, unfolding(crate::specs::Var::var_clear))]
     pub fn insert_one(self, x: f64) -> Self
         ensures { result ≡ var_insert self x }
     {
-        let new_weight = self.weight + 1.0;
-        if new_weight == 0.0 {
-            return VarState::zero_weight(new_weight);
-        }
-        self.inserted(x)
+        let empty = VarState::about(self.weight + 1.0, 0.0);
+        states::cleared(empty.weight, empty, || self.inserted(x))
     }
 
     // `combine` with another weight that is not zero, before its `clear_zero_weight_nan`.
@@ -97,16 +146,10 @@ impl VarState {
     pub fn combine(self, other: VarState) -> Self
         ensures { result ≡ var_combine self other }
     {
-        if other.weight == 0.0 {
-            return self;
-        }
-        let new_weight = self.weight + other.weight;
-        if new_weight == 0.0 {
-            return VarState::zero_weight(new_weight);
-        }
-        self.merged(other)
+        states::combine(self, other)
     }
 
+    #[tactic(auto, unfolding(crate::specs::Var::var_finalize))]
     pub fn finalize(self, ddof: u8) -> Figure
         ensures { result ≡ var_finalize self ddof }
     {

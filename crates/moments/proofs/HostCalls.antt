@@ -1,153 +1,83 @@
 -- A host call is the plan call on what is decoded: its own check has the plan call's number but for the list of readings, and what is
 -- decoded is the trace. Assumes nothing.
-use Prim.Native.Nat.{ℕ, ◌/◌, ◌%◌, ◌≤◌, min}
-use mathlib.Core.Path.{◌≡◌, sym, ap, ◌∙◌, subst}
-use mathlib.Core.Bool.{Bool, true, false, not, ◌||◌}
-use mathlib.Core.List.{List, ◌++◌}
-use native.Mathlib.Omega.{arith}
-use borrow.Author.Tests.{eq-eqb, ne_eqb, ltb-false}
-use lib.Dec.{eqb, ltb}
-use lib.ListN.{length, take, drop}
+use Rattle.std.proofs.Common.{◌≡◌, ℕ, ◌/◌, ◌≤◌, min, Bool, List, ◌++◌, length, take, drop, sym, ap, ◌∙◌, subst, arith}
+use Rattle.std.specs.Prelude.{Result, Ok, Err, IsErrAnd, IfOk, Option}
+use Rattle.std.specs.Borrow.{Bor}
 use lib.Seq.{take_at}
 use lib.Ieee.{Float}
 use Rattle.float.specs.Tables.{table}
 use Rattle.float.specs.Bytes.{reading_at, decoded_into}
 use Rattle.float.proofs.Tables.{table-length}
-use Rattle.trace.specs.Refusals.{refusal, ◌or_else◌, array_refusal, trace_refusal, pair_refusal}
-use Rattle.trace.proofs.Accepted.{pair_fits}
+use Rattle.trace.specs.Lent.{mapped, bytes_of, MapAs}
+use Rattle.trace.specs.Outcomes.{number_of}
+use Rattle.trace.specs.Refusals.{refusal, array_refusal, trace_refusal, pair_refusal}
+use Rattle.trace.specs.declared.refusals.Refusal.{Refusal}
+use Rattle.trace.proofs.Checks.{number_above, stops, goes_on, handed_on}
+use Rattle.trace.proofs.Lent.{map_wrong}
 use Rattle.plan.specs.Plan.{Plan}
-use Rattle.plan.specs.Refusals.{plan_refusal}
-use Rattle.plan.specs.Code.Accepted.{Checks}
-use Rattle.plan.proofs.Plans.{neither}
-use Rattle.window.specs.Given.{Kind, Readings, Pairs, places_of, given_refusal}
+use Rattle.plan.specs.Code.Accepted.{ChecksPlan}
+use Rattle.window.specs.Given.{Kind, Pairs, places_of, given_refusal}
 use Rattle.window.specs.Outputs.{Lent, filled}
 use Rattle.rolling.specs.Calls.{Query, GivenTo, Called}
 use Rattle.moments.specs.HostCall.{ByteTrace, reading_count, decoded, BytePair, Host, decoded_of, odd_bytes}
+use Rattle.moments.specs.Code.Checks.{ByPlan, ChecksHost}
 
--- 14 before all
-odd_number : (odd : Bool) (b : ℕ) → odd ≡ true → 14 ≡ refusal 14 odd or_else b
-unfolding refusal ◌or_else◌
-odd_number odd b h = rw h
+if_ok_of : {A : Type 0} (r : Result A Refusal) (e : Refusal) (P : A → Type 0) → IsErrAnd r (λ x. x ≡ e) → IfOk r P
+if_ok_of {A = A} (Ok _) e P h = elim h [ ]
+if_ok_of (Err _) e P h = tt
 
-whole_number_lem : (odd : Bool) (b : ℕ) → odd ≡ false → b ≡ refusal 14 odd or_else b
-unfolding refusal ◌or_else◌
-whole_number_lem odd b h = rw h
+-- no refusal has the number of an accepted call
+pub not_accepted : (e : Refusal) → number_of e ≡ 0 → ⊥
+not_accepted e z = let above = number_above e in omega (arith, above, z)
 
-pub odd_bytes_lem : (rest b : ℕ) → (rest ≡ 0 → ⊥) → 14 ≡ refusal 14 (not (eqb rest 0)) or_else b
-odd_bytes_lem rest b h = odd_number _ b (rw (ne_eqb rest 0 h))
+-- ---- the check, of any kind of entry
+module _ (kind : Kind) (h : Host kind) (p : Plan) (short : Bool) (outputs width work : ℕ) (Room : ℕ → Type 0) where
+  -- 14 before all
+  pub stops_odd : (r : Result ℕ Refusal) (e : Refusal) → IsErrAnd r (λ x. x ≡ e) → number_of e ≡ refusal 14 (odd_bytes kind h)
+      → ChecksHost kind h p short outputs width work Room r
+  stops_odd r e i n = record { number_is = stops r e _ _ i n; accepted = if_ok_of r e _ i }
 
--- of two traces the first, or the second
-pub odd_first : (t : BytePair) (b : ℕ) → (length t.x.bytes % 8 ≡ 0 → ⊥) → 14 ≡ refusal 14 (odd_bytes Pairs t) or_else b
-odd_first t b h = odd_number _ b (rw (ne_eqb (length t.x.bytes % 8) 0 h))
+  module _ {given n : ℕ} (whole : 0 ≡ refusal 14 (odd_bytes kind h)) (given_is : given ≡ given_refusal kind (decoded_of kind h))
+      (n_is : n ≡ places_of kind (decoded_of kind h)) where
+    pub stops_plan : {e : Refusal} → ChecksPlan given p n short outputs width work (Err e) → (r : Result ℕ Refusal) → IsErrAnd r (λ x. x ≡ e)
+        → ChecksHost kind h p short outputs width work Room r
+    stops_plan {e} k r i =
+        let number_is = rw (given_is, n_is) at k.number_is in
+        record { number_is = goes_on _ _ _ whole (handed_on r e i ∙ number_is); accepted = if_ok_of r e _ i }
 
-pub odd_second : (t : BytePair) (b : ℕ) → length t.x.bytes % 8 ≡ 0 → (length t.y.bytes % 8 ≡ 0 → ⊥)
-    → 14 ≡ refusal 14 (odd_bytes Pairs t) or_else b
-odd_second t b z h = odd_number _ b (rw (eq-eqb (length t.x.bytes % 8) 0 z, ne_eqb (length t.y.bytes % 8) 0 h))
-
--- ---- a host call of any kind of entry
--- the number of a plan call on what is decoded
-abbrev By : (kind : Kind) → Host kind → Plan → ℕ → ℕ → ℕ → Bool → ℕ
-By kind h p outputs width work short =
-    plan_refusal (given_refusal kind (decoded_of kind h)) p (places_of kind (decoded_of kind h)) short outputs width work
-
-module _ (kind : Kind) (h : Host kind) (p : Plan) {short : Bool} {n outputs outputs' width work number wide given : ℕ}
-    (whole : odd_bytes kind h ≡ false) (places-are : n ≡ places_of kind (decoded_of kind h))
-    (given_is : given ≡ given_refusal kind (decoded_of kind h)) (outputs-is : outputs ≡ outputs')
-    (checks : Checks given p n short outputs width work number wide) where
-  told : number ≡ By kind h p outputs' width work short
-  told = checks.number_is ∙ rw (given_is, outputs-is, places-are)
-
-  number_by : number ≡ refusal 14 (odd_bytes kind h) or_else By kind h p outputs' width work short
-  number_by = told ∙ whole_number_lem (odd_bytes kind h) (By kind h p outputs' width work short) whole
-
-  module _ (z : number ≡ 0) where
-    fits : short ≡ false
-    fits = (checks.accepted z).readings_fit
-
-    -- the plan call answers the same
-    accepted-by : {second : ℕ} → second ≡ By kind h p outputs' width work false → second ≡ 0
-    accepted-by e = e ∙ ap (By kind h p outputs' width work) (sym fits) ∙ sym told ∙ z
-
-    again_by : {second : ℕ} → second ≡ By kind h p outputs' width work false
-        → second ≡ refusal 14 (odd_bytes kind h) or_else By kind h p outputs' width work short
-    again_by e =
-        e ∙ ap (By kind h p outputs' width work) (sym fits)
-        ∙ whole_number_lem (odd_bytes kind h) (By kind h p outputs' width work short) whole
+    pub passes : {wide : ℕ} → ChecksPlan given p n short outputs width work (Ok wide) → (m : ℕ) → Room m
+        → ChecksHost kind h p short outputs width work Room (Ok m)
+    passes k m room =
+        let number_is = rw (given_is, n_is) at k.number_is in
+        record {
+          number_is = goes_on _ _ _ whole number_is;
+          accepted = (room, ap (ByPlan kind h p outputs width work) (sym k.accepted.readings_fit) ∙ sym number_is);
+        }
 
 -- as many readings as are decoded
-decoded_many : (t : ByteTrace) → reading_count t ≡ length (decoded t).readings
+pub decoded_many : (t : ByteTrace) → reading_count t ≡ length (decoded t).readings
 decoded_many t = sym (table-length (reading_at t.bytes) (reading_count t))
 
--- ---- of one trace
-module _ (t : ByteTrace) (p : Plan) (room : ℕ) {outputs outputs' width work number wide given : ℕ} (whole : length t.bytes % 8 ≡ 0)
-    (given_is : given ≡ array_refusal (reading_count t) t.mapped t.map) (outputs-is : outputs ≡ outputs')
-    (checks : Checks given p (reading_count t) (ltb room (reading_count t)) outputs width work number wide) where
-  abbrev n : ℕ
-  n = reading_count t
+-- the number of a trace, and of two, by the maps that the flags tell
+pub trace_given : (t : ByteTrace) (m : Option (Bor (List ℕ))) → MapAs t.mapped t.map m
+    → array_refusal (reading_count t) (mapped m) (bytes_of m) ≡ trace_refusal (decoded t)
+trace_given t m a = rw (map_wrong (reading_count t) t.mapped t.map m a, ← decoded_many t)
 
-  not-odd : odd_bytes Readings t ≡ false
-  not-odd = rw (eq-eqb (length t.bytes % 8) 0 whole)
-
-  trace-given : given ≡ trace_refusal (decoded t)
-  trace-given = given_is ∙ rw (← decoded_many t)
-
-  pub host_number_lem : number ≡ refusal 14 (odd_bytes Readings t) or_else By Readings t p outputs' width work (ltb room n)
-  host_number_lem = number_by Readings t p not-odd (decoded_many t) trace-given outputs-is checks
-
-  module _ (z : number ≡ 0) where
-    pub host-room : n ≤ room
-    host-room = ltb-false room n (checks.accepted z).readings_fit
-
-    pub host_accepted : {second : ℕ} → second ≡ By Readings t p outputs' width work false → second ≡ 0
-    host_accepted e = accepted-by Readings t p not-odd (decoded_many t) trace-given outputs-is checks z e
-
-    pub host-again : {second : ℕ} → second ≡ By Readings t p outputs' width work false
-        → second ≡ refusal 14 (odd_bytes Readings t) or_else By Readings t p outputs' width work (ltb room n)
-    host-again e = again_by Readings t p not-odd (decoded_many t) trace-given outputs-is checks z e
-
--- ---- of two
-module _ (t : BytePair) (p : Plan) (room room' : ℕ) {short : Bool} {outputs outputs' width work number wide given : ℕ}
-    (whole : length t.x.bytes % 8 ≡ 0) (whole' : length t.y.bytes % 8 ≡ 0)
-    (given_is : given ≡ pair_refusal (reading_count t.x) t.x.mapped t.x.map (reading_count t.y) t.y.mapped t.y.map)
-    (short-is : short ≡ (ltb room (reading_count t.x) || ltb room' (reading_count t.y))) (outputs-is : outputs ≡ outputs')
-    (checks : Checks given p (reading_count t.x) short outputs width work number wide) where
-  abbrev Short : Bool
-  Short = ltb room (reading_count t.x) || ltb room' (reading_count t.y)
-
-  none-odd : odd_bytes Pairs t ≡ false
-  none-odd = rw (eq-eqb (length t.x.bytes % 8) 0 whole, eq-eqb (length t.y.bytes % 8) 0 whole')
-
-  pair-given : given ≡ given_refusal Pairs (decoded_of Pairs t)
-  pair-given = given_is ∙ rw (← decoded_many t.x, ← decoded_many t.y)
-
-  short-checks : Checks given p (reading_count t.x) Short outputs width work number wide
-  short-checks = subst (λ (b : Bool). Checks given p (reading_count t.x) b outputs width work number wide) short-is checks
-
-  pub pair-number : number ≡ refusal 14 (odd_bytes Pairs t) or_else By Pairs t p outputs' width work Short
-  pair-number = number_by Pairs t p none-odd (decoded_many t.x) pair-given outputs-is short-checks
-
-  module _ (z : number ≡ 0) where
-    -- the lists have room, and the traces one length
-    pub pair-rooms : (reading_count t.x ≤ room) × (reading_count t.y ≤ room') × (reading_count t.x ≡ reading_count t.y)
-    pair-rooms =
-        let f = neither _ _ (short-checks.accepted z).readings_fit in
-        (ltb-false room _ f.0, ltb-false room' _ f.1, pair_fits _ _ _ _ _ _ _ given_is (checks.accepted z).given_is)
-
-    pub pair_accepted : {second : ℕ} → second ≡ By Pairs t p outputs' width work false → second ≡ 0
-    pair_accepted e = accepted-by Pairs t p none-odd (decoded_many t.x) pair-given outputs-is short-checks z e
-
-    pub pair-again : {second : ℕ} → second ≡ By Pairs t p outputs' width work false
-        → second ≡ refusal 14 (odd_bytes Pairs t) or_else By Pairs t p outputs' width work Short
-    pair-again e = again_by Pairs t p none-odd (decoded_many t.x) pair-given outputs-is short-checks z e
+pub pair_given : (t : BytePair) (m m' : Option (Bor (List ℕ))) → MapAs t.x.mapped t.x.map m → MapAs t.y.mapped t.y.map m'
+    → pair_refusal (reading_count t.x) (mapped m) (bytes_of m) (reading_count t.y) (mapped m') (bytes_of m')
+    ≡ given_refusal Pairs (decoded_of Pairs t)
+pair_given t m m' a b =
+    rw (map_wrong (reading_count t.x) t.x.mapped t.x.map m a, map_wrong (reading_count t.y) t.y.mapped t.y.map m' b, ← decoded_many t.x, ← decoded_many t.y)
 
 -- what is decoded into a list with room for all
 pub decoded_all : (bytes : List ℕ) (l l' : List Float) (n : ℕ) → n ≡ length bytes / 8 → n ≤ length l → l' ≡ decoded_into bytes l →
-    (l' ≡ filled 0 (reading_at bytes) n l) × (take n l' ≡ table (reading_at bytes) n)
+    (l' ≡ filled 0 (reading_at bytes) (length bytes / 8) l) × (take n l' ≡ table (reading_at bytes) (length bytes / 8))
 unfolding decoded_into filled
 decoded_all bytes l l' n e h d =
-    let m : min (length bytes / 8) (length l) ≡ n = omega arith in
-    let f : l' ≡ table (reading_at bytes) n ++ drop n l = d ∙ rw m in
-    (f, ap (take n) f ∙ take_at (table (reading_at bytes) n) (drop n l) n (table-length (reading_at bytes) n))
+    let all = length bytes / 8 in
+    let m : min all (length l) ≡ all = omega arith in
+    let f : l' ≡ table (reading_at bytes) all ++ drop all l = d ∙ rw m in
+    (f, rw e (ap (take all) f ∙ take_at (table (reading_at bytes) all) (drop all l) all (table-length (reading_at bytes) all)))
 
 pub filled_by : {number : ℕ} (f : ℕ → Float) (n : ℕ) (l l' : List Float) → number ≡ 0 → l' ≡ filled 0 f n l → l' ≡ filled number f n l
 filled_by f n l l' z e = e ∙ ap (λ (k : ℕ). filled k f n l) (sym z)

@@ -1,34 +1,85 @@
 // The library's face to other languages: each entry of docs/ABI.md, with the whole contract of what stands behind it; the crate
 // `moments_c` gives them their names for C. Nothing is required of a caller. A figure that is NaN has the bits 7FF8000000000000; a
 // member of a state may be any NaN.
+//
+// Each entry is a function of its own and its parameters are C's, by docs/ABI.md: a flag beside a map, two lists for a figure, a number
+// for a refusal.
 #![tactic(auto)]
 
-ghost use Rattle.std.specs.Prelude.{◌≡◌};
+ghost use Rattle.std.specs.Prelude.{◌≡◌, List, Float};
 ghost use Rattle.root.specs.Root.{root as root_of};
 ghost use Rattle.moment.specs.Var.{var_insert, var_combine, var_finalize};
 ghost use Rattle.moment.specs.Cov.{cov_insert, cov_combine, cov_finalize};
 ghost use Rattle.moment.specs.Pearson.{pearson_insert, pearson_combine, pearson_finalize};
 ghost use Rattle.moment.specs.Skew.{skew_insert, skew_combine, skew_finalize};
 ghost use Rattle.moment.specs.Kurtosis.{kurtosis_insert, kurtosis_combine, kurtosis_finalize};
-ghost use Rattle.moment.specs.Arrays.{var_answer, var_number, var_members};
-ghost use Rattle.moment.specs.Arrays.{cov_answer, cov_number, cov_members};
-ghost use Rattle.moment.specs.Arrays.{pearson_answer, pearson_number, pearson_members};
-ghost use Rattle.moment.specs.Arrays.{skew_answer, skew_range, skew_number, skew_members};
-ghost use Rattle.moment.specs.Arrays.{kurtosis_answer, kurtosis_range, kurtosis_number, kurtosis_members};
+ghost use Rattle.moment.specs.Arrays.{answered, var_answer, cov_answer, pearson_answer, skew_answer, kurtosis_answer};
+ghost use Rattle.moment.specs.Arrays.{skew_range, kurtosis_range};
+ghost use Rattle.moment.specs.Arrays.{var_list, cov_list, pearson_list, skew_list, kurtosis_list};
 ghost use Rattle.trace.specs.Trace.{tracing};
 ghost use Rattle.window.specs.Pairs.{pairing};
 ghost use Rattle.rolling.specs.Moments.{Variance, Skewness, Kurtosis, Covariance, Correlation};
 ghost use Rattle.rolling.specs.Calls.{querying, lending, lending_three};
 ghost use Rattle.rolling.specs.Fixed.{CallsFixed};
 ghost use Rattle.weighted.specs.Weights.{CallsWeights, lending_column};
+ghost use Rattle.plan.specs.Plan.{planned};
+ghost use Rattle.moments.specs.Code.Checks.{ChecksBytes, ChecksBytePair};
 ghost use Rattle.moments.specs.HostCall.{hosting, decoding, hosting_pair, decoding_pair, CallsBytes};
 ghost use Rattle.moments.specs.Results.{StateResult, FigureResult};
 
-use moment::{
-    CovAnswer, CovState, Figure, KurtosisAnswer, KurtosisState, PearsonAnswer, PearsonState,
-    SkewAnswer, SkewState, VarAnswer, VarState,
-};
+use moment::{CovState, Figure, KurtosisState, PearsonState, SkewState, VarState};
+use plan::Plan;
 use rolling::{CovMoment, KurtosisMoment, PearsonMoment, SkewMoment, VarianceMoment};
+use trace::{Pair, Refusal, Trace, lent_map, number};
+
+// What refuses a host call before anything is decoded; else how many readings its trace has.
+fn check_bytes(
+    bytes: &[u8],
+    readings: usize,
+    has_map: bool,
+    map: &[u8],
+    plan: Plan,
+    outputs: usize,
+    place: usize,
+    work: usize,
+) -> Result<usize, Refusal>
+    ensures { ChecksBytes (hosting bytes has_map map) (planned plan.entry) readings outputs place work result }
+{
+    Refusal::BytesNotWhole.when(bytes.len() % 8 != 0)?;
+    let n = bytes.len() / 8;
+    let given = trace::check_array(n, lent_map(has_map, map));
+    plan::check_plan(given, plan, n, readings < n, outputs, place, work)?;
+    Ok(n)
+}
+
+// The same of two traces, which have one length where none is refused.
+fn check_byte_pair(
+    x: &[u8],
+    x_readings: usize,
+    x_has_map: bool,
+    x_map: &[u8],
+    y: &[u8],
+    y_readings: usize,
+    y_has_map: bool,
+    y_map: &[u8],
+    plan: Plan,
+    outputs: usize,
+    place: usize,
+    work: usize,
+) -> Result<usize, Refusal>
+    ensures { ChecksBytePair (hosting_pair x x_has_map x_map y y_has_map y_map) (planned plan.entry) x_readings y_readings
+        outputs place work result }
+{
+    Refusal::BytesNotWhole.when((x.len() % 8 != 0) | (y.len() % 8 != 0))?;
+    let x_len = x.len() / 8;
+    let y_len = y.len() / 8;
+    let x_map = lent_map(x_has_map, x_map);
+    let y_map = lent_map(y_has_map, y_map);
+    let given = trace::check_pair(x_len, x_map, y_len, y_map);
+    let short = (x_readings < x_len) | (y_readings < y_len);
+    plan::check_plan(given, plan, x_len, short, outputs, place, work)?;
+    Ok(x_len)
+}
 
 // Plans: the trace as little-endian bytes, decoded into `readings`; 0, or the number of the first refusal and every list as it
 // was. Nothing is decoded before every number is known, and the plan call then checks once more: one pass without branches.
@@ -50,40 +101,36 @@ pub fn moments_plan_var(
     highest_present: &mut [u8],
 ) -> u32
     ensures { CallsBytes (querying starts ends min_periods (Variance ddof)) (hosting trace has_map map)
-        (decoding readings)
-        (lending_three work figures present lowest lowest_present highest highest_present) result }
+        (decoding readings) (lending_three work figures present lowest lowest_present highest highest_present) result }
 {
-    if trace.len() % 8 != 0 {
-        return 14;
-    }
-    let n = trace.len() / 8;
-    let checked = plan::plan_refusal(
-        trace::array_refusal(n, has_map, map),
-        starts,
-        ends,
-        n,
-        readings.len() < n,
-        VarianceMoment::shortest(
-            figures.len(),
-            present.len(),
-            lowest.len(),
-            lowest_present.len(),
-            highest.len(),
-            highest_present.len(),
-        ),
-        VarianceMoment::PLACE,
-        work.len(),
+    let plan = Plan { starts, ends };
+    let outputs = VarianceMoment::shortest(
+        figures.len(),
+        present.len(),
+        lowest.len(),
+        lowest_present.len(),
+        highest.len(),
+        highest_present.len(),
     );
-    if checked.number != 0 {
-        return checked.number;
-    }
-    float::decode(trace, readings);
-    rolling::plan_var(
-        &readings[..n],
+    let place = VarianceMoment::PLACE;
+    let n = match check_bytes(
+        trace,
+        readings.len(),
         has_map,
         map,
-        starts,
-        ends,
+        plan,
+        outputs,
+        place,
+        work.len(),
+    ) {
+        Ok(n) => n,
+        Err(refusal) => return u32::from(refusal),
+    };
+    float::decode(trace, readings);
+    let x = Trace::lent(&readings[..n], has_map, map);
+    number(rolling::plan_var(
+        x,
+        plan,
         min_periods,
         ddof,
         work,
@@ -93,7 +140,7 @@ pub fn moments_plan_var(
         lowest_present,
         highest,
         highest_present,
-    )
+    ))
 }
 
 pub fn moments_plan_skew(
@@ -112,36 +159,25 @@ pub fn moments_plan_skew(
     ensures { CallsBytes (querying starts ends min_periods (Skewness bias)) (hosting trace has_map map)
         (decoding readings) (lending work figures present) result }
 {
-    if trace.len() % 8 != 0 {
-        return 14;
-    }
-    let n = trace.len() / 8;
-    let checked = plan::plan_refusal(
-        trace::array_refusal(n, has_map, map),
-        starts,
-        ends,
-        n,
-        readings.len() < n,
-        plan::shorter(figures.len(), present.len()),
-        SkewMoment::PLACE,
-        work.len(),
-    );
-    if checked.number != 0 {
-        return checked.number;
-    }
-    float::decode(trace, readings);
-    rolling::plan_skew(
-        &readings[..n],
+    let plan = Plan { starts, ends };
+    let outputs = figures.len().min(present.len());
+    let place = SkewMoment::PLACE;
+    let n = match check_bytes(
+        trace,
+        readings.len(),
         has_map,
         map,
-        starts,
-        ends,
-        min_periods,
-        bias,
-        work,
-        figures,
-        present,
-    )
+        plan,
+        outputs,
+        place,
+        work.len(),
+    ) {
+        Ok(n) => n,
+        Err(refusal) => return u32::from(refusal),
+    };
+    float::decode(trace, readings);
+    let x = Trace::lent(&readings[..n], has_map, map);
+    number(rolling::plan_skew(x, plan, min_periods, bias, work, figures, present))
 }
 
 pub fn moments_plan_kurtosis(
@@ -161,40 +197,27 @@ pub fn moments_plan_kurtosis(
     ensures { CallsBytes (querying starts ends min_periods (Kurtosis fisher bias)) (hosting trace has_map map)
         (decoding readings) (lending work figures present) result }
 {
-    if trace.len() % 8 != 0 {
-        return 14;
-    }
-    let n = trace.len() / 8;
-    let checked = plan::plan_refusal(
-        trace::array_refusal(n, has_map, map),
-        starts,
-        ends,
-        n,
-        readings.len() < n,
-        plan::shorter(figures.len(), present.len()),
-        KurtosisMoment::PLACE,
-        work.len(),
-    );
-    if checked.number != 0 {
-        return checked.number;
-    }
-    float::decode(trace, readings);
-    rolling::plan_kurtosis(
-        &readings[..n],
+    let plan = Plan { starts, ends };
+    let outputs = figures.len().min(present.len());
+    let place = KurtosisMoment::PLACE;
+    let n = match check_bytes(
+        trace,
+        readings.len(),
         has_map,
         map,
-        starts,
-        ends,
-        min_periods,
-        fisher,
-        bias,
-        work,
-        figures,
-        present,
-    )
+        plan,
+        outputs,
+        place,
+        work.len(),
+    ) {
+        Ok(n) => n,
+        Err(refusal) => return u32::from(refusal),
+    };
+    float::decode(trace, readings);
+    let x = Trace::lent(&readings[..n], has_map, map);
+    number(rolling::plan_kurtosis(x, plan, min_periods, fisher, bias, work, figures, present))
 }
 
-// Two traces as bytes, each decoded into its own list; the numbers go by their order, not trace by trace.
 pub fn moments_plan_cov(
     x: &[u8],
     x_readings: &mut [f64],
@@ -213,47 +236,35 @@ pub fn moments_plan_cov(
     present: &mut [u8],
 ) -> u32
     ensures { CallsBytes (querying starts ends min_periods (Covariance ddof))
-        (hosting_pair x x_has_map x_map y y_has_map y_map) (decoding_pair x_readings y_readings)
-        (lending work figures present) result }
+        (hosting_pair x x_has_map x_map y y_has_map y_map) (decoding_pair x_readings y_readings) (lending work figures present) result }
 {
-    if x.len() % 8 != 0 {
-        return 14;
-    }
-    if y.len() % 8 != 0 {
-        return 14;
-    }
-    let n = x.len() / 8;
-    let m = y.len() / 8;
-    let checked = plan::plan_refusal(
-        trace::pair_refusal(n, x_has_map, x_map, m, y_has_map, y_map),
-        starts,
-        ends,
-        n,
-        trace::either(x_readings.len() < n, y_readings.len() < m),
-        plan::shorter(figures.len(), present.len()),
-        CovMoment::PLACE,
-        work.len(),
-    );
-    if checked.number != 0 {
-        return checked.number;
-    }
-    float::decode(x, x_readings);
-    float::decode(y, y_readings);
-    rolling::plan_cov(
-        &x_readings[..n],
+    let plan = Plan { starts, ends };
+    let outputs = figures.len().min(present.len());
+    let place = CovMoment::PLACE;
+    let n = match check_byte_pair(
+        x,
+        x_readings.len(),
         x_has_map,
         x_map,
-        &y_readings[..m],
+        y,
+        y_readings.len(),
         y_has_map,
         y_map,
-        starts,
-        ends,
-        min_periods,
-        ddof,
-        work,
-        figures,
-        present,
-    )
+        plan,
+        outputs,
+        place,
+        work.len(),
+    ) {
+        Ok(n) => n,
+        Err(refusal) => return u32::from(refusal),
+    };
+    float::decode(x, x_readings);
+    float::decode(y, y_readings);
+    let pair = Pair {
+        x: Trace::lent(&x_readings[..n], x_has_map, x_map),
+        y: Trace::lent(&y_readings[..n], y_has_map, y_map),
+    };
+    number(rolling::plan_cov(pair, plan, min_periods, ddof, work, figures, present))
 }
 
 pub fn moments_plan_pearson_corr(
@@ -273,49 +284,38 @@ pub fn moments_plan_pearson_corr(
     present: &mut [u8],
 ) -> u32
     ensures { CallsBytes (querying starts ends min_periods Correlation)
-        (hosting_pair x x_has_map x_map y y_has_map y_map) (decoding_pair x_readings y_readings)
-        (lending work figures present) result }
+        (hosting_pair x x_has_map x_map y y_has_map y_map) (decoding_pair x_readings y_readings) (lending work figures present) result }
 {
-    if x.len() % 8 != 0 {
-        return 14;
-    }
-    if y.len() % 8 != 0 {
-        return 14;
-    }
-    let n = x.len() / 8;
-    let m = y.len() / 8;
-    let checked = plan::plan_refusal(
-        trace::pair_refusal(n, x_has_map, x_map, m, y_has_map, y_map),
-        starts,
-        ends,
-        n,
-        trace::either(x_readings.len() < n, y_readings.len() < m),
-        plan::shorter(figures.len(), present.len()),
-        PearsonMoment::PLACE,
-        work.len(),
-    );
-    if checked.number != 0 {
-        return checked.number;
-    }
-    float::decode(x, x_readings);
-    float::decode(y, y_readings);
-    rolling::plan_pearson_corr(
-        &x_readings[..n],
+    let plan = Plan { starts, ends };
+    let outputs = figures.len().min(present.len());
+    let place = PearsonMoment::PLACE;
+    let n = match check_byte_pair(
+        x,
+        x_readings.len(),
         x_has_map,
         x_map,
-        &y_readings[..m],
+        y,
+        y_readings.len(),
         y_has_map,
         y_map,
-        starts,
-        ends,
-        min_periods,
-        work,
-        figures,
-        present,
-    )
+        plan,
+        outputs,
+        place,
+        work.len(),
+    ) {
+        Ok(n) => n,
+        Err(refusal) => return u32::from(refusal),
+    };
+    float::decode(x, x_readings);
+    float::decode(y, y_readings);
+    let pair = Pair {
+        x: Trace::lent(&x_readings[..n], x_has_map, x_map),
+        y: Trace::lent(&y_readings[..n], y_has_map, y_map),
+    };
+    number(rolling::plan_pearson_corr(pair, plan, min_periods, work, figures, present))
 }
 
-// Fixed windows and weights: the trace as doubles; 0, or the number of the first refusal and every list as it was.
+// Fixed windows, the trace as doubles.
 pub fn moments_rolling_var(
     trace: &[f64],
     has_map: bool,
@@ -335,10 +335,9 @@ pub fn moments_rolling_var(
     ensures { CallsFixed center window_size min_periods (Variance ddof) (tracing trace has_map map)
         (lending_three work figures present lowest lowest_present highest highest_present) result }
 {
-    rolling::rolling_var(
-        trace,
-        has_map,
-        map,
+    let x = Trace::lent(trace, has_map, map);
+    number(rolling::rolling_var(
+        x,
         window_size,
         min_periods,
         center,
@@ -350,7 +349,7 @@ pub fn moments_rolling_var(
         lowest_present,
         highest,
         highest_present,
-    )
+    ))
 }
 
 pub fn moments_rolling_skew(
@@ -368,10 +367,9 @@ pub fn moments_rolling_skew(
     ensures { CallsFixed center window_size min_periods (Skewness bias) (tracing trace has_map map)
         (lending work figures present) result }
 {
-    rolling::rolling_skew(
-        trace,
-        has_map,
-        map,
+    let x = Trace::lent(trace, has_map, map);
+    number(rolling::rolling_skew(
+        x,
         window_size,
         min_periods,
         center,
@@ -379,7 +377,7 @@ pub fn moments_rolling_skew(
         work,
         figures,
         present,
-    )
+    ))
 }
 
 pub fn moments_rolling_kurtosis(
@@ -398,10 +396,9 @@ pub fn moments_rolling_kurtosis(
     ensures { CallsFixed center window_size min_periods (Kurtosis fisher bias) (tracing trace has_map map)
         (lending work figures present) result }
 {
-    rolling::rolling_kurtosis(
-        trace,
-        has_map,
-        map,
+    let x = Trace::lent(trace, has_map, map);
+    number(rolling::rolling_kurtosis(
+        x,
         window_size,
         min_periods,
         center,
@@ -410,7 +407,7 @@ pub fn moments_rolling_kurtosis(
         work,
         figures,
         present,
-    )
+    ))
 }
 
 pub fn moments_rolling_cov(
@@ -431,13 +428,12 @@ pub fn moments_rolling_cov(
     ensures { CallsFixed center window_size min_periods (Covariance ddof) (pairing x x_has_map x_map y y_has_map y_map)
         (lending work figures present) result }
 {
-    rolling::rolling_cov(
-        x,
-        x_has_map,
-        x_map,
-        y,
-        y_has_map,
-        y_map,
+    let pair = Pair {
+        x: Trace::lent(x, x_has_map, x_map),
+        y: Trace::lent(y, y_has_map, y_map),
+    };
+    number(rolling::rolling_cov(
+        pair,
         window_size,
         min_periods,
         center,
@@ -445,7 +441,7 @@ pub fn moments_rolling_cov(
         work,
         figures,
         present,
-    )
+    ))
 }
 
 pub fn moments_rolling_pearson_corr(
@@ -465,20 +461,19 @@ pub fn moments_rolling_pearson_corr(
     ensures { CallsFixed center window_size min_periods Correlation (pairing x x_has_map x_map y y_has_map y_map)
         (lending work figures present) result }
 {
-    rolling::rolling_pearson_corr(
-        x,
-        x_has_map,
-        x_map,
-        y,
-        y_has_map,
-        y_map,
+    let pair = Pair {
+        x: Trace::lent(x, x_has_map, x_map),
+        y: Trace::lent(y, y_has_map, y_map),
+    };
+    number(rolling::rolling_pearson_corr(
+        pair,
         window_size,
         min_periods,
         center,
         work,
         figures,
         present,
-    )
+    ))
 }
 
 pub fn moments_rolling_var_weights(
@@ -495,56 +490,42 @@ pub fn moments_rolling_var_weights(
     ensures { CallsWeights center window_size min_periods weights (tracing trace has_map map)
         (lending_column figures present) result }
 {
-    weighted::rolling_var_weights(
-        trace,
-        has_map,
-        map,
+    let x = Trace::lent(trace, has_map, map);
+    number(weighted::rolling_var_weights(
+        x,
         window_size,
         min_periods,
         center,
         weights,
         figures,
         present,
-    )
+    ))
 }
 
 // Whole arrays and ranges: 0 and the state's members, or a refusal's number and the state as it was.
-fn store_var(answer: VarAnswer, state: &mut [f64; 3]) -> u32
-    ensures { StateResult var_number var_members answer state.old result state.new }
+fn store<S: Into<[f64; N]>, const N: usize>(answer: Result<S, Refusal>, state: &mut [f64; N]) -> u32
+    ensures { (list : S → List Float) → ((s : S) (members : List Float) → S.converts s members → members ≡ list s)
+        → StateResult list (answered answer) state.old result state.new }
 {
     match answer {
-        VarAnswer::State(s) => {
-            *state = [s.weight, s.mean, s.dp];
+        Ok(s) => {
+            *state = s.into();
             0
         }
-        VarAnswer::Refused(number) => number,
+        Err(refusal) => u32::from(refusal),
     }
 }
 
 pub fn moments_var(trace: &[f64], has_map: bool, map: &[u8], state: &mut [f64; 3]) -> u32
-    ensures { StateResult var_number var_members (var_answer trace.now has_map map.now)
-        state.old result state.new }
+    ensures { StateResult var_list (var_answer (tracing trace has_map map)) state.old result state.new }
 {
-    store_var(moment::var(trace, has_map, map), state)
-}
-
-fn store_skew(answer: SkewAnswer, state: &mut [f64; 4]) -> u32
-    ensures { StateResult skew_number skew_members answer state.old result state.new }
-{
-    match answer {
-        SkewAnswer::State(s) => {
-            *state = [s.weight, s.mean, s.m2, s.m3];
-            0
-        }
-        SkewAnswer::Refused(number) => number,
-    }
+    store(moment::var(Trace::lent(trace, has_map, map)), state)
 }
 
 pub fn moments_skew(trace: &[f64], has_map: bool, map: &[u8], state: &mut [f64; 4]) -> u32
-    ensures { StateResult skew_number skew_members (skew_answer trace.now has_map map.now)
-        state.old result state.new }
+    ensures { StateResult skew_list (skew_answer (tracing trace has_map map)) state.old result state.new }
 {
-    store_skew(moment::skew(trace, has_map, map), state)
+    store(moment::skew(Trace::lent(trace, has_map, map)), state)
 }
 
 pub fn moments_skew_range(
@@ -555,32 +536,18 @@ pub fn moments_skew_range(
     length: usize,
     state: &mut [f64; 4],
 ) -> u32
-    ensures { StateResult skew_number skew_members (skew_range trace.now has_map map.now start length)
+    ensures { StateResult skew_list (skew_range (tracing trace has_map map) start length)
         state.old result state.new }
 {
-    store_skew(
-        SkewState::from_array(trace, has_map, map, start, length),
-        state,
-    )
-}
-
-fn store_kurtosis(answer: KurtosisAnswer, state: &mut [f64; 5]) -> u32
-    ensures { StateResult kurtosis_number kurtosis_members answer state.old result state.new }
-{
-    match answer {
-        KurtosisAnswer::State(s) => {
-            *state = [s.weight, s.mean, s.m2, s.m3, s.m4];
-            0
-        }
-        KurtosisAnswer::Refused(number) => number,
-    }
+    let trace = Trace::lent(trace, has_map, map);
+    store(SkewState::from_array(trace, start, length), state)
 }
 
 pub fn moments_kurtosis(trace: &[f64], has_map: bool, map: &[u8], state: &mut [f64; 5]) -> u32
-    ensures { StateResult kurtosis_number kurtosis_members (kurtosis_answer trace.now has_map map.now)
+    ensures { StateResult kurtosis_list (kurtosis_answer (tracing trace has_map map))
         state.old result state.new }
 {
-    store_kurtosis(moment::kurtosis(trace, has_map, map), state)
+    store(moment::kurtosis(Trace::lent(trace, has_map, map)), state)
 }
 
 pub fn moments_kurtosis_range(
@@ -591,25 +558,11 @@ pub fn moments_kurtosis_range(
     length: usize,
     state: &mut [f64; 5],
 ) -> u32
-    ensures { StateResult kurtosis_number kurtosis_members (kurtosis_range trace.now has_map map.now start length)
+    ensures { StateResult kurtosis_list (kurtosis_range (tracing trace has_map map) start length)
         state.old result state.new }
 {
-    store_kurtosis(
-        KurtosisState::from_array(trace, has_map, map, start, length),
-        state,
-    )
-}
-
-fn store_cov(answer: CovAnswer, state: &mut [f64; 4]) -> u32
-    ensures { StateResult cov_number cov_members answer state.old result state.new }
-{
-    match answer {
-        CovAnswer::State(s) => {
-            *state = [s.weight, s.mean_x, s.mean_y, s.dp_xy];
-            0
-        }
-        CovAnswer::Refused(number) => number,
-    }
+    let trace = Trace::lent(trace, has_map, map);
+    store(KurtosisState::from_array(trace, start, length), state)
 }
 
 pub fn moments_cov(
@@ -621,22 +574,14 @@ pub fn moments_cov(
     y_map: &[u8],
     state: &mut [f64; 4],
 ) -> u32
-    ensures { StateResult cov_number cov_members (cov_answer x.now x_has_map x_map.now
-        y.now y_has_map y_map.now) state.old result state.new }
+    ensures { StateResult cov_list (cov_answer (tracing x x_has_map x_map) (tracing y y_has_map y_map))
+        state.old result state.new }
 {
-    store_cov(moment::cov(x, x_has_map, x_map, y, y_has_map, y_map), state)
-}
-
-fn store_pearson(answer: PearsonAnswer, state: &mut [f64; 6]) -> u32
-    ensures { StateResult pearson_number pearson_members answer state.old result state.new }
-{
-    match answer {
-        PearsonAnswer::State(s) => {
-            *state = [s.weight, s.mean_x, s.mean_y, s.dp_xx, s.dp_xy, s.dp_yy];
-            0
-        }
-        PearsonAnswer::Refused(number) => number,
-    }
+    let pair = Pair {
+        x: Trace::lent(x, x_has_map, x_map),
+        y: Trace::lent(y, y_has_map, y_map),
+    };
+    store(moment::cov(pair), state)
 }
 
 pub fn moments_pearson_corr(
@@ -648,13 +593,14 @@ pub fn moments_pearson_corr(
     y_map: &[u8],
     state: &mut [f64; 6],
 ) -> u32
-    ensures { StateResult pearson_number pearson_members (pearson_answer x.now x_has_map
-        x_map.now y.now y_has_map y_map.now) state.old result state.new }
+    ensures { StateResult pearson_list (pearson_answer (tracing x x_has_map x_map) (tracing y y_has_map y_map))
+        state.old result state.new }
 {
-    store_pearson(
-        moment::pearson_corr(x, x_has_map, x_map, y, y_has_map, y_map),
-        state,
-    )
+    let pair = Pair {
+        x: Trace::lent(x, x_has_map, x_map),
+        y: Trace::lent(y, y_has_map, y_map),
+    };
+    store(moment::pearson_corr(pair), state)
 }
 
 // States.

@@ -9,11 +9,9 @@ ghost use Rattle.moment.specs.Cov.{cov_insert, cov_combine, cov_finalize};
 ghost use Rattle.moment.specs.Pearson.{pearson_insert, pearson_combine, pearson_finalize};
 ghost use Rattle.moment.specs.Skew.{skew_insert, skew_combine, skew_finalize};
 ghost use Rattle.moment.specs.Kurtosis.{kurtosis_insert, kurtosis_combine, kurtosis_finalize};
-ghost use Rattle.moment.specs.Arrays.{var_answer, var_number, var_members};
-ghost use Rattle.moment.specs.Arrays.{cov_answer, cov_number, cov_members};
-ghost use Rattle.moment.specs.Arrays.{pearson_answer, pearson_number, pearson_members};
-ghost use Rattle.moment.specs.Arrays.{skew_answer, skew_range, skew_number, skew_members};
-ghost use Rattle.moment.specs.Arrays.{kurtosis_answer, kurtosis_range, kurtosis_number, kurtosis_members};
+ghost use Rattle.moment.specs.Arrays.{var_answer, cov_answer, pearson_answer, skew_answer, kurtosis_answer};
+ghost use Rattle.moment.specs.Arrays.{skew_range, kurtosis_range};
+ghost use Rattle.moment.specs.Arrays.{var_list, cov_list, pearson_list, skew_list, kurtosis_list};
 ghost use Rattle.trace.specs.Trace.{tracing};
 ghost use Rattle.window.specs.Pairs.{pairing};
 ghost use Rattle.rolling.specs.Moments.{Variance, Skewness, Kurtosis, Covariance, Correlation};
@@ -412,8 +410,7 @@ pub extern "C" fn moments_rolling_var_weights(
 
 #[unsafe(no_mangle)]
 pub extern "C" fn moments_var(trace: &[f64], has_map: bool, map: &[u8], state: &mut [f64; 3]) -> u32
-    ensures { StateResult var_number var_members (var_answer trace.now has_map map.now)
-        state.old result state.new }
+    ensures { StateResult var_list (var_answer (tracing trace has_map map)) state.old result state.new }
 {
     moments::moments_var(trace, has_map, map, state)
 }
@@ -425,8 +422,7 @@ pub extern "C" fn moments_skew(
     map: &[u8],
     state: &mut [f64; 4],
 ) -> u32
-    ensures { StateResult skew_number skew_members (skew_answer trace.now has_map map.now)
-        state.old result state.new }
+    ensures { StateResult skew_list (skew_answer (tracing trace has_map map)) state.old result state.new }
 {
     moments::moments_skew(trace, has_map, map, state)
 }
@@ -440,7 +436,7 @@ pub extern "C" fn moments_skew_range(
     length: usize,
     state: &mut [f64; 4],
 ) -> u32
-    ensures { StateResult skew_number skew_members (skew_range trace.now has_map map.now start length)
+    ensures { StateResult skew_list (skew_range (tracing trace has_map map) start length)
         state.old result state.new }
 {
     moments::moments_skew_range(trace, has_map, map, start, length, state)
@@ -453,8 +449,7 @@ pub extern "C" fn moments_kurtosis(
     map: &[u8],
     state: &mut [f64; 5],
 ) -> u32
-    ensures { StateResult kurtosis_number kurtosis_members (kurtosis_answer trace.now has_map map.now)
-        state.old result state.new }
+    ensures { StateResult kurtosis_list (kurtosis_answer (tracing trace has_map map)) state.old result state.new }
 {
     moments::moments_kurtosis(trace, has_map, map, state)
 }
@@ -468,7 +463,7 @@ pub extern "C" fn moments_kurtosis_range(
     length: usize,
     state: &mut [f64; 5],
 ) -> u32
-    ensures { StateResult kurtosis_number kurtosis_members (kurtosis_range trace.now has_map map.now start length)
+    ensures { StateResult kurtosis_list (kurtosis_range (tracing trace has_map map) start length)
         state.old result state.new }
 {
     moments::moments_kurtosis_range(trace, has_map, map, start, length, state)
@@ -484,8 +479,8 @@ pub extern "C" fn moments_cov(
     y_map: &[u8],
     state: &mut [f64; 4],
 ) -> u32
-    ensures { StateResult cov_number cov_members (cov_answer x.now x_has_map x_map.now
-        y.now y_has_map y_map.now) state.old result state.new }
+    ensures { StateResult cov_list (cov_answer (tracing x x_has_map x_map) (tracing y y_has_map y_map))
+        state.old result state.new }
 {
     moments::moments_cov(x, x_has_map, x_map, y, y_has_map, y_map, state)
 }
@@ -500,8 +495,8 @@ pub extern "C" fn moments_pearson_corr(
     y_map: &[u8],
     state: &mut [f64; 6],
 ) -> u32
-    ensures { StateResult pearson_number pearson_members (pearson_answer x.now x_has_map
-        x_map.now y.now y_has_map y_map.now) state.old result state.new }
+    ensures { StateResult pearson_list (pearson_answer (tracing x x_has_map x_map) (tracing y y_has_map y_map))
+        state.old result state.new }
 {
     moments::moments_pearson_corr(x, x_has_map, x_map, y, y_has_map, y_map, state)
 }

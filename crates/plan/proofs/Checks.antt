@@ -1,62 +1,22 @@
 -- The check of a call, as it is put together: over any number of what is given, any outputs, any need of work. Assumes nothing.
-use Rattle.std.proofs.Common.{◌≡◌, ℕ, zero, suc, ◌*◌, ◌/◌, ◌<◌, ◌≤◌, min, Bool, true, false, ◌||◌, eqb, ltb, length, sym, refl, ◌∙◌, div-lt_iff_lt-mul, le-div_iff_mul-le, zero-mul, arith, lit≤, ltb-false, ltb-true, le-ltb, eq-eqb, ne_eqb, eqb-true}
-use borrow.Author.Tests.{eqb-false, not-false}
-use Rattle.trace.specs.Refusals.{refusal, ◌or_else◌}
+use Rattle.std.proofs.Common.{not, ap, ◌≡◌, ℕ, ◌*◌, min, Bool, ◌||◌, eqb, ltb, sym, refl, ◌∙◌, arith, lit≤, ltb-false, eqb-true}
+use Rattle.std.proofs.lemmas.Bool.Decides.{nat_tests}
+use borrow.Author.Tests.{not-false}
+use Rattle.trace.specs.Refusals.{refusal}
 use Rattle.trace.proofs.Accepted.{none_of, not_refused_lem}
 use Rattle.plan.specs.Plan.{Plan, rows}
-use Rattle.plan.specs.Refusals.{wrong_lists, rows_refusal, widest, plan_refusal}
-use Rattle.plan.specs.Code.Accepted.{Accepted, plan_number, widest_where}
-use Rattle.plan.proofs.Plans.{neither, first_stands, none_then, planned, widest-le}
-
-pos-of-ne : (n : ℕ) → (n ≡ 0 → ⊥) → 0 < n
-pos-of-ne zero h = absurd (h refl)
-pos-of-ne (suc n) h = omega arith
+use Rattle.std.specs.Prelude.{Result, Ok, Err, IsErrAnd}
+use Rattle.trace.specs.Outcomes.{number_of}
+use Rattle.trace.specs.declared.refusals.Refusal.{Refusal}
+use Rattle.plan.specs.Refusals.{rows_refusal, widest, plan_refusal, fixed_refusal}
+use Rattle.plan.specs.Code.Accepted.{Accepted, ScansRows, ChecksPlan, ChecksWindows}
+use Rattle.plan.proofs.Plans.{neither, planned, widest-le}
 
 -- The shorter of two lists is too short where one of them is
 pub below_min : (a b n : ℕ) → ltb (min a b) n ≡ (ltb a n || ltb b n)
-below_min a b n = go (ltb (min a b) n) (ltb a n) (ltb b n) refl refl refl
-  where
-    go : (x y z : Bool) → ltb (min a b) n ≡ x → ltb a n ≡ y → ltb b n ≡ z → x ≡ (y || z)
-    go true true z e f g = refl
-    go true false true e f g = refl
-    go true false false e f g = let p = ltb-true (min a b) n e in let q = ltb-false a n f in let r = ltb-false b n g in absurd (omega arith)
-    go false true z e f g = let p = ltb-false (min a b) n e in let q = ltb-true a n f in absurd (omega arith)
-    go false false true e f g = let p = ltb-false (min a b) n e in let q = ltb-true b n g in absurd (omega arith)
-    go false false false e f g = refl
+below_min a b n = grind (arith, nat_tests)
 
--- a product that could wrap, told by a quotient
-pub quotient : (work width wide : ℕ) → (width ≡ 0 → ⊥) → ltb (work / width) wide ≡ ltb work (width * wide)
-quotient work width wide h = go (ltb (work / width) wide) (ltb work (width * wide)) refl refl
-  where
-    some : 0 < width
-    some = pos-of-ne width h
-
-    go : (x y : Bool) → ltb (work / width) wide ≡ x → ltb work (width * wide) ≡ y → x ≡ y
-    go true true e f = refl
-    go false false e f = refl
-    go true false e f =
-        let a : work < wide * width = (div-lt_iff_lt-mul some).0 (ltb-true (work / width) wide e) in
-        let b : width * wide ≤ work = ltb-false work (width * wide) f in
-        absurd (omega arith)
-    go false true e f =
-        let a : work < width * wide = ltb-true work (width * wide) f in
-        let b : wide ≤ work / width = ltb-false (work / width) wide e in
-        let d : wide * width ≤ work = (le-div_iff_mul-le some).0 b in
-        absurd (omega arith)
-
-pub nothing_needed : (work width wide : ℕ) → width ≡ 0 → ltb work (width * wide) ≡ false
-nothing_needed work width wide e = le-ltb work (width * wide) (rw (e, zero-mul) (omega arith))
-
--- the width that goes with a number
-pub wide_where : (number : ℕ) (p : Plan) → number ≡ 0 → widest_where number p ≡ widest p (rows p)
-wide_where number p z = rw (eq-eqb number 0 z)
-
-pub wide_nowhere : (number : ℕ) (p : Plan) → (number ≡ 0 → ⊥) → 0 ≡ widest_where number p
-wide_nowhere number p h = rw (ne_eqb number 0 h)
-
-pub both_same : {a b x y : ℕ} → a ≡ x → b ≡ y → a or_else b ≡ x or_else y
-both_same e f = rw (e, f)
-
+-- what holds of a call that nothing refuses
 pub taken : (given : ℕ) (p : Plan) (n : ℕ) (short : Bool) (outputs width work : ℕ) →
     plan_refusal given p n short outputs width work ≡ 0 → Accepted given p n short outputs width work (widest p (rows p))
 unfolding plan_refusal
@@ -77,39 +37,31 @@ taken given p n short outputs width work e =
       work_fits = ltb-false _ _ (not_refused_lem 13 _ (lit≤ tt) a.1);
     }
 
-module _ (given : ℕ) (p : Plan) (n : ℕ) (short : Bool) (outputs width work first : ℕ)
-    (first-is : first ≡ given or_else refusal 4 (wrong_lists p)) where
-  abbrev Number : ℕ
-  Number = plan_refusal given p n short outputs width work
+-- rows that are refused have no width
+pub rows_stop : (n : ℕ) (p : Plan) (r : Result ℕ Refusal) (e : Refusal) → IsErrAnd r (λ x. x ≡ e) → number_of e ≡ rows_refusal n p (rows p) → ScansRows n p r
+rows_stop n p (Ok _) e h q = elim h [ ]
+rows_stop n p (Err x) e h q = record { number_is = ap number_of h ∙ q; wide_is = tt }
 
-  pub judged-first : (first ≡ 0 → ⊥) → first ≡ Number
-  unfolding plan_refusal
-  judged-first h = rw (← first-is, first_stands first _ h, first_stands first _ h, first_stands first _ h)
+-- nor has a call that is refused
+pub plan_stops : (given : ℕ) (p : Plan) (n : ℕ) (short : Bool) (outputs width work : ℕ) (r : Result ℕ Refusal) (e : Refusal) → IsErrAnd r (λ x. x ≡ e) →
+    number_of e ≡ plan_refusal given p n short outputs width work → ChecksPlan given p n short outputs width work r
+plan_stops given p n short outputs width work (Ok _) e h q = elim h [ ]
+plan_stops given p n short outputs width work (Err x) e h q = record { number_is = ap number_of h ∙ q; accepted = tt }
 
-  pub same_lists : first ≡ 0 → length p.starts ≡ length p.ends
-  same_lists z = eqb-true _ _ (not-false _ (neither _ _ (not_refused_lem 4 _ (lit≤ tt) (none_of _ _ (sym first-is ∙ z)).1)).0)
+pub fixed_stops : (given n size outputs width work : ℕ) (r : Result ℕ Refusal) (e : Refusal) → IsErrAnd r (λ x. x ≡ e) →
+    number_of e ≡ fixed_refusal given n size outputs width work → ChecksWindows given n size outputs width work r
+fixed_stops given n size outputs width work (Ok _) e h q = elim h [ ]
+fixed_stops given n size outputs width work (Err x) e h q = record { number_is = ap number_of h ∙ q; wide_is = tt; accepted = λ center. tt }
 
-  pub first-wide : (first ≡ 0 → ⊥) → 0 ≡ widest_where (plan_number given p n) p
-  first-wide h = wide_nowhere (plan_number given p n) p (λ e. h (first-is ∙ (none_of _ _ e).0))
+-- lists that no check refuses
+pub lists_pass : (a b : ℕ) (t : Bool) → 0 ≡ refusal 4 (not (eqb a b) || t) → a ≡ b
+lists_pass a b t z = eqb-true a b (not-false _ (neither _ _ (not_refused_lem 4 _ (lit≤ tt) (sym z))).0)
 
-  module _ (z : first ≡ 0) (found wide : ℕ) (found-is : found ≡ rows_refusal n p (rows p)) (wide_is : wide ≡ widest_where found p) (number : ℕ)
-      (number_is : number ≡ found or_else refusal 12 (short || ltb outputs (rows p)) or_else refusal 13 (ltb work (width * wide))) where
-    abbrev Twelve : ℕ
-    Twelve = refusal 12 (short || ltb outputs (rows p))
+-- a check that passes
+pub plan_passes : (given : ℕ) (p : Plan) (n : ℕ) (short : Bool) (outputs width work wide : ℕ) → wide ≡ widest p (rows p) →
+    0 ≡ plan_refusal given p n short outputs width work → ChecksPlan given p n short outputs width work (Ok wide)
+plan_passes given p n short outputs width work wide e z = record { number_is = z; accepted = rw e (taken given p n short outputs width work (sym z)) }
 
-    by-found : (b : Bool) → eqb found 0 ≡ b →
-        found or_else Twelve or_else refusal 13 (ltb work (width * wide)) ≡ found or_else Twelve or_else refusal 13 (ltb work (width * widest p (rows p)))
-    by-found true e = rw (wide_is ∙ wide_where found p (eqb-true found 0 e))
-    by-found false e = let h = eqb-false found 0 e in rw (first_stands found Twelve h, first_stands found _ h, first_stands found _ h)
-
-    pub judged : number ≡ Number
-    unfolding plan_refusal
-    judged = number_is ∙ by-found (eqb found 0) refl ∙ rw (← first-is, none_then first _ z, found-is)
-
-    pub judged-accepted : number ≡ 0 → Accepted given p n short outputs width work wide
-    judged-accepted e =
-        let q = (none_of _ _ (none_of _ _ (sym number_is ∙ e)).0).0 in
-        rw (wide_is ∙ wide_where found p q) (taken given p n short outputs width work (sym judged ∙ e))
-
-    pub judged-wide : wide ≡ widest_where (plan_number given p n) p
-    judged-wide = wide_is ∙ rw (← first-is, none_then first (rows_refusal n p (rows p)) z, ← found-is)
+-- the work that the widest window needs
+pub work_check : (work width wide wide' : ℕ) (t : Bool) → t ≡ ltb work (width * wide) → wide ≡ wide' → refusal 13 t ≡ refusal 13 (ltb work (width * wide'))
+work_check work width wide wide' t e f = rw (e, f)

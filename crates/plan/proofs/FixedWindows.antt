@@ -10,7 +10,8 @@ use Rattle.trace.proofs.Accepted.{none_of, not_refused_lem}
 use Rattle.plan.specs.Plan.{Plan, rows, row_start, row_end}
 use Rattle.plan.specs.Bounds.{bounds_at, bounds, next_offsets}
 use Rattle.plan.specs.Refusals.{wrong_lists, rows_refusal, widest, plan_refusal, fixed_refusal}
-use Rattle.plan.specs.Code.Accepted.{Planned, Accepted}
+use Rattle.std.specs.Prelude.{Ok}
+use Rattle.plan.specs.Code.Accepted.{Planned, Accepted, ChecksWindows}
 use Rattle.plan.specs.Code.Reaching.{right_of, reaching, rows_of, StepsTo}
 use Rattle.plan.proofs.Plans.{first_stands, none_then, wide-all, rows-in-order, widest-under}
 
@@ -19,6 +20,10 @@ pub rows_are : (left right n : ℕ) (starts ends : List ℕ) (fixed : Bool)
     → cond fixed n (length starts) ≡ rows (rows_of fixed left right n starts ends)
 rows_are left right n starts ends true = sym (table-length (λ i. i - left) n)
 rows_are left right n starts ends false = refl
+
+-- as many rows as places
+pub reaching_rows : (left right n : ℕ) → rows (reaching left right n) ≡ n
+reaching_rows left right n = table-length (λ i. i - left) n
 
 -- ---- a step
 -- a pair by its parts
@@ -260,3 +265,9 @@ pub reach_accepted : (center : Bool) (size n right : ℕ) {given outputs width w
     Accepted given (bounds center size n) n false outputs width work wide → Accepted given (reaching (size - right) right n) n false outputs width work wide
 reach_accepted center size n right {given} {outputs} {width} {work} {wide} e a =
     subst (λ (p : Plan). Accepted given p n false outputs width work wide) (bounds_by center size n right e) a
+
+-- a check that passes
+pub fixed_passes : (given n size outputs width work wide : ℕ) → wide ≡ min size n → 0 ≡ fixed_refusal given n size outputs width work →
+    ChecksWindows given n size outputs width work (Ok wide)
+fixed_passes given n size outputs width work wide e z =
+    record { number_is = z; wide_is = e; accepted = λ center. rw e (fixed-accepted center size n given outputs width work (sym z)) }

@@ -1,12 +1,12 @@
 -- An accepted plan is in order: its rows lie in the series and rise, and none is wider than the widest. The first refusal of the
 -- rows is found by testing them in turn. Assumes nothing.
-use Rattle.std.proofs.Common.{◌≡◌, ℕ, zero, suc, ◌+◌, ◌-◌, ◌<◌, ◌≤◌, max, Bool, true, false, ◌||◌, ltb, List, length, get_or, sym, refl, ap, ◌∙◌, subst, le_trans, le_refl, add-zero, add-suc, add-one, arith, lit≤, ltb-false, le-ltb, eq-eqb, ne_eqb}
+use Rattle.std.proofs.Common.{below_more, ◌≡◌, ℕ, zero, suc, ◌+◌, ◌-◌, ◌<◌, ◌≤◌, max, Bool, true, false, ◌||◌, ltb, length, sym, refl, ap, ◌∙◌, subst, le_trans, le_refl, add-zero, add-suc, add-one, arith, lit≤, ltb-false, le-ltb, eq-eqb, ne_eqb}
 use Rattle.trace.specs.Refusals.{refusal, ◌or_else◌}
 use Rattle.trace.proofs.Accepted.{none_of, not_refused_lem}
 use Rattle.float.proofs.Cases.{apart, Or, here, there, order}
 use Rattle.plan.specs.Plan.{Plan, rows, row_start, row_end}
 use Rattle.plan.specs.Refusals.{row_refusal, before, rows_refusal, widest}
-use Rattle.plan.specs.Code.Accepted.{Planned}
+use Rattle.plan.specs.Code.Accepted.{Planned, WidthOf}
 
 pub neither : (a b : Bool) → (a || b) ≡ false → (a ≡ false) × (b ≡ false)
 neither true b e = apart (sym e)
@@ -21,18 +21,14 @@ pub none_then : (a b : ℕ) → a ≡ 0 → a or_else b ≡ b
 unfolding ◌or_else◌
 none_then a b h = rw (eq-eqb a 0 h)
 
-before_at : (bounds : List ℕ) (k : ℕ) → 1 ≤ k → before bounds k ≡ get_or bounds (k - 1) 0
-before_at bounds zero h = absurd (omega arith)
-before_at bounds (suc k) h = let z : suc k - 1 ≡ k = omega arith in rw z
+-- what holds below k, and of k
+below_suc : (P : ℕ → Type 0) (k : ℕ) → ((j : ℕ) → j < k → P j) → P k → (j : ℕ) → j < suc k → P j
+below_suc P k below at_k = rw add-one at (below_more P k below at_k)
 
 module _ (n : ℕ) (p : Plan) where
   -- row k's own number
   abbrev pub Row : ℕ → ℕ
   Row k = row_refusal n (before p.starts k) (before p.ends k) (row_start p k) (row_end p k)
-
-  -- the same, by what a loop holds of the row before and of this one
-  pub own : (k c s' e' s e : ℕ) → s' ≡ before p.starts k → e' ≡ before p.ends k → s ≡ row_start p k → e ≡ row_end p k → c ≡ row_refusal n s' e' s e → c ≡ Row k
-  own k c s' e' s e a b f g h = h ∙ rw (a, b, f, g)
 
   -- a row that is not refused
   pub record Good (k : ℕ) : Type 0 where
@@ -152,84 +148,111 @@ module _ (n : ℕ) (p : Plan) where
       let w = g.within in
       omega arith
 
-  -- ---- the loop over the rows
-  pub scan-stop : (k c : ℕ) → k < rows p → rows_refusal n p k ≡ 0 → c ≡ Row k → (c ≡ 0 → ⊥) → c ≡ rows_refusal n p (rows p)
-  scan-stop k c h e f g =
-      let i : rows_refusal n p (suc k) ≡ c = rows_more k e ∙ sym f in
-      let q : suc k + (rows p - suc k) ≡ rows p = omega arith in
-      sym i ∙ sym (rows_stay (suc k) (rows p - suc k) (λ z. g (sym i ∙ z))) ∙ ap (rows_refusal n p) q
+  -- ---- the walk row by row
+  -- after k rows, none of which is refused: the widest window, and the bounds of the row before
+  pub record Walked (k wide s' e' : ℕ) : Type 0 where
+    pub none : 0 ≡ rows_refusal n p k
+    pub wide_is : wide ≡ widest p k
+    pub start_is : s' ≡ before p.starts k
+    pub end_is : e' ≡ before p.ends k
 
-  pub scan-row : (k c : ℕ) → rows_refusal n p k ≡ 0 → c ≡ Row k → c ≡ 0 → rows_refusal n p (k + 1) ≡ 0
-  scan-row k c e f g = rw add-one (rows_more k e ∙ sym f ∙ g)
+  pub walk-none : Walked 0 0 0 0
+  unfolding rows_refusal widest
+  walk-none = record { none = refl; wide_is = refl; start_is = refl; end_is = refl }
 
-  pub scan-wide : (k w x : ℕ) → w ≡ widest p k → x ≡ max w (row_end p k - row_start p k) → x ≡ widest p (k + 1)
-  unfolding widest
-  scan-wide k w x e f = f ∙ rw (add-one, e)
+  -- row k, from s up to e, whose number is c
+  module _ (k w s' e' s e c : ℕ) (i : Walked k w s' e') (s-is : s ≡ row_start p k) (e-is : e ≡ row_end p k) (c-is : c ≡ row_refusal n s' e' s e) where
+    walk-own : c ≡ Row k
+    walk-own = c-is ∙ rw (i.start_is, i.end_is, s-is, e-is)
+
+    pub walk-rises : 0 ≡ c → s ≤ e
+    walk-rises z = let g = (good k (sym walk-own ∙ sym z)).row in omega arith
+
+    pub walk-stops : k < rows p → 0 < c → c ≡ rows_refusal n p (rows p)
+    walk-stops h f =
+        let z : c ≡ rows_refusal n p (suc k) = walk-own ∙ sym (rows_more k (sym i.none)) in
+        let q : suc k + (rows p - suc k) ≡ rows p = omega arith in
+        z ∙ sym (rows_stay (suc k) (rows p - suc k) (λ o. let a : 0 ≡ c = sym (z ∙ o) in absurd (omega arith))) ∙ ap (rows_refusal n p) q
+
+    pub walk-row : (x : ℕ) → 0 ≡ c → x ≡ max w (e - s) → Walked (k + 1) x s e
+    unfolding widest
+    walk-row x z f =
+        rw add-one
+        (record {
+          none = sym (rows_more k (sym i.none) ∙ sym walk-own ∙ sym z);
+          wide_is = f ∙ rw (i.wide_is, s-is, e-is);
+          start_is = s-is;
+          end_is = e-is;
+        })
 
   -- ---- the pass that compares each row with the one before it and keeps the widest width, which may have wrapped
   -- the first k rows, none of whose bounds falls: a width that wrapped is near 2 ^ 32
   pub record Passing (wide k : ℕ) : Type 0 where
-    pub steps : (j : ℕ) → suc j < k → (row_start p j ≤ row_start p (suc j)) × (row_end p j ≤ row_end p (suc j))
+    pub steps : (j : ℕ) → j < k → (before p.starts j ≤ row_start p j) × (before p.ends j ≤ row_end p j)
     pub wraps : (j : ℕ) → j < k → row_end p j < row_start p j → row_end p j + 4294967296 ≤ row_start p j + wide
     pub wide_is : ((j : ℕ) → j < k → row_start p j ≤ row_end p j) → wide ≡ widest p k
 
-  -- a width x with row k's own, after w
-  pub record Width (k w x : ℕ) : Type 0 where
-    pub kept : w ≤ x
-    pub plain : row_start p k ≤ row_end p k → x ≡ max w (row_end p k - row_start p k)
-    pub wrapped : row_end p k < row_start p k → row_end p k + 4294967296 ≤ row_start p k + x
+  -- the same while no bound falls, with the bounds of the row before
+  pub record Passed (k wide s' e' : ℕ) (falls : Bool) : Type 0 where
+    pub passing : falls ≡ false → Passing wide k
+    pub start_is : s' ≡ before p.starts k
+    pub end_is : e' ≡ before p.ends k
 
-  pass-wraps : (k w x j : ℕ) → Passing w k → Width k w x → j < suc k → row_end p j < row_start p j → row_end p j + 4294967296 ≤ row_start p j + x
-  pass-wraps k w x j i o h f = go (order k j)
-    where
-      go : Or (k ≤ j) (j < k) → row_end p j + 4294967296 ≤ row_start p j + x
-      go (here l) = let z : k ≡ j = omega arith in subst (λ j. row_end p j < row_start p j → row_end p j + 4294967296 ≤ row_start p j + x) z o.wrapped f
-      go (there l) = let a = i.wraps j l f in let b = o.kept in omega arith
-
-  passed : (k w x : ℕ) → Passing w k → Width k w x →
-      ((j : ℕ) → suc j < suc k → (row_start p j ≤ row_start p (suc j)) × (row_end p j ≤ row_end p (suc j))) → Passing x (suc k)
+  pub pass-none : Passed 0 0 0 0 false
   unfolding widest
-  passed k w x i o steps =
+  pass-none =
       record {
-        steps = steps;
-        wraps = λ j h f. pass-wraps k w x j i o h f;
-        wide_is = λ f. o.plain (f k (omega arith)) ∙ rw (i.wide_is (λ j h. f j (omega arith)));
+        passing = λ _. record { steps = λ j h. absurd (omega arith); wraps = λ j h. absurd (omega arith); wide_is = λ _. refl };
+        start_is = refl;
+        end_is = refl;
       }
 
-  pub pass-first : (x : ℕ) → Width 0 0 x → Passing x 1
-  unfolding widest
-  pass-first x o =
-      passed 0 0 x (record { steps = λ j h. absurd (omega arith); wraps = λ j h. absurd (omega arith); wide_is = λ _. refl }) o
-      (λ j h. absurd (omega arith))
+  -- row k, from s up to e, of a width that may wrap
+  module _ (k w s' e' s e wide x : ℕ) (falls : Bool) (i : Passed k w s' e' falls) (s-is : s ≡ row_start p k) (e-is : e ≡ row_end p k)
+      (width-is : WidthOf s e wide) (x-is : x ≡ max w wide) where
+    pass-steps : Passing w k → s' ≤ s → e' ≤ e → (j : ℕ) → j < suc k → (before p.starts j ≤ row_start p j) × (before p.ends j ≤ row_end p j)
+    pass-steps was a b =
+        below_suc (λ j. (before p.starts j ≤ row_start p j) × (before p.ends j ≤ row_end p j)) k was.steps (let u = i.start_is in let v = i.end_is in (omega arith, omega arith))
 
-  pub pass-row : (k w x : ℕ) (falls : Bool) → 1 ≤ k → (falls ≡ false → Passing w k) → Width k w x →
-      ((falls || ltb (row_start p k) (row_start p (k - 1))) || ltb (row_end p k) (row_end p (k - 1))) ≡ false → Passing x (k + 1)
-  pass-row zero w x falls h i o t = absurd (omega arith)
-  pass-row (suc k) w x falls h i o t =
-      let z : suc k - 1 ≡ k = omega arith in
-      let b = neither _ _ (rw z at t) in
-      let a = neither _ _ b.0 in
-      let was = i a.0 in
-      rw add-one (passed (suc k) w x was o (λ j h. go j h was.steps (ltb-false _ _ a.1, ltb-false _ _ b.1) (order k j)))
-    where
-      go : (j : ℕ) → suc j < suc (suc k) →
-          ((j : ℕ) → suc j < suc k → (row_start p j ≤ row_start p (suc j)) × (row_end p j ≤ row_end p (suc j))) →
-          (row_start p k ≤ row_start p (suc k)) × (row_end p k ≤ row_end p (suc k)) → Or (k ≤ j) (j < k) →
-          (row_start p j ≤ row_start p (suc j)) × (row_end p j ≤ row_end p (suc j))
-      go j h f g (here l) = let z : k ≡ j = omega arith in subst (λ j. (row_start p j ≤ row_start p (suc j)) × (row_end p j ≤ row_end p (suc j))) z g
-      go j h f g (there l) = f j (omega arith)
+    pass-wraps : Passing w k → (j : ℕ) → j < suc k → row_end p j < row_start p j → row_end p j + 4294967296 ≤ row_start p j + x
+    pass-wraps was =
+        below_suc (λ j. row_end p j < row_start p j → row_end p j + 4294967296 ≤ row_start p j + x) k
+        (λ j h f. let a = was.wraps j h f in omega arith) (λ f. let a = width-is.wrapped (omega arith) in omega arith)
 
-  -- at the last row: where it and the widest width are within the series, no width has wrapped and no row is refused
-  module _ (w last : ℕ) (l : length p.starts ≡ length p.ends) (few : n ≤ 16777216) (q : suc last ≡ rows p) (i : Passing w (rows p))
-      (s : row_start p last ≤ n) (e : row_end p last ≤ n) (o : w ≤ n) where
-    within : (k : ℕ) → k < rows p → (row_start p k ≤ n) × (row_end p k ≤ n)
-    within k h =
-        let r = rise (rows p) i.steps k last (omega arith) (omega arith) in
-        (le_trans r.0 s, le_trans r.1 e)
+    pass-wide : Passing w k → ((j : ℕ) → j < suc k → row_start p j ≤ row_end p j) → x ≡ widest p (suc k)
+    unfolding widest
+    pass-wide was f =
+        let own = f k (omega arith) in
+        let q = was.wide_is (λ j h. f j (omega arith)) in
+        let a = width-is.plain (omega arith) in
+        let r : x ≡ max w (row_end p k - row_start p k) = omega arith in
+        r ∙ rw q
+
+    pub pass-row : Passed (k + 1) x s e (falls || (ltb s s' || ltb e e'))
+    pass-row =
+        rw add-one
+        (record {
+          passing = λ t.
+              let b = neither _ _ t in
+              let a = neither _ _ b.1 in
+              let was = i.passing b.0 in
+              record { steps = pass-steps was (ltb-false _ _ a.0) (ltb-false _ _ a.1); wraps = pass-wraps was; wide_is = pass-wide was };
+          start_is = s-is;
+          end_is = e-is;
+        })
+
+  -- at the end: where the last bounds and the widest width are within the series, no width has wrapped and no row is refused
+  module _ (w : ℕ) (l : length p.starts ≡ length p.ends) (few : n ≤ 16777216) (i : Passing w (rows p))
+      (s : before p.starts (rows p) ≤ n) (e : before p.ends (rows p) ≤ n) (o : w ≤ n) where
+    within : (m k : ℕ) → m ≡ rows p → before p.starts m ≤ n → before p.ends m ≤ n → k < m → (row_start p k ≤ n) × (row_end p k ≤ n)
+    within zero k q a b h = absurd (omega arith)
+    within (suc last) k q a b h =
+        let r = rise (rows p) (λ j h. i.steps (suc j) h) k last (omega arith) (omega arith) in
+        (le_trans r.0 a, le_trans r.1 b)
 
     in-turn : (k : ℕ) → k < rows p → Or (row_start p k ≤ row_end p k) (row_end p k < row_start p k) → row_start p k ≤ row_end p k
     in-turn k h (here f) = f
-    in-turn k h (there f) = let a = i.wraps k h f in let b = (within k h).0 in absurd (omega arith)
+    in-turn k h (there f) = let a = i.wraps k h f in let b = (within (rows p) k refl s e h).0 in absurd (omega arith)
 
     turns : (k : ℕ) → k < rows p → row_start p k ≤ row_end p k
     turns k h = in-turn k h (order (row_start p k) (row_end p k))
@@ -238,18 +261,17 @@ module _ (n : ℕ) (p : Plan) where
     ordered =
         record {
           same = l;
-          row = λ k h. let w = wide-all (rows p) k h in let f = turns k h in (f, (within k h).1, omega arith);
-          rising = rise (rows p) i.steps;
+          row = λ k h. let w = wide-all (rows p) k h in let f = turns k h in (f, (within (rows p) k refl s e h).1, omega arith);
+          rising = rise (rows p) (λ j h. i.steps (suc j) h);
         }
 
     all-passed : (rows_refusal n p (rows p) ≡ 0) × (w ≡ widest p (rows p))
     all-passed = (rows-in-order (widest p (rows p)) (rows p) ordered (le_refl _), i.wide_is turns)
 
-  pub pass-last : (w last : ℕ) (falls : Bool) → length p.starts ≡ length p.ends → n ≤ 16777216 → suc last ≡ rows p →
-      (falls ≡ false → Passing w (rows p)) → (falls || ((ltb n (row_start p last) || ltb n (row_end p last)) || ltb n w)) ≡ false →
-      (rows_refusal n p (rows p) ≡ 0) × (w ≡ widest p (rows p))
-  pass-last w last falls l few q i t =
+  pub pass-all : (w s' e' : ℕ) (falls : Bool) → length p.starts ≡ length p.ends → n ≤ 16777216 → Passed (rows p) w s' e' falls →
+      (falls || ((ltb n s' || ltb n e') || ltb n w)) ≡ false → (rows_refusal n p (rows p) ≡ 0) × (w ≡ widest p (rows p))
+  pass-all w s' e' falls l few i t =
       let a = neither _ _ t in
       let b = neither _ _ a.1 in
       let d = neither _ _ b.0 in
-      all-passed w last l few q (i a.0) (ltb-false _ _ d.0) (ltb-false _ _ d.1) (ltb-false _ _ b.1)
+      all-passed w l few (i.passing a.0) (rw i.start_is at (ltb-false n s' d.0)) (rw i.end_is at (ltb-false n e' d.1)) (ltb-false _ _ b.1)

@@ -2,6 +2,7 @@
 -- nothing.
 use Rattle.std.specs.Prelude.{ℕ, List, length, slice_index}
 use Rattle.trace.specs.Slices.{Slice, entering}
+use Rattle.plan.specs.declared.Plan as code
 
 -- "A plan is two lists of equal length, starts and ends"
 pub record Plan : Type 0 where
@@ -27,3 +28,7 @@ row_end p k = slice_index p.ends k
 -- the plan that a call's parameters are
 abbrev pub planning : Slice ℕ → Slice ℕ → Plan
 planning starts ends = plan_of (entering starts) (entering ends)
+
+-- the plan that a value of the code's type is
+abbrev pub planned : code.Plan → Plan
+planned plan = plan_of plan.starts.now plan.ends.now

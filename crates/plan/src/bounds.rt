@@ -4,8 +4,6 @@ ghost use Rattle.std.specs.Prelude.{◌≡◌, ◌+◌, ◌-◌, ◌≤◌, min}
 ghost use Rattle.plan.specs.Bounds.{offsets_at, next_offsets};
 ghost use Rattle.plan.specs.Code.Reaching.{right_of, StepsTo};
 
-use crate::shorter;
-
 // The window of a row: places start up to but not including end.
 #[derive(Clone, Copy)]
 pub struct Offsets {
@@ -14,29 +12,22 @@ pub struct Offsets {
 }
 
 // How many places from its own on a fixed window reaches; 006's `right_window`.
+#[tactic(auto, unfolding(crate::specs::Code::Reaching::right_of))]
 pub fn right_window(center: bool, window_size: usize) -> usize
     ensures { (result ≡ right_of center window_size) × (result ≤ window_size) }
 {
     if center {
-        return window_size / 2 + window_size % 2;
+        window_size.div_ceil(2)
+    } else {
+        window_size.min(1)
     }
-    shorter(window_size, 1)
 }
 
-// Where the fixed window of a row starts, `left` places before the row's own.
-fn start_of(left: usize, row: usize) -> usize
-    ensures { result ≡ row - left }
-{
-    if row < left { 0 } else { row - left }
-}
-
-// Where the fixed window of a row ends, `right` places from the row's own on, within the n places; or a block of so many rows. From row
-// `last` on that is n; a sum that might wrap is never made.
+// Where the fixed window of a row ends, `right` places from the row's own on, within the n places; or a block of so many rows.
 pub fn end_of(right: usize, n: usize, row: usize) -> usize
     ensures { result ≡ min n (row + right) }
 {
-    let last = if right < n { n - right } else { 0 };
-    if row < last { row + right } else { n }
+    n.min(row.saturating_add(right))
 }
 
 // The window of row i of a call with fixed windows over `len` places: 006's `det_offsets` or `det_offsets_center`. Past the last row
@@ -52,13 +43,14 @@ pub fn det_offsets(i: usize, window_size: usize, len: usize, center: bool) -> Of
     }
     let right = right_window(center, window_size);
     Offsets {
-        start: start_of(window_size - right, i),
+        start: i.saturating_sub(window_size - right),
         end: end_of(right, len, i),
     }
 }
 
 // The window of the row behind row i, from row i's own, where windows start `left` places before their own and there are `len` places. A
 // start of 2^64 - 1, which no row has, wraps where it moves: a test of it would cost every row.
+// Two returns stay: with an `if` for the start alone windows of a trace with a map take 1.03 times as long.
 pub fn next_offsets(i: usize, at: Offsets, left: usize, len: usize) -> Offsets
     ensures { StepsTo (next_offsets i (at.start, at.end) left len) result.start result.end }
 {
@@ -70,7 +62,7 @@ pub fn next_offsets(i: usize, at: Offsets, left: usize, len: usize) -> Offsets
         };
     }
     Offsets {
-        start: std::num::wrapping_add_usize(at.start, 1),
+        start: at.start.wrapping_add(1),
         end,
     }
 }

@@ -2,88 +2,70 @@
 // above share them: a check knows no list but the plan's, only the lengths of what is lent.
 #![tactic(auto)]
 
-ghost use Rattle.std.specs.Prelude.{◌≡◌, ◌*◌, min, nat_lt};
-ghost use Rattle.plan.specs.Plan.{planning};
-ghost use Rattle.plan.specs.Code.Accepted.{Checks, ChecksFixed};
+ghost use Rattle.std.specs.Prelude.{◌≡◌, ◌*◌, nat_lt};
+ghost use Rattle.trace.specs.Outcomes.{outcome_number};
+ghost use Rattle.plan.specs.Plan.{planned};
+ghost use Rattle.plan.specs.Code.Accepted.{ChecksPlan, ChecksWindows};
+
+use trace::Refusal;
 
 mod bounds;
 mod rows;
 
 pub use bounds::{Offsets, det_offsets, end_of, next_offsets, right_window};
-pub use rows::{place, row_refusal};
+pub use rows::check_row;
 
-// The number that refuses a call, or 0, and the widest window of a call that is accepted.
+// A list of windows: row i's holds places starts[i] up to but not including ends[i].
 #[derive(Clone, Copy)]
-pub struct Checked {
-    pub number: u32,
-    pub widest: usize,
-}
-
-// The shorter of two lists, by their lengths.
-pub fn shorter(a: usize, b: usize) -> usize
-    ensures { result ≡ min a b }
-{
-    if a < b { a } else { b }
+pub struct Plan<'a> {
+    pub starts: &'a [u32],
+    pub ends: &'a [u32],
 }
 
 // Whether the work slice is too short for so many places. A quotient is compared, since the product might wrap.
-fn too_little(work: usize, width: usize, widest: usize) -> bool
+fn is_too_little(work: usize, width: usize, widest: usize) -> bool
     ensures { result ≡ nat_lt work (width * widest) }
 {
-    if width == 0 {
-        return false;
-    }
-    work / width < widest
+    width != 0 && work / width < widest
 }
 
-// Whether a call with a plan over n places is accepted. `given` is the number of what the call is given, `short` says that a list of
-// readings is too short, `outputs` is the length of the shortest output list, and a place needs `width` doubles of the work slice.
-pub fn plan_refusal(
-    given: u32,
-    starts: &[u32],
-    ends: &[u32],
+// The widest window of a call with a plan over n places, or why it is refused. `given` is what is known of what the call is given, `short`
+// says that a list of readings is too short, `outputs` is the length of the shortest output list, and a place needs `width` doubles of the
+// work slice.
+pub fn check_plan(
+    given: Result<(), Refusal>,
+    plan: Plan,
     n: usize,
     short: bool,
     outputs: usize,
     width: usize,
     work: usize,
-) -> Checked
-    ensures { Checks given (planning starts ends) n short outputs width work result.number result.widest }
+) -> Result<usize, Refusal>
+    ensures { ChecksPlan (outcome_number given) (planned plan.entry) n short outputs width work result }
 {
-    let rows = starts.len();
-    let lists = trace::either(rows != ends.len(), rows > trace::MAX_READINGS);
-    let first = trace::first(given, trace::refuse(4, lists));
-    if first != 0 {
-        return Checked {
-            number: first,
-            widest: 0,
-        };
-    }
-    let scanned = rows::scan(n, starts, ends);
-    let outputs = trace::refuse(12, trace::either(short, outputs < rows));
-    let work = trace::refuse(13, too_little(work, width, scanned.widest));
-    Checked {
-        number: trace::first(trace::first(scanned.number, outputs), work),
-        widest: scanned.widest,
-    }
+    given?;
+    let rows = plan.starts.len();
+    Refusal::WrongLists.when((rows != plan.ends.len()) | (rows > trace::MAX_READINGS))?;
+    let widest = rows::scan(n, plan)?;
+    Refusal::OutputTooShort.when(short | (outputs < rows))?;
+    Refusal::WorkTooShort.when(is_too_little(work, width, widest))?;
+    Ok(widest)
 }
 
 // The same for fixed windows over n places, trailing or centred alike.
-pub fn fixed_refusal(
-    given: u32,
+pub fn check_fixed(
+    given: Result<(), Refusal>,
     n: usize,
     window_size: usize,
     outputs: usize,
     width: usize,
     work: usize,
-) -> Checked
-    ensures { ChecksFixed given n window_size outputs width work result.number result.widest }
+) -> Result<usize, Refusal>
+    ensures { ChecksWindows (outcome_number given) n window_size outputs width work result }
 {
-    let widest = shorter(window_size, n);
-    let outputs = trace::refuse(12, outputs < n);
-    let work = trace::refuse(13, too_little(work, width, widest));
-    Checked {
-        number: trace::first(trace::first(given, outputs), work),
-        widest,
-    }
+    given?;
+    Refusal::OutputTooShort.when(outputs < n)?;
+    let widest = window_size.min(n);
+    Refusal::WorkTooShort.when(is_too_little(work, width, widest))?;
+    Ok(widest)
 }

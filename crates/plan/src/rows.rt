@@ -1,125 +1,81 @@
 // What refuses the rows of a plan. Most plans are accepted: all rows are tested in one pass without a branch on a row, and only a
 // plan that fails a test is walked for its number.
 ghost use Rattle.std.specs.Prelude.{◌≡◌, length};
-ghost use Rattle.plan.specs.Plan.{planning};
+ghost use Rattle.trace.specs.Outcomes.{outcome_number};
+ghost use Rattle.plan.specs.Plan.{planned};
 ghost use Rattle.plan.specs.Refusals.{row_refusal};
-ghost use Rattle.plan.specs.Code.Accepted.{Scans, Testable, Tests};
+ghost use Rattle.plan.specs.Code.Accepted.{ScansRows, Testable, TestsRows, WidthOf};
 
-use crate::Checked;
+use crate::{Offsets, Plan};
+use trace::Refusal;
 
-// What refuses a row of a plan over n places after the row before: 5, 6, 7, or 0.
-pub fn row_refusal(
-    n: usize,
-    before_start: usize,
-    before_end: usize,
-    start: usize,
-    end: usize,
-) -> u32
-    ensures { result ≡ row_refusal n before_start before_end start end }
+// What refuses a row of a plan over n places after the row before.
+pub fn check_row(n: usize, before: Offsets, row: Offsets) -> Result<(), Refusal>
+    ensures { outcome_number result ≡ row_refusal n before.start before.end row.start row.end }
 {
-    if start > end {
-        return 5;
-    }
-    if end > n {
-        return 6;
-    }
-    if start < before_start {
-        return 7;
-    }
-    if end < before_end {
-        return 7;
-    }
-    0
+    Refusal::StartAboveEnd.when(row.start > row.end)?;
+    Refusal::EndPastTrace.when(row.end > n)?;
+    Refusal::BoundsFall.when((row.start < before.start) | (row.end < before.end))
 }
 
-// A row's bound as a place.
-pub fn place(bound: u32) -> usize
-    ensures { result ≡ bound }
-{
-    bound as usize
-}
-
-// The number of the first row that is refused, found row by row, and the widest window where none is. The row before is kept in
-// locals: each row is read once.
-fn first_refusal(n: usize, starts: &[u32], ends: &[u32]) -> Checked
-    requires { length starts.now ≡ length ends.now }
-    ensures { Scans n (planning starts ends) result.number result.widest }
+// The widest window, or what refuses the first row that is refused, found row by row.
+fn first_refusal(n: usize, plan: Plan) -> Result<usize, Refusal>
+    requires { length plan.starts.now ≡ length plan.ends.now }
+    ensures { ScansRows n (planned plan.entry) result }
 {
     let mut widest: usize = 0;
-    let mut before_start: usize = 0;
-    let mut before_end: usize = 0;
-    let mut row = 0;
-    while row < starts.len() {
-        let start = place(starts[row]);
-        let end = place(ends[row]);
-        let number = row_refusal(n, before_start, before_end, start, end);
-        if number != 0 {
-            return Checked { number, widest: 0 };
-        }
-        let wide = end - start;
-        widest = if widest < wide { wide } else { widest };
+    let mut before = Offsets { start: 0, end: 0 };
+    for (&start, &end) in plan.starts.iter().zip(plan.ends) {
+        let row = Offsets {
+            start: start as usize,
+            end: end as usize,
+        };
+        check_row(n, before, row)?;
+        widest = widest.max(row.end - row.start);
+        before = row;
+    }
+    Ok(widest)
+}
+
+// A row's width, which wraps where the row ends before it starts.
+fn width(start: u32, end: u32) -> u32
+    ensures { WidthOf start end result }
+{
+    end.wrapping_sub(start)
+}
+
+// The widest window, where no test of a row fails. The tests are without a branch on a row, so that several rows are tested at once: a row
+// is compared with the row before it, and its width kept, which wraps where it ends before it starts. Where no bound falls, the last ones
+// are the largest, so one test at the end tells for all rows whether they lie in the trace; and of rows that do, a width that wrapped is
+// wider than the trace.
+fn test_rows(n: u32, plan: Plan) -> Option<u32>
+    requires { Testable n plan.starts.now plan.ends.now }
+    ensures { TestsRows n (planned plan.entry) result }
+{
+    let mut falls = false;
+    let mut widest: u32 = 0;
+    let mut before_start: u32 = 0;
+    let mut before_end: u32 = 0;
+    for (&start, &end) in plan.starts.iter().zip(plan.ends) {
+        falls |= (start < before_start) | (end < before_end);
+        widest = widest.max(width(start, end));
         before_start = start;
         before_end = end;
-        row += 1;
     }
-    Checked { number: 0, widest }
-}
-
-// Whether a row of a plan is refused, and the widest window where none is.
-#[derive(Clone, Copy)]
-struct Tested {
-    refused: bool,
-    widest: u32,
-}
-
-// The rows' tests alone, without a branch on a row, so that several rows are tested at once. A row is compared with the row before it, and
-// its width kept, which wraps where it ends before it starts. Where no bound falls, the last ones are the largest, so one test at the end
-// tells for all rows whether they lie in the trace; and of rows that do, a width that wrapped is wider than the trace.
-fn test_rows(n: u32, starts: &[u32], ends: &[u32]) -> Tested
-    requires { Testable n starts.now ends.now }
-    ensures { Tests n (planning starts ends) result.refused result.widest }
-{
-    if starts.len() == 0 {
-        return Tested {
-            refused: false,
-            widest: 0,
-        };
-    }
-    let mut falls = false;
-    let mut widest = std::num::wrapping_sub_u32(ends[0], starts[0]);
-    let mut row = 1;
-    while row < starts.len() {
-        let start = starts[row];
-        let end = ends[row];
-        let before_start = starts[row - 1];
-        let before_end = ends[row - 1];
-        falls = falls | (start < before_start) | (end < before_end);
-        let wide = std::num::wrapping_sub_u32(end, start);
-        widest = if widest < wide { wide } else { widest };
-        row += 1;
-    }
-    let last = starts.len() - 1;
-    let past = (n < starts[last]) | (n < ends[last]) | (n < widest);
-    Tested {
-        refused: falls | past,
-        widest,
-    }
+    let past = (n < before_start) | (n < before_end) | (n < widest);
+    if falls | past { None } else { Some(widest) }
 }
 
 // The rows of a plan over n places. Bounds are of 32 bits, and so are those of a trace that is not too long.
-pub(crate) fn scan(n: usize, starts: &[u32], ends: &[u32]) -> Checked
-    requires { length starts.now ≡ length ends.now }
-    ensures { Scans n (planning starts ends) result.number result.widest }
+pub(crate) fn scan(n: usize, plan: Plan) -> Result<usize, Refusal>
+    requires { length plan.starts.now ≡ length plan.ends.now }
+    ensures { ScansRows n (planned plan.entry) result }
 {
     if n > trace::MAX_READINGS {
-        return first_refusal(n, starts, ends);
+        return first_refusal(n, plan);
     }
-    let tested = test_rows(n as u32, starts, ends);
-    if tested.refused {
-        return first_refusal(n, starts, ends);
-    }
-    Checked {
-        number: 0,
-        widest: place(tested.widest),
+    match test_rows(n as u32, plan) {
+        Some(widest) => Ok(widest as usize),
+        None => first_refusal(n, plan),
     }
 }

@@ -9,21 +9,12 @@ use native.Mathlib.Omega.{arith}
 use lib.Dec.{eqb, ltb}
 use lib.ListN.{length}
 use lib.Ieee.{Float}
-use borrow.Author.Tests.{ltb-true, lt-ltb, eqb-true, eqb-false, ne_eqb, not-true}
+use borrow.Author.Tests.{ltb-true, lt-ltb, eq-eqb, eqb-true, eqb-false, ne_eqb, not-true}
 use Rattle.float.specs.Bytes.{reading_at}
 use Rattle.float.proofs.Cases.{apart}
 use Rattle.trace.specs.Trace.{Trace, bytes_for}
-use Rattle.trace.specs.Refusals.{refusal, ◌or_else◌, wrong_map, trace_refusal, pair_refusal, range_refusal}
-use Rattle.moment.specs.declared.VarAnswer.TheVariants as var
-use Rattle.moment.specs.declared.CovAnswer.TheVariants as cov
-use Rattle.moment.specs.declared.PearsonAnswer.TheVariants as pearson
-use Rattle.moment.specs.declared.SkewAnswer.TheVariants as skew
-use Rattle.moment.specs.declared.KurtosisAnswer.TheVariants as kurtosis
-use Rattle.moment.specs.Skew.{skew_new}
-use Rattle.moment.specs.Kurtosis.{kurtosis_new}
-use Rattle.moment.specs.Arrays.{answer, var_whole, var_number, var_members, cov_whole, cov_number, cov_members, pearson_whole, pearson_number}
-use Rattle.moment.specs.Arrays.{pearson_members}
-use Rattle.moment.specs.Arrays.{skew_whole, skew_number, skew_members, kurtosis_whole, kurtosis_number, kurtosis_members}
+use Rattle.trace.specs.Refusals.{refusal, ◌or_else◌, wrong_map, trace_refusal, paired_refusal, range_refusal}
+use Rattle.moment.specs.Arrays.{State, Refused, answer, answer_number}
 use Rattle.plan.specs.Plan.{Plan, rows, row_start, row_end}
 use Rattle.plan.specs.Refusals.{row_refusal, before, rows_refusal, needed, plan_refusal, fixed_refusal}
 use Rattle.plan.proofs.Checks.{below_min}
@@ -38,7 +29,6 @@ use Rattle.weighted.specs.Weights.{weighted_at, weights_refusal, CalledWeights}
 use Rattle.moments.specs.HostCall.{ByteTrace, reading_count, Host, decoded_of, odd_bytes, ReadingLists, short_lists, decoded_list}
 use Rattle.moments.specs.HostCall.{decoded_lists, CalledBytes}
 use Rattle.moments.specs.Results.{StateResult}
-use Rattle.promises.specs.Calls.{readings_of, readings_in, pairs_of, var_list, skew_list, kurtosis_list, cov_list, pearson_list}
 use Rattle.promises.specs.DemandOne.{MapOfWrongLength, WrongLists, BelowRowBefore, SomeShorter, OutputShorter, Check, ◌when◌}
 use Rattle.promises.specs.DemandOne.{trace_checks, pair_checks, range_checks, given_checks, row_checks, rows_checks, planned_checks}
 use Rattle.promises.specs.DemandOne.{row_numbers, InOrder}
@@ -143,8 +133,7 @@ map_wrong_true t (e, h) = rw e (lt-ltb _ _ h)
 trace_says : (t : Trace) → Says (trace_checks t) (trace_refusal t)
 trace_says t = more 1 _ _ (some 0) next check 3 _ (some 2) (map_wrong t) (map_wrong_true t)
 
-pair_says : (x y : Trace)
-    → Says (pair_checks x y) (pair_refusal (length x.readings) x.mapped x.map (length y.readings) y.mapped y.map)
+pair_says : (x y : Trace) → Says (pair_checks x y) (paired_refusal x y)
 pair_says x y =
     check 1 _ (some 0) (either _ _ (ltb-true _ _) (ltb-true _ _)) (either_true _ _ (lt-ltb _ _) (lt-ltb _ _))
     next check 2 _ (some 1) (differ _ _) (differ_true _ _)
@@ -305,73 +294,29 @@ planned_order kind t n Short q l =
     (lists_order Short (WorkTooShort q l))
 
 -- ---- states
--- an answer that is a state or a refusal, by its definitions of number and members
-pub record Hands {S R : Type 0} (number_of : R → ℕ) (members_of : R → List Float → List Float) (state : S → R) (refused_by : ℕ → R)
-    (list : S → List Float) : Type 0 where
-  pub state_number : (s : S) → number_of (state s) ≡ 0
-  pub refused_number : (n : ℕ) → number_of (refused_by n) ≡ n
-  pub state_members : (s : S) (before : List Float) → members_of (state s) before ≡ list s
-  pub refused_members : (n : ℕ) (before : List Float) → members_of (refused_by n) before ≡ before
+module _ {S : Type 0} {list : S → List Float} (number : ℕ) (s : S) {before after : List Float} where
+  -- what a call answers is its number
+  pub number_of_lem : {r : ℕ} → StateResult list (answer number s) before r after → r ≡ number
+  unfolding answer
+  number_of_lem {r} c = go (eqb number 0) refl c.number
+    where
+      go : (b : Bool) → eqb number 0 ≡ b → r ≡ answer_number (cond b (State s) (Refused number)) → r ≡ number
+      go true e n = n ∙ sym (eqb-true number 0 e)
+      go false e n = n
 
--- an accepted call has the number 0, and leaves the state
-pub taken : {S R : Type 0} {number_of : R → ℕ} {members_of : R → List Float → List Float} {state : S → R} {refused_by : ℕ → R}
-    {list : S → List Float}
-    → Hands number_of members_of state refused_by list → (number : ℕ) (s : S) (before after : List Float)
-    → StateResult number_of members_of (answer state refused_by number s) before 0 after → (number ≡ 0) × (after ≡ list s)
-unfolding answer
-taken {number_of = number_of} {members_of} {state} {refused_by} {list} laws number s before after c = go (eqb number 0) refl c.number
-    c.state
-  where
-    go : (b : Bool) → eqb number 0 ≡ b → 0 ≡ number_of (cond b (state s) (refused_by number)) → after
-        ≡ members_of (cond b (state s) (refused_by number)) before
-        → (number ≡ 0) × (after ≡ list s)
-    go true e n m = (eqb-true number 0 e, m ∙ laws.state_members s before)
-    go false e n m = absurd (eqb-false number 0 e (sym (n ∙ laws.refused_number number)))
+  -- an accepted call has the number 0, and leaves the state
+  pub taken : {r : ℕ} → r ≡ 0 → StateResult list (answer number s) before r after → (number ≡ 0) × (after ≡ list s)
+  unfolding answer
+  taken z c = let e = sym (number_of_lem c) ∙ z in (e, rw (eq-eqb number 0 e) at c.state)
 
--- what a call answers is its number
-pub number_of_lem : {S R : Type 0} {number_of : R → ℕ} {members_of : R → List Float → List Float} {state : S → R} {refused_by : ℕ → R}
-    {list : S → List Float}
-    → Hands number_of members_of state refused_by list → (number : ℕ) (s : S) (before after : List Float) (r : ℕ)
-    → StateResult number_of members_of (answer state refused_by number s) before r after → r ≡ number
-unfolding answer
-number_of_lem {number_of = number_of} {state = state} {refused_by} laws number s before after r c = go (eqb number 0) refl c.number
-  where
-    go : (b : Bool) → eqb number 0 ≡ b → r ≡ number_of (cond b (state s) (refused_by number)) → r ≡ number
-    go true e n = n ∙ laws.state_number s ∙ sym (eqb-true number 0 e)
-    go false e n = n ∙ laws.refused_number number
+  -- a refused one leaves what was there before
+  left-before : {r : ℕ} → ¬ (r ≡ 0) → StateResult list (answer number s) before r after → after ≡ before
+  unfolding answer
+  left-before h c = rw (ne_eqb number 0 (λ z. h (number_of_lem c ∙ z))) at c.state
 
-handed : {S R : Type 0} {number_of : R → ℕ} {members_of : R → List Float → List Float} {state : S → R} {refused_by : ℕ → R}
-    {list : S → List Float}
-    → Hands number_of members_of state refused_by list → {checks : List Check} (number : ℕ) → Says checks number
-    → (s : S) (before after : List Float) (r : ℕ)
-    → StateResult number_of members_of (answer state refused_by number s) before r after → Answered checks r before after (after ≡ list s)
-unfolding answer
-handed {number_of = number_of} {members_of} {state} {refused_by} {list} laws {checks} number says s before after r c =
-    let z = number_of_lem laws number s before after r c in
-    answered (subst (Says checks) (sym z) says)
-    (λ e. (taken laws number s before after
-    (subst (λ (k : ℕ). StateResult number_of members_of (answer state refused_by number s) before k after) e c)).1)
-    (λ some. go (eqb number 0) refl z some c.state)
-  where
-    go : (b : Bool) → eqb number 0 ≡ b → r ≡ number → ¬ (r ≡ 0) → after ≡ members_of (cond b (state s) (refused_by number)) before
-        → after ≡ before
-    go true e z some m = absurd (some (z ∙ eqb-true number 0 e))
-    go false e z some m = m ∙ laws.refused_members number before
-
-pub var_hands : Hands var_number var_members var.State var.Refused var_list
-var_hands = record { state_number = λ s. refl; refused_number = λ n. refl; state_members = λ s b. refl; refused_members = λ n b. refl }
-
-pub skew_hands : Hands skew_number skew_members skew.State skew.Refused skew_list
-skew_hands = record { state_number = λ s. refl; refused_number = λ n. refl; state_members = λ s b. refl; refused_members = λ n b. refl }
-
-pub kurtosis_hands : Hands kurtosis_number kurtosis_members kurtosis.State kurtosis.Refused kurtosis_list
-kurtosis_hands = record { state_number = λ s. refl; refused_number = λ n. refl; state_members = λ s b. refl; refused_members = λ n b. refl }
-
-pub cov_hands : Hands cov_number cov_members cov.State cov.Refused cov_list
-cov_hands = record { state_number = λ s. refl; refused_number = λ n. refl; state_members = λ s b. refl; refused_members = λ n b. refl }
-
-pub pearson_hands : Hands pearson_number pearson_members pearson.State pearson.Refused pearson_list
-pearson_hands = record { state_number = λ s. refl; refused_number = λ n. refl; state_members = λ s b. refl; refused_members = λ n b. refl }
+  handed : {checks : List Check} → Says checks number → {r : ℕ} → StateResult list (answer number s) before r after
+      → Answered checks r before after (after ≡ list s)
+  handed {checks} says c = answered (subst (Says checks) (sym (number_of_lem c)) says) (λ z. (taken z c).1) (λ h. left-before h c)
 
 -- ---- windows
 plans : (q : Query) (t : GivenTo q) (l₀ l : Lent) (r : ℕ) → Called q t l₀ l r → Answered (plan_checks q t l₀) r l₀ l (Left q t l₀ l 0)
@@ -460,13 +405,13 @@ pub demand_one : DemandOne
 unfolding row_numbers
 demand_one =
     record {
-      var = λ t b a r c. handed var_hands (trace_refusal t) (trace_says t) (var_whole (readings_of t)) b a r c;
-      skew = λ t b a r c. handed skew_hands (trace_refusal t) (trace_says t) (skew_whole (readings_of t)) b a r c;
-      kurtosis = λ t b a r c. handed kurtosis_hands (trace_refusal t) (trace_says t) (kurtosis_whole (readings_of t)) b a r c;
-      cov = λ x y b a r c. handed cov_hands _ (pair_says x y) (cov_whole (pairs_of x y)) b a r c;
-      pearson = λ x y b a r c. handed pearson_hands _ (pair_says x y) (pearson_whole (pairs_of x y)) b a r c;
-      skew_range = λ t s n b a r c. handed skew_hands _ (range_says t s n) (skew_new (readings_in t s n)) b a r c;
-      kurtosis_range = λ t s n b a r c. handed kurtosis_hands _ (range_says t s n) (kurtosis_new (readings_in t s n)) b a r c;
+      var = λ t b a r c. handed _ _ (trace_says t) c;
+      skew = λ t b a r c. handed _ _ (trace_says t) c;
+      kurtosis = λ t b a r c. handed _ _ (trace_says t) c;
+      cov = λ x y b a r c. handed _ _ (pair_says x y) c;
+      pearson = λ x y b a r c. handed _ _ (pair_says x y) c;
+      skew_range = λ t s n b a r c. handed _ _ (range_says t s n) c;
+      kurtosis_range = λ t s n b a r c. handed _ _ (range_says t s n) c;
       plans = plans;
       hosts = hosts;
       fixed = fixed;

@@ -16,9 +16,9 @@ use Rattle.root.proofs.Rounding.{root_is_nearest}
 use Rattle.trace.specs.Trace.{Trace}
 use Rattle.trace.specs.Refusals.{trace_refusal}
 use Rattle.moment.specs.Var.{var_clear, var_combine, var_finalize}
-use Rattle.moment.specs.Skew.{skew_new, skew_clear, skew_combine, skew_biased, skew_finalize}
-use Rattle.moment.specs.Kurtosis.{kurtosis_new, kurtosis_clear, kurtosis_combine}
-use Rattle.moment.specs.Arrays.{var_whole, cov_whole, pearson_whole, skew_whole, kurtosis_whole}
+use Rattle.moment.specs.Skew.{skew_clear, skew_combine, skew_biased, skew_finalize}
+use Rattle.moment.specs.Kurtosis.{kurtosis_clear, kurtosis_combine}
+use Rattle.moment.specs.Arrays.{var_list, cov_list, pearson_list, skew_list, kurtosis_list}
 use Rattle.moment.specs.declared.Figure.{Figure}
 use Rattle.moment.proofs.Weights.{at_zero}
 use Rattle.plan.specs.Plan.{Plan, rows}
@@ -44,7 +44,6 @@ use Rattle.promises.specs.Rust.{Rust}
 use Rattle.promises.specs.SourceRows.{plan_row, row_of}
 use Rattle.promises.specs.SourceFixed.{fixed_row}
 use Rattle.promises.specs.SourceWeights.{rolling_var_weights}
-use Rattle.promises.specs.Calls.{readings_of, readings_in, pairs_of, var_list, skew_list, kurtosis_list, cov_list, pearson_list}
 use Rattle.promises.specs.Calls.{OfOneTrace, AcceptedCall, fixed_call}
 use Rattle.promises.specs.DemandTwo.{StatesEqual, ArraysEqual, RangesEqual, variance_moment, skew_moment, kurtosis_moment, source_rows}
 use Rattle.promises.specs.DemandTwo.{source_fixed_rows, RowsEqual, FixedRowsEqual, CorrectRoot, DemandTwo}
@@ -55,7 +54,7 @@ use Rattle.promises.proofs.SourceArrays.{var_array, skew_array, kurtosis_array, 
 use Rattle.promises.proofs.SourceRows.{Neutral, plan_row_lem}
 use Rattle.promises.proofs.SourceFixed.{fixed_row_lem}
 use Rattle.promises.proofs.SourceWeights.{weighted-row, weights_many}
-use Rattle.promises.proofs.DemandOne.{taken, var_hands, skew_hands, kurtosis_hands, cov_hands, pearson_hands}
+use Rattle.promises.proofs.DemandOne.{taken}
 use Rattle.promises.proofs.Accepted.{known, map_long, weights_row}
 
 zero-zero : eq zero64 zero64 ≡ true
@@ -91,27 +90,18 @@ states =
 arrays : ArraysEqual
 arrays =
     record {
-      var = λ rust t b a c. let k = taken var_hands (trace_refusal t) (var_whole (readings_of t)) b a c in k.1
-          ∙ ap var_list (sym (var_array rust t k.0));
-      skew = λ rust t b a c. let k = taken skew_hands (trace_refusal t) (skew_whole (readings_of t)) b a c in k.1
-          ∙ ap skew_list (sym (skew_array rust t k.0));
-      kurtosis = λ rust t b a c.
-          let k = taken kurtosis_hands (trace_refusal t) (kurtosis_whole (readings_of t)) b a c in k.1
-          ∙ ap kurtosis_list (sym (kurtosis_array rust t k.0));
-      cov = λ rust x y b a c. let k = taken cov_hands _ (cov_whole (pairs_of x y)) b a c in k.1
-          ∙ ap cov_list (sym (cov_array rust x y k.0));
-      pearson = λ rust x y b a c.
-          let k = taken pearson_hands _ (pearson_whole (pairs_of x y)) b a c in k.1 ∙ ap pearson_list (sym (pearson_array rust x y k.0));
+      var = λ rust t b a c. let k = taken _ _ refl c in k.1 ∙ ap var_list (sym (var_array rust t k.0));
+      skew = λ rust t b a c. let k = taken _ _ refl c in k.1 ∙ ap skew_list (sym (skew_array rust t k.0));
+      kurtosis = λ rust t b a c. let k = taken _ _ refl c in k.1 ∙ ap kurtosis_list (sym (kurtosis_array rust t k.0));
+      cov = λ rust x y b a c. let k = taken _ _ refl c in k.1 ∙ ap cov_list (sym (cov_array rust x y k.0));
+      pearson = λ rust x y b a c. let k = taken _ _ refl c in k.1 ∙ ap pearson_list (sym (pearson_array rust x y k.0));
     }
 
 ranges : RangesEqual
 ranges =
     record {
-      skew = λ rust t s n b a c. let k = taken skew_hands _ (skew_new (readings_in t s n)) b a c in k.1
-          ∙ ap skew_list (sym (skew_range_lem rust t s n k.0));
-      kurtosis = λ rust t s n b a c.
-          let k = taken kurtosis_hands _ (kurtosis_new (readings_in t s n)) b a c in k.1
-          ∙ ap kurtosis_list (sym (kurtosis_range_lem rust t s n k.0));
+      skew = λ rust t s n b a c. let k = taken _ _ refl c in k.1 ∙ ap skew_list (sym (skew_range_lem rust t s n k.0));
+      kurtosis = λ rust t s n b a c. let k = taken _ _ refl c in k.1 ∙ ap kurtosis_list (sym (kurtosis_range_lem rust t s n k.0));
     }
 
 -- ---- the rows of a driver over our moments

@@ -18,6 +18,7 @@ use Rattle.moment.specs.declared.pearson_state.PearsonState.{PearsonState}
 use Rattle.moment.specs.declared.skew_state.SkewState.{SkewState}
 use Rattle.moment.specs.declared.kurtosis_state.KurtosisState.{KurtosisState}
 use Rattle.moment.specs.declared.Figure.{Figure}
+use Rattle.moment.specs.Arrays.{var_list, cov_list, pearson_list, skew_list, kurtosis_list}
 use Rattle.plan.specs.Plan.{Plan, plan_of}
 use Rattle.window.specs.Window.{Moment}
 use Rattle.promises.specs.Rust.{some_rust, bitmap_of}
@@ -37,7 +38,6 @@ use Rattle.promises.specs.SourceWindow.{update_no_nulls, new_no_nulls, update_nu
 use Rattle.promises.specs.SourceRows.{Array, head_set, tail_set, create_validity, plan_row, offsets, rolling_no_nulls, rolling_nulls}
 use Rattle.promises.specs.SourceFixed.{offset_fn, fixed_row}
 use Rattle.promises.specs.SourceWeights.{weights_start, compute_var_weights, weighted_row, rolling_var_weights}
-use Rattle.promises.specs.Calls.{var_list, skew_list, kurtosis_list, cov_list, pearson_list}
 use Rattle.promises.specs.DemandTwo.{source_var, source_cov, source_skew_range, source_kurtosis_range, variance_moment}
 use Rattle.promises.specs.Table.{every, same, gives, infinite_mean}
 

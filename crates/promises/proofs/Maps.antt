@@ -8,13 +8,14 @@ use native.Mathlib.Omega.{arith}
 use lib.ListN.{length, take, drop, length-append, length-take, length-drop}
 use lib.Ieee.{Float}
 use Rattle.trace.specs.Trace.{Trace, bytes_for, valid_at, both_at}
-use Rattle.trace.specs.Refusals.{refusal, ◌or_else◌, wrong_map, trace_refusal, range_refusal}
+use Rattle.trace.specs.Refusals.{refusal, ◌or_else◌, wrong_map, trace_refusal, paired_refusal, range_refusal}
 use Rattle.trace.proofs.Maps.{valid_same, behind_unread}
 use Rattle.trace.proofs.Accepted.{pair_fits}
 use Rattle.moment.proofs.Pairs.{length-zip}
 use Rattle.moment.specs.Skew.{skew_new}
 use Rattle.moment.specs.Kurtosis.{kurtosis_new}
-use Rattle.moment.specs.Arrays.{answer, var_whole, cov_whole, pearson_whole, skew_whole, kurtosis_whole}
+use Rattle.moment.specs.Arrays.{answer, var_list, cov_list, pearson_list, skew_list, kurtosis_list}
+use Rattle.moment.specs.Arrays.{var_whole, cov_whole, pearson_whole, skew_whole, kurtosis_whole}
 use Rattle.plan.specs.Plan.{rows, row_start, row_end}
 use Rattle.plan.specs.Bounds.{bounds}
 use Rattle.plan.specs.Refusals.{fixed_refusal}
@@ -31,11 +32,9 @@ use Rattle.promises.specs.Calls.{readings_of, readings_in, pairs_of, AcceptedCal
 use Rattle.promises.specs.DemandThree.{Alike, Agree}
 use Rattle.promises.specs.Maps.{LongEnough, SameMaps, padded, SameGiven, SameHost, SameRoom, SameReadingRoom, SameAnswer}
 use Rattle.promises.specs.Maps.{SameColumns, OfTrace, OfPair, MapLaw}
-use Rattle.promises.proofs.SourceArrays.{pair_number}
 use Rattle.promises.proofs.Accepted.{known, weights_row}
 use Rattle.promises.proofs.TwoCalls.{alike_answers}
-use Rattle.promises.proofs.DemandOne.{map_wrong}
-use Rattle.promises.proofs.DemandOne.{Hands, number_of_lem, taken, var_hands, skew_hands, kurtosis_hands, cov_hands, pearson_hands}
+use Rattle.promises.proofs.DemandOne.{map_wrong, number_of_lem, taken}
 
 -- ---- maps that say the same
 right : (t : Trace) → LongEnough t → wrong_map (length t.readings) t.mapped t.map ≡ false
@@ -85,13 +84,13 @@ module _ {t t' : Trace} (s : SameMaps t t') where
       ∙ rw s.readings
 
 module _ {x y x' y' : Trace} (s : SameMaps x x') (u : SameMaps y y') where
-  pair-number : pair_number x y ≡ pair_number x' y'
+  pair-number : paired_refusal x y ≡ paired_refusal x' y'
   pair-number = rw (right x s.long, right x' s.long', right y u.long, right y' u.long', s.readings, u.readings)
 
-  same-pairs : pair_number x y ≡ 0 → pairs_of x y ≡ pairs_of x' y'
+  same-pairs : paired_refusal x y ≡ 0 → pairs_of x y ≡ pairs_of x' y'
   unfolding both_at
   same-pairs e =
-      let l = pair_fits (length x.readings) x.mapped x.map (length y.readings) y.mapped y.map (pair_number x y) refl e in
+      let l = pair_fits (length x.readings) x.mapped x.map (length y.readings) y.mapped y.map (paired_refusal x y) refl e in
       let z = length-zip x.readings y.readings l in
       valid_same (both_at x.mapped x.map y.mapped y.map) (both_at x'.mapped x'.map y'.mapped y'.map) 0
       (zip x.readings y.readings)
@@ -99,25 +98,22 @@ module _ {x y x' y' : Trace} (s : SameMaps x x') (u : SameMaps y y') where
       ∙ rw (s.readings, u.readings)
 
 -- ---- calls that hand out a state
-module _ {S R : Type 0} {number_of : R → ℕ} {members_of : R → List Float → List Float} {state : S → R} {refused_by : ℕ → R}
-    {list : S → List Float} (laws : Hands number_of members_of state refused_by list) where
+module _ {S : Type 0} (list : S → List Float) where
   -- a call that answers r, of a number and a state
   abbrev Gives : ℕ → S → List Float → ℕ → List Float → Type 0
-  Gives number s before r after = StateResult number_of members_of (answer state refused_by number s) before r after
+  Gives number s before r after = StateResult list (answer number s) before r after
 
   -- two calls of the same number and, if that is 0, of the same state
   handed-same : {number number' : ℕ} {s s' : S} {before after before' after' : List Float} {r r' : ℕ}
       → number ≡ number' → (number ≡ 0 → s ≡ s') → Gives number s before r after → Gives number' s' before' r' after'
       → SameAnswer r r' (after ≡ after')
-  handed-same {number} {number'} {s} {s'} {before} {after} {before'} {after'} {r} {r'} e f c c' =
-      let n = number_of_lem laws number s before after r c in
-      let n' = number_of_lem laws number' s' before' after' r' c' in
-      let same : r ≡ r' = n ∙ e ∙ sym n' in
+  handed-same e f c c' =
+      let same = number_of_lem _ _ c ∙ e ∙ sym (number_of_lem _ _ c') in
       record {
         number = same;
         answer = λ z.
-            let a = taken laws number s before after (subst (λ (k : ℕ). Gives number s before k after) z c) in
-            let a' = taken laws number' s' before' after' (subst (λ (k : ℕ). Gives number' s' before' k after') (sym same ∙ z) c') in
+            let a = taken _ _ z c in
+            let a' = taken _ _ (sym same ∙ z) c' in
             a.1 ∙ ap list (f a.0) ∙ sym a'.1;
       }
 
@@ -130,7 +126,7 @@ module _ {S R : Type 0} {number_of : R → ℕ} {members_of : R → List Float �
       handed-same (range-number s start len) (λ e. ap new (same-range s start len)) c c'
 
   of_pair : (new : List (Float × Float) → S)
-      → OfPair (λ x y before after r. Gives (pair_number x y) (new (pairs_of x y)) before r after)
+      → OfPair (λ x y before after r. Gives (paired_refusal x y) (new (pairs_of x y)) before r after)
   of_pair new x y x' y' s u before after before' after' r r' c c' =
       handed-same (pair-number s u) (λ e. ap new (same-pairs s u e)) c c'
 
@@ -226,13 +222,13 @@ pub map_law : MapLaw
 map_law =
     record {
       behind = behind;
-      var = of-trace var_hands var_whole;
-      skew = of-trace skew_hands skew_whole;
-      kurtosis = of-trace kurtosis_hands kurtosis_whole;
-      cov = of_pair cov_hands cov_whole;
-      pearson = of_pair pearson_hands pearson_whole;
-      skew_range = of_range skew_hands skew_new;
-      kurtosis_range = of_range kurtosis_hands kurtosis_new;
+      var = of-trace var_list var_whole;
+      skew = of-trace skew_list skew_whole;
+      kurtosis = of-trace kurtosis_list kurtosis_whole;
+      cov = of_pair cov_list cov_whole;
+      pearson = of_pair pearson_list pearson_whole;
+      skew_range = of_range skew_list skew_new;
+      kurtosis_range = of_range kurtosis_list kurtosis_new;
       plans = λ q t t' s l₀ l l₀' l' room r r' c c'.
           let e : r ≡ r' = c.number_is ∙ planned_number q t t' s false false refl l₀ l₀' room ∙ sym c'.number_is in
           record {

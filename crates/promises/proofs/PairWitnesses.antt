@@ -18,6 +18,7 @@ use Rattle.trace.specs.Refusals.{refusal, ◌or_else◌, wrong_map}
 use Rattle.moment.specs.declared.cov_state.CovState.{CovState}
 use Rattle.moment.specs.Cov.{cov_empty, cov_new, cov_combine, cov_finalize}
 use Rattle.moment.specs.Pearson.{pearson_empty, pearson_new, pearson_combine, pearson_finalize}
+use Rattle.moment.specs.Arrays.{cov_list, pearson_list}
 use Rattle.plan.specs.Plan.{Plan, plan_of, rows, row_start, row_end}
 use Rattle.plan.specs.Bounds.{bounds}
 use Rattle.plan.specs.Refusals.{plan_refusal, fixed_refusal}
@@ -32,7 +33,7 @@ use Rattle.rolling.specs.Moments.{Covariance, Correlation, covariance, correlati
 use Rattle.rolling.specs.Calls.{Query, query, Called}
 use Rattle.rolling.specs.Fixed.{CalledFixed}
 use Rattle.moments.specs.HostCall.{Host, CalledBytes}
-use Rattle.promises.specs.Calls.{figures_in, cov_list, pearson_list, AcceptedCall, plan_call, host_call, fixed_call}
+use Rattle.promises.specs.Calls.{figures_in, AcceptedCall, plan_call, host_call, fixed_call}
 use Rattle.promises.specs.DemandOne.{plan_checks, host_checks, fixed_checks, rows_checks, FirstApplies, Answered, HostLeft}
 use Rattle.promises.specs.DemandThree.{Alike, Agree, SomeNotFinite}
 use Rattle.promises.specs.TwoTraces.{PairFigureIn, PairYielded}

@@ -7,11 +7,11 @@ use lib.Ieee.{Float, nan, of_bits, of_int, add, sub, mul, div, eq}
 use Rattle.float.specs.Operators.{of_nat64}
 use Rattle.moment.specs.Skew.{skew_clear, skew_combine}
 use Rattle.moment.specs.Kurtosis.{kurtosis_clear, kurtosis_combine}
+use Rattle.moment.specs.Arrays.{skew_list, kurtosis_list}
 use Rattle.window.specs.Histories.{History, empty, inserted, combined, after}
 use Rattle.window.proofs.Related.{itself, histories}
 use Rattle.rolling.specs.Moments.{skewness, kurtosis}
 use Rattle.rolling.proofs.SkewInKurtosis.{keeps_skewness}
-use Rattle.promises.specs.Calls.{skew_list, kurtosis_list}
 use Rattle.promises.specs.SkewInKurtosis.{SameAfter, SkewInKurtosis}
 
 pub skew_in_kurtosis : SkewInKurtosis

@@ -18,7 +18,7 @@ use lib.Ieee.{Float}
 use Rattle.float.proofs.Tables.{table_same}
 use Rattle.float.proofs.Cases.{Or, here, there, order}
 use Rattle.trace.specs.Trace.{Trace, bytes_for, valid_at, both_at, valid_from, valid_readings, valid_pairs}
-use Rattle.trace.specs.Refusals.{refusal, ◌or_else◌, too_many, wrong_map, trace_refusal, pair_refusal, range_refusal}
+use Rattle.trace.specs.Refusals.{refusal, ◌or_else◌, too_many, wrong_map, trace_refusal, paired_refusal, range_refusal}
 use Rattle.trace.proofs.Accepted.{none_of, not_refused_lem, range_fits_lem, pair_fits}
 use Rattle.trace.proofs.Maps.{none_missing_lem}
 use Rattle.moment.specs.Sums.{first_of, second_of}
@@ -341,10 +341,6 @@ kurtosis_array rust t e =
     ∙ chunks_same KurtosisState-new kurtosis_new KurtosisState-combine kurtosis_combine kurtosis_empty kurtosis_new_lem kurtosis_combine_lem _
 
 -- ---- two arrays
--- the number of two traces
-abbrev pub pair_number : Trace → Trace → ℕ
-pair_number x y = pair_refusal (length x.readings) x.mapped x.map (length y.readings) y.mapped y.map
-
 -- a trace that neither number fits is accepted
 accepted : (t : Trace) → too_many (length t.readings) ≡ false → wrong_map (length t.readings) t.mapped t.map ≡ false
     → trace_refusal t ≡ 0
@@ -352,7 +348,7 @@ unfolding refusal ◌or_else◌
 accepted t m w = rw (m, w)
 
 -- of an accepted pair each is accepted
-pair_accepted : (x y : Trace) → pair_number x y ≡ 0 → (trace_refusal x ≡ 0) × (trace_refusal y ≡ 0)
+pair_accepted : (x y : Trace) → paired_refusal x y ≡ 0 → (trace_refusal x ≡ 0) × (trace_refusal y ≡ 0)
 pair_accepted x y e =
     let a = none_of _ _ e in
     let b = none_of _ _ a.0 in
@@ -387,7 +383,7 @@ pairs_all x y l m n =
 
 -- of any state
 pair_arrays_lem : {S : Type 0} (new : List Float → List Float → S) (combine : S → S → S) (empty : S) (rust : Rust) (x y : Trace)
-    → pair_number x y ≡ 0
+    → paired_refusal x y ≡ 0
     → pair_arrays new combine empty (array_of rust x) (array_of rust y) ≡ in_chunks (of_pairs new) combine empty (both_of x y)
 unfolding pair_arrays
 pair_arrays_lem {S} new combine empty rust x y e =
@@ -405,13 +401,13 @@ pair_arrays_lem {S} new combine empty rust x y e =
     by true f a = source-in-pairs new combine empty _ ∙ ap (in_chunks (of_pairs new) combine empty) (pairs_kept_lem rust x y a.0 a.1)
     by false f a =
         let n = f refl in
-        let l = pair_fits (length x.readings) x.mapped x.map (length y.readings) y.mapped y.map (pair_number x y) refl e in
+        let l = pair_fits (length x.readings) x.mapped x.map (length y.readings) y.mapped y.map (paired_refusal x y) refl e in
         source-in-pairs new combine empty _
         ∙ ap (in_chunks (of_pairs new) combine empty)
         (sym (pairs_all x y l ((has_nulls_lem rust x a.0).0 n.0) ((has_nulls_lem rust y a.1).0 n.1)))
 
 pub cov_array : (rust : Rust) (x y : Trace)
-    → pair_refusal (length x.readings) x.mapped x.map (length y.readings) y.mapped y.map ≡ 0
+    → paired_refusal x y ≡ 0
     → pair_arrays CovState-new CovState-combine CovState-default (array_of rust x) (array_of rust y)
     ≡ cov_whole (valid_pairs x.mapped x.map x.readings y.mapped y.map y.readings)
 cov_array rust x y e =
@@ -419,7 +415,7 @@ cov_array rust x y e =
     ∙ chunks_same (of_pairs CovState-new) cov_new CovState-combine cov_combine cov_empty cov_new_lem cov_combine_lem _
 
 pub pearson_array : (rust : Rust) (x y : Trace)
-    → pair_refusal (length x.readings) x.mapped x.map (length y.readings) y.mapped y.map ≡ 0
+    → paired_refusal x y ≡ 0
     → pair_arrays PearsonState-new PearsonState-combine PearsonState-default (array_of rust x) (array_of rust y)
     ≡ pearson_whole (valid_pairs x.mapped x.map x.readings y.mapped y.map y.readings)
 pearson_array rust x y e =

@@ -1,16 +1,9 @@
 -- The kinds of call that the demands speak of, each by the contract of its entries: what it answers and what it leaves in what it is lent.
 -- A contract is on all inputs; a call is accepted where its number is 0. Assumes nothing.
-use Rattle.std.specs.Prelude.{ℕ, Bool, List, [], ◌∷◌, Float, length, take, drop}
+use Rattle.std.specs.Prelude.{ℕ, Bool, List, Float, length, take, drop}
 use Rattle.trace.specs.Trace.{Trace, valid_readings, valid_pairs}
-use Rattle.moment.specs.declared.var_state.VarState.{VarState}
-use Rattle.moment.specs.declared.cov_state.CovState.{CovState}
-use Rattle.moment.specs.declared.pearson_state.PearsonState.{PearsonState}
-use Rattle.moment.specs.declared.skew_state.SkewState.{SkewState}
-use Rattle.moment.specs.declared.kurtosis_state.KurtosisState.{KurtosisState}
-use Rattle.moment.specs.Arrays.{var_answer, var_number, var_members, cov_answer, cov_number, cov_members, pearson_answer, pearson_number}
-use Rattle.moment.specs.Arrays.{pearson_members}
-use Rattle.moment.specs.Arrays.{skew_answer, skew_range, skew_number, skew_members, kurtosis_answer, kurtosis_range, kurtosis_number}
-use Rattle.moment.specs.Arrays.{kurtosis_members, range_readings}
+use Rattle.moment.specs.Arrays.{var_list, cov_list, pearson_list, skew_list, kurtosis_list, range_readings}
+use Rattle.moment.specs.Arrays.{var_answer, cov_answer, pearson_answer, skew_answer, skew_range, kurtosis_answer, kurtosis_range}
 use Rattle.window.specs.Given.{Given}
 use Rattle.window.specs.Outputs.{Lent, Answer, answers_in}
 use Rattle.rolling.specs.Moments.{Statistic, Variance, Skewness, Kurtosis, Covariance, Correlation, kind_of, finals_of}
@@ -22,37 +15,31 @@ use Rattle.moments.specs.Results.{StateResult}
 -- ---- whole arrays and ranges: `before` and `after` are the members that the lent state holds, r is what the call answers
 -- `moments_var`
 abbrev pub CallsVar : Trace → List Float → List Float → ℕ → Type 0
-CallsVar t before after r = StateResult var_number var_members (var_answer t.readings t.mapped t.map) before r after
+CallsVar t before after r = StateResult var_list (var_answer t) before r after
 
 -- `moments_skew`
 abbrev pub CallsSkew : Trace → List Float → List Float → ℕ → Type 0
-CallsSkew t before after r = StateResult skew_number skew_members (skew_answer t.readings t.mapped t.map) before r after
+CallsSkew t before after r = StateResult skew_list (skew_answer t) before r after
 
 -- `moments_kurtosis`
 abbrev pub CallsKurtosis : Trace → List Float → List Float → ℕ → Type 0
-CallsKurtosis t before after r = StateResult kurtosis_number kurtosis_members
-    (kurtosis_answer t.readings t.mapped t.map) before r after
+CallsKurtosis t before after r = StateResult kurtosis_list (kurtosis_answer t) before r after
 
 -- `moments_cov`
 abbrev pub CallsCov : Trace → Trace → List Float → List Float → ℕ → Type 0
-CallsCov x y before after r =
-    StateResult cov_number cov_members (cov_answer x.readings x.mapped x.map y.readings y.mapped y.map) before r after
+CallsCov x y before after r = StateResult cov_list (cov_answer x y) before r after
 
 -- `moments_pearson_corr`
 abbrev pub CallsPearson : Trace → Trace → List Float → List Float → ℕ → Type 0
-CallsPearson x y before after r =
-    StateResult pearson_number pearson_members
-    (pearson_answer x.readings x.mapped x.map y.readings y.mapped y.map) before r after
+CallsPearson x y before after r = StateResult pearson_list (pearson_answer x y) before r after
 
 -- `moments_skew_range`
 abbrev pub CallsSkewRange : Trace → ℕ → ℕ → List Float → List Float → ℕ → Type 0
-CallsSkewRange t start len before after r =
-    StateResult skew_number skew_members (skew_range t.readings t.mapped t.map start len) before r after
+CallsSkewRange t start len before after r = StateResult skew_list (skew_range t start len) before r after
 
 -- `moments_kurtosis_range`
 abbrev pub CallsKurtosisRange : Trace → ℕ → ℕ → List Float → List Float → ℕ → Type 0
-CallsKurtosisRange t start len before after r =
-    StateResult kurtosis_number kurtosis_members (kurtosis_range t.readings t.mapped t.map start len) before r after
+CallsKurtosisRange t start len before after r = StateResult kurtosis_list (kurtosis_range t start len) before r after
 
 -- the valid readings of a trace and of a range of it, and the valid pairs of two traces
 abbrev pub readings_of : Trace → List Float
@@ -63,22 +50,6 @@ readings_in t start len = range_readings t.mapped t.map t.readings start len
 
 abbrev pub pairs_of : Trace → Trace → List (Float × Float)
 pairs_of x y = valid_pairs x.mapped x.map x.readings y.mapped y.map y.readings
-
--- a state's members, in the order of the source's struct
-abbrev pub var_list : VarState → List Float
-var_list s = s.weight ∷ s.mean ∷ s.dp ∷ []
-
-abbrev pub skew_list : SkewState → List Float
-skew_list s = s.weight ∷ s.mean ∷ s.m2 ∷ s.m3 ∷ []
-
-abbrev pub kurtosis_list : KurtosisState → List Float
-kurtosis_list s = s.weight ∷ s.mean ∷ s.m2 ∷ s.m3 ∷ s.m4 ∷ []
-
-abbrev pub cov_list : CovState → List Float
-cov_list s = s.weight ∷ s.mean_x ∷ s.mean_y ∷ s.dp_xy ∷ []
-
-abbrev pub pearson_list : PearsonState → List Float
-pearson_list s = s.weight ∷ s.mean_x ∷ s.mean_y ∷ s.dp_xx ∷ s.dp_xy ∷ s.dp_yy ∷ []
 
 -- ---- windows
 -- "be it variance, skewness or kurtosis": the figures of one trace, of which document 01 speaks, and whose rows the Rust has

@@ -8,6 +8,7 @@ use Rattle.trace.specs.Trace.{Trace, bytes_for}
 use Rattle.moment.specs.declared.Figure.{Figure}
 use Rattle.moment.specs.Skew.{skew_new}
 use Rattle.moment.specs.Kurtosis.{kurtosis_new}
+use Rattle.moment.specs.Arrays.{var_list, cov_list, pearson_list, skew_list, kurtosis_list}
 use Rattle.moment.specs.Arrays.{var_whole, cov_whole, pearson_whole, skew_whole, kurtosis_whole}
 use Rattle.plan.specs.Plan.{Plan, rows, row_start, row_end}
 use Rattle.plan.specs.Refusals.{needed}
@@ -20,7 +21,7 @@ use Rattle.weighted.specs.Weights.{total_of, weighted_at, CalledWeights}
 use Rattle.moments.specs.HostCall.{ByteTrace, reading_count, Host, decoded_of, ReadingLists, decoded_lists, CalledBytes}
 use Rattle.moments.specs.Results.{FigureResult}
 use Rattle.promises.specs.Calls.{CallsVar, CallsSkew, CallsKurtosis, CallsCov, CallsPearson, CallsSkewRange, CallsKurtosisRange}
-use Rattle.promises.specs.Calls.{readings_of, pairs_of, readings_in, var_list, skew_list, kurtosis_list, cov_list, pearson_list}
+use Rattle.promises.specs.Calls.{readings_of, pairs_of, readings_in}
 
 -- ---- when a number applies
 -- "The sender of a trace: 1 more than 16,777,216 readings"

@@ -19,6 +19,7 @@ use Rattle.moment.specs.Cov.{cov_insert, cov_combine, cov_finalize}
 use Rattle.moment.specs.Pearson.{pearson_insert, pearson_combine, pearson_finalize}
 use Rattle.moment.specs.Skew.{skew_insert, skew_combine, skew_finalize}
 use Rattle.moment.specs.Kurtosis.{kurtosis_insert, kurtosis_combine, kurtosis_finalize}
+use Rattle.moment.specs.Arrays.{var_list, cov_list, pearson_list, skew_list, kurtosis_list}
 use Rattle.plan.specs.Plan.{Plan, rows}
 use Rattle.window.specs.Window.{Moment}
 use Rattle.window.specs.Given.{Given, places_of}
@@ -41,7 +42,7 @@ use Rattle.promises.specs.SourceRows.{plan_row, row_of}
 use Rattle.promises.specs.SourceFixed.{fixed_row}
 use Rattle.promises.specs.SourceWeights.{rolling_var_weights}
 use Rattle.promises.specs.Calls.{CallsVar, CallsSkew, CallsKurtosis, CallsCov, CallsPearson, CallsSkewRange, CallsKurtosisRange}
-use Rattle.promises.specs.Calls.{var_list, skew_list, kurtosis_list, cov_list, pearson_list, OfOneTrace, figures_in, AcceptedCall}
+use Rattle.promises.specs.Calls.{OfOneTrace, figures_in, AcceptedCall}
 
 -- ---- states
 -- "every state .. equals the Rust's": each method that a host can call, of any set of floats

@@ -19,8 +19,8 @@ use Rattle.moment.specs.Var.{var_empty, var_insert, var_combine, var_finalize}
 use Rattle.moment.specs.Pearson.{pearson_finalize}
 use Rattle.moment.specs.Skew.{skew_finalize}
 use Rattle.moment.specs.Kurtosis.{kurtosis_finalize}
-use Rattle.moment.specs.Arrays.{pearson_answer, pearson_number, pearson_members, skew_range, skew_number, skew_members}
-use Rattle.moment.specs.Arrays.{kurtosis_range, kurtosis_number, kurtosis_members}
+use Rattle.moment.specs.Arrays.{answer_number, answer_members, pearson_list, pearson_answer, skew_list, skew_range}
+use Rattle.moment.specs.Arrays.{kurtosis_list, kurtosis_range}
 use Rattle.plan.specs.Plan.{Plan, plan_of, rows}
 use Rattle.plan.specs.Refusals.{needed, plan_refusal}
 use Rattle.rolling.specs.Moments.{Variance, work_width}
@@ -81,25 +81,25 @@ infinite_mean = record { weight = one64; mean = inf false; dp = zero64 }
 -- two traces without maps: the call is accepted, and the state that it leaves gives the correlation, as the Rust's does
 abbrev pub pearson_gives : List Float → List Float → Float → Bool
 pearson_gives xs ys r =
-    let a = pearson_answer xs false [] ys false [] in
-    eqb (pearson_number a) 0
-    && same (pearson_finalize (pearson_of (pearson_members a []))) r
+    let a = pearson_answer (trace_of xs false []) (trace_of ys false []) in
+    eqb (answer_number a) 0
+    && same (pearson_finalize (pearson_of (answer_members pearson_list a []))) r
     && same (PearsonState-finalize (pearson_of (source_pearson some_rust (trace_of xs false []) (trace_of ys false [])))) r
 
 -- a trace without a map as one range: the call is accepted, and the state that it leaves gives the biased skewness, as the Rust's does
 abbrev pub skew_gives : List Float → Float → Bool
 skew_gives xs x =
-    let a = skew_range xs false [] 0 (length xs) in
-    eqb (skew_number a) 0
-    && gives (skew_finalize (skew_of (skew_members a [])) true) 1 x
+    let a = skew_range (trace_of xs false []) 0 (length xs) in
+    eqb (answer_number a) 0
+    && gives (skew_finalize (skew_of (answer_members skew_list a [])) true) 1 x
     && gives (SkewState-finalize (skew_of (source_skew_range some_rust (trace_of xs false []) 0 (length xs))) true) 1 x
 
 -- the same of biased kurtosis
 abbrev pub kurtosis_gives : List Float → Bool → Float → Bool
 kurtosis_gives xs fisher x =
-    let a = kurtosis_range xs false [] 0 (length xs) in
-    eqb (kurtosis_number a) 0
-    && gives (kurtosis_finalize (kurtosis_of (kurtosis_members a [])) fisher true) 1 x
+    let a = kurtosis_range (trace_of xs false []) 0 (length xs) in
+    eqb (answer_number a) 0
+    && gives (kurtosis_finalize (kurtosis_of (answer_members kurtosis_list a [])) fisher true) 1 x
     && gives (KurtosisState-finalize (kurtosis_of (source_kurtosis_range some_rust (trace_of xs false []) 0 (length xs))) fisher true) 1 x
 
 -- ---- rows

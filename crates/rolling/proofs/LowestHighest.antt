@@ -1,29 +1,33 @@
--- What the stacks of variance keep is the variance of readings with zeros for those that are not finite, and their lowest and highest:
--- by the
--- laws of what two moments keep alike and of numbers that readings widen. Assumes nothing.
-use Rattle.std.proofs.Common.{◌≡◌, ℕ, Bool, true, false, cond, eqb, List, refl, ap, ◌∙◌, arith, eq-eqb, ne_eqb}
-use lib.Ieee.{Float, nan, inf, fin, lt}
+-- What the stacks of variance keep is the variance of readings with zeros for those that are not finite, and their lowest and highest: by
+-- the laws of what two moments keep alike and of numbers that readings widen. Assumes nothing.
+use Rattle.std.proofs.Common.{◌≡◌, ℕ, ◌+◌, ◌*◌, ◌^◌, ◌≤◌, length, Bool, true, false, cond, List, refl, ap, ◌∙◌}
+use lib.Ieee.{Float, inf}
+use Rattle.float.specs.Operators.{of_nat64}
+use Rattle.float.proofs.Counts.{zero_is}
 use Rattle.float.proofs.Ordering.{Orders, lower_orders, higher_orders}
 use Rattle.trace.specs.Trace.{trace_of}
-use Rattle.moment.specs.Var.{var_insert, var_merged, var_combine, var_finalize}
-use Rattle.moment.proofs.Weights.{var_by_counts}
+use Rattle.moment.specs.Var.{var_insert, var_combine, var_finalize}
+use Rattle.moment.proofs.Weights.{raising, var_raises}
 use Rattle.moment.specs.declared.Figure.{Figure}
 use Rattle.moment.specs.declared.Figure.TheVariants.{Missing}
 use Rattle.moment.specs.declared.var_state.VarState.{VarState}
 use Rattle.plan.specs.Plan.{Plan, row_start, row_end}
+use Rattle.window.specs.Places.{Series}
 use Rattle.window.specs.Window.{as_nan}
 use Rattle.window.specs.Readings.{places_by, series, reading_of, inserted_at}
 use Rattle.window.specs.Rows.{answer_at}
-use Rattle.window.specs.Extremes.{lower, higher, further, short_row, extreme_at}
-use Rattle.window.specs.Code.Stacks.{top_of, state_by, Stepped}
+use Rattle.window.specs.Extremes.{lower, higher, short_row, extreme_at}
+use Rattle.window.specs.Code.Memory.{reading}
+use Rattle.window.specs.Code.Stacks.{state_by, Stepped, Held}
 use Rattle.window.specs.Code.Widening.{raw_series, inserting, shown}
 use Rattle.window.specs.declared.Window.{Window}
 use Rattle.window.proofs.Related.{Related, related-rows}
 use Rattle.window.proofs.Extremes.{Keeps, step-extreme}
 use Rattle.rolling.specs.Moments.{variance}
-use Rattle.rolling.specs.Code.Extremes.{extremes_merged, variance_extremes}
-use Rattle.rolling.specs.Code.Layouts.{var_states, var_stored}
-use Rattle.rolling.specs.Code.Weighed.{var_weight, Weighed}
+use Rattle.rolling.specs.Code.Ops.{ops_of, CanTotal}
+use Rattle.rolling.specs.Code.Extremes.{variance_extremes, var_weight}
+use Rattle.rolling.specs.Code.Layouts.{var_layout, var_stored}
+use Rattle.rolling.proofs.Counts.{can-total}
 use Rattle.rolling.specs.declared.extremes.VarExtremes.{VarExtremes}
 
 -- ---- the variance
@@ -44,47 +48,6 @@ variance_row ddof has map values min_periods p k =
     related-rows keeps_variance (places_by has map values) (reading_of values) (inserted_at values) (λ i v. refl) (λ n. tt)
     (λ f g. f ≡ g) refl (λ x y e. ap as_nan e) (λ z. var_finalize z.var ddof) (λ z. var_finalize z ddof)
     (λ n s s' e. ap (λ (z : VarState). var_finalize z ddof) e) min_periods p k
-
--- ---- two states in one, where the count tells whether the other has readings
-not_beyond_lowest : (x : Float) → lower (inf false) x ≡ false
-unfolding lt
-not_beyond_lowest nan = refl
-not_beyond_lowest (inf s) = refl
-not_beyond_lowest (fin s m e) = refl
-
-not_beyond_highest : (x : Float) → higher (inf true) x ≡ false
-unfolding lt
-not_beyond_highest nan = refl
-not_beyond_highest (inf true) = refl
-not_beyond_highest (inf false) = refl
-not_beyond_highest (fin s m e) = refl
-
-module _ (w : Window) (agg : VarExtremes) (work : List Float) (q : Weighed var_states var_weight w agg work) where
-  counts : var_combine agg.var (top_of var_stored work w.front).var ≡ cond (eqb w.front 0) agg.var (var_merged agg.var
-      (top_of var_stored work w.front).var)
-  counts = let h = q.few in var_by_counts agg.var _ w.back w.front (omega arith) q.back_is q.front_is
-
-  pub extremes-alone : w.front ≡ 0 → state_by var_stored w agg work ≡ agg
-  unfolding top_of
-  extremes-alone z =
-      let e = eq-eqb w.front 0 z in
-      let c : var_combine agg.var (top_of var_stored work w.front).var ≡ agg.var = counts ∙ rw e in
-      let l : further lower agg.lowest (top_of var_stored work w.front).lowest ≡ agg.lowest = rw e (rw (not_beyond_lowest
-      agg.lowest)) in
-      let h : further higher agg.highest (top_of var_stored work w.front).highest ≡ agg.highest = rw e (rw (not_beyond_highest
-      agg.highest)) in
-      λ j. record { var = c j; lowest = l j; highest = h j }
-
-  pub extremes-both : (w.front ≡ 0 → ⊥) → state_by var_stored w agg work ≡ extremes_merged agg (top_of var_stored work w.front)
-  extremes-both z =
-      let c : var_combine agg.var (top_of var_stored work w.front).var ≡ var_merged agg.var (top_of var_stored work w.front).var =
-      counts ∙ rw (ne_eqb w.front 0 z) in
-      λ j.
-      record {
-        var = c j;
-        lowest = further lower agg.lowest (top_of var_stored work w.front).lowest;
-        highest = further higher agg.highest (top_of var_stored work w.front).highest;
-      }
 
 -- ---- the lowest and the highest
 abbrev keeps_lowest : Keeps lower (inf false) lower_orders variance_extremes
@@ -113,3 +76,11 @@ module _ (has : Bool) (map : List ℕ) (values : List Float) (min_periods widest
 
   pub highest-row : x ≡ cond short Missing (shown state.highest) → x ≡ extreme_at higher (trace_of values has map) min_periods p k
   highest-row g = extreme-row higher (inf true) higher_orders keeps_highest g
+
+-- the weights of a window's two states count its readings, so they may be combined
+pub extremes_total : {t : Series Float} {base : ℕ} {w : Window} {agg : VarExtremes} {work : List Float} → Held var_stored t base w agg work
+    → 5 * w.front ≤ length work → w.front + w.back ≤ 2 ^ 53
+    → CanTotal reading var_layout (ops_of variance_extremes) (λ s n. var_weight s ≡ of_nat64 n) w agg work
+extremes_total held o h =
+    can-total (ops_of variance_extremes) (λ s n. var_weight s ≡ of_nat64 n) zero_is
+    (raising var_weight variance_extremes.insert (λ s x. var_raises s.var (inserting x))) held o h

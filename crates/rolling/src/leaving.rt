@@ -1,11 +1,10 @@
 // The places that leave a window, tallied, and the window without them: what every moment shares of it.
 ghost use Rattle.std.specs.Prelude.{◌≡◌, ◌<◌, ◌≤◌, length};
-ghost use Rattle.trace.specs.Trace.{valid_at};
-ghost use Rattle.window.specs.Places.{chosen_count};
-ghost use Rattle.window.specs.Readings.{places_by, nonfinite_at};
+ghost use Rattle.window.specs.Places.{valid_count};
 ghost use Rattle.window.specs.Code.Stacks.{Tallied, TallyFits, TrimsBy};
-ghost use Rattle.rolling.specs.Code.Rows.{Range, LeavingRange, Below, TalliesBelow, places_in};
+ghost use Rattle.rolling.specs.Code.Rows.{Range, LeavingRange, Below, TalliesBelow};
 
+use crate::series::Places;
 use window::Window;
 
 // A window without the places that leave, and whether the back stack goes to the front stack first.
@@ -22,82 +21,63 @@ pub struct Tally {
     pub nonfinite: usize,
 }
 
-fn is_nonfinite(values: &[f64], has_map: bool, map: &[u8], i: usize) -> bool
-    requires { i < length values.now }
-    ensures { result ≡ nonfinite_at has_map map.now values.now i }
+// The tally of the places from a up to b.
+#[inline(always)]
+fn tally_range<P: Places>(places: P, a: usize, b: usize) -> Tally
+    requires { Range a b (P.have places) }
+    ensures { Tallied (P.places places) a b result.valid result.nonfinite }
 {
-    if trace::valid(has_map, map, i) {
-        return !float::is_finite(values[i]);
+    let mut tally = Tally {
+        valid: 0,
+        nonfinite: 0,
+    };
+    for i in a..b {
+        tally.valid += places.is_valid(i) as usize;
+        tally.nonfinite += places.is_nonfinite(i) as usize;
     }
-    false
+    tally
 }
 
-fn tally_range(values: &[f64], has_map: bool, map: &[u8], a: usize, b: usize) -> Tally
-    requires { Range a b (length values.now) }
-    ensures { Tallied (places_in has_map map values) a b result.valid result.nonfinite }
-{
-    let mut valid: usize = 0;
-    let mut nonfinite: usize = 0;
-    let mut i = a;
-    while i < b {
-        valid += trace::valid(has_map, map, i) as usize;
-        nonfinite += is_nonfinite(values, has_map, map, i) as usize;
-        i += 1;
-    }
-    Tally { valid, nonfinite }
-}
-
-fn count_valid(has_map: bool, map: &[u8], a: usize, b: usize) -> usize
+// How many places from a up to b are valid: no entry is looked at.
+#[inline(always)]
+fn count_valid<P: Places>(places: P, a: usize, b: usize) -> usize
     requires { a ≤ b }
-    ensures { result ≡ chosen_count (valid_at has_map map.now) a b }
+    ensures { result ≡ valid_count (P.places places) a b }
 {
     let mut valid: usize = 0;
-    let mut i = a;
-    while i < b {
-        valid += trace::valid(has_map, map, i) as usize;
-        i += 1;
+    for i in a..b {
+        valid += places.is_valid(i) as usize;
     }
     valid
 }
 
-// The tally of places that leave a window with so many readings that are not finite. Without any, no reading is looked at; without a map,
+// The tally of places that leave a window with so many entries that are not finite. Without any, no entry is looked at; without a map,
 // nothing is.
-fn tally_leaving(
-    values: &[f64],
-    has_map: bool,
-    map: &[u8],
-    a: usize,
-    b: usize,
-    nonfinite: usize,
-) -> Tally
-    requires { LeavingRange (places_by has_map map.now values.now) a b (length values.now) nonfinite }
-    ensures { Tallied (places_in has_map map values) a b result.valid result.nonfinite }
+#[inline(always)]
+fn tally_leaving<P: Places>(places: P, a: usize, b: usize, nonfinite: usize) -> Tally
+    requires { LeavingRange (P.places places) a b (P.have places) nonfinite }
+    ensures { Tallied (P.places places) a b result.valid result.nonfinite }
 {
-    if nonfinite == 0 {
-        if !has_map {
-            return Tally {
-                valid: b - a,
-                nonfinite: 0,
-            };
-        }
-        return Tally {
-            valid: count_valid(has_map, map, a, b),
-            nonfinite: 0,
-        };
+    if nonfinite != 0 {
+        return tally_range(places, a, b);
     }
-    tally_range(values, has_map, map, a, b)
+    let valid = if places.is_mapped() {
+        count_valid(places, a, b)
+    } else {
+        b - a
+    };
+    Tally {
+        valid,
+        nonfinite: 0,
+    }
 }
 
 // The tally of the places below `start` that leave w. Nothing is counted of a window that ends there or before: it starts anew.
-pub(crate) fn tally_below(
-    values: &[f64],
-    has_map: bool,
-    map: &[u8],
-    w: Window,
-    start: usize,
-) -> Tally
-    requires { Below (places_by has_map map.now values.now) start (length values.now) w }
-    ensures { TalliesBelow (places_in has_map map values) w start result.valid result.nonfinite }
+// The tallies are inlined by name: both rows of pairs call them, and a call would pass the window's state through memory at every row.
+#[inline(always)]
+pub(crate) fn tally_below<P: Places>(places: P, w: Window, start: usize) -> Tally
+    requires { Below (P.places places) start (P.have places) w }
+    ensures { TalliesBelow (P.places places) w start result.valid result.nonfinite }
 {
     if w.end <= start {
         return Tally {
@@ -105,7 +85,7 @@ pub(crate) fn tally_below(
             nonfinite: 0,
         };
     }
-    tally_leaving(values, has_map, map, w.start, start, w.nonfinite)
+    tally_leaving(places, w.start, start, w.nonfinite)
 }
 
 // The window w without the places below `start`, by their tally, and whether the back stack goes to the front.

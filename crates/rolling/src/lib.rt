@@ -4,11 +4,15 @@
 
 mod cov;
 mod extremes;
+mod figures;
 mod kurtosis;
 mod leaving;
+mod memory;
+mod moment_window;
 mod pairs;
 mod pearson;
 mod row;
+mod series;
 mod skew;
 mod variance;
 

@@ -1,76 +1,105 @@
 // One row: where it is, whether it moves the window, and whether it has enough readings.
-ghost use Rattle.std.specs.Prelude.{◌≡◌, ◌+◌, ◌-◌, ◌≤◌, cond, length, if◌then◌else◌, nat_le};
+ghost use Rattle.std.specs.Prelude.{◌≡◌, ◌+◌, ◌-◌, ◌≤◌, cond, length, nat_le};
+ghost use Rattle.plan.specs.Plan.{rows, planned};
+ghost use Rattle.moment.specs.declared.Figure.{Figure};
 ghost use Rattle.window.specs.Rows.{moves};
 ghost use Rattle.window.specs.Extremes.{short_row};
 ghost use Rattle.window.specs.Code.Filling.{RowThere, SetsRow};
-ghost use Rattle.plan.specs.Plan.{planning};
-ghost use Rattle.rolling.specs.Code.Rows.{SameMany, RowIn, RowBounds, RowAt};
+ghost use Rattle.window.specs.Code.Stacks.{answer_from};
+ghost use Rattle.rolling.specs.Code.Rows.{plan_by, listed_rows, fixed_rows, SameMany, RowIn, RowBounds, Ahead, Testable};
 
 use moment::Figure;
-use plan::Offsets;
+use plan::{Offsets, Plan};
+use window::Window;
 
-// The rows of a call and what they are tested for: of fixed windows by how many places they reach to the left and to the right of their
-// own, of a plan by its lists. No window is wider than `widest`.
+// The windows of a call's rows: fixed ones by how many places they reach to the left and to the right of their own, or those of a plan.
 #[derive(Clone, Copy)]
-pub struct Rows {
-    pub fixed: bool,
-    pub left: usize,
-    pub right: usize,
-    pub min_periods: usize,
-    pub widest: usize,
+pub(crate) enum Windows<'a> {
+    Fixed { left: usize, right: usize },
+    Listed(Plan<'a>),
 }
 
-// The rows of fixed windows, one a place, or as many as are listed.
-pub(crate) fn how_many(rows: Rows, n: usize, listed: usize) -> usize
-    ensures { result ≡ (if rows.fixed then n else listed) }
-{
-    if rows.fixed { n } else { listed }
+// The rows of a call and what they are tested for. No window is wider than `widest`.
+#[derive(Clone, Copy)]
+pub(crate) struct Rows<'a> {
+    pub(crate) windows: Windows<'a>,
+    pub(crate) min_periods: usize,
+    pub(crate) widest: usize,
 }
 
 // A row's window as a plan lists it; behind the last row an empty one.
-fn listed(starts: &[u32], ends: &[u32], row: usize) -> Offsets
-    requires { length starts.now ≡ length ends.now }
-    ensures { RowBounds (planning starts ends) row result }
+fn listed(plan: Plan, row: usize) -> Offsets
+    requires { length plan.starts.now ≡ length plan.ends.now }
+    ensures { RowBounds (planned plan.entry) row result }
 {
-    if starts.len() <= row {
+    if plan.starts.len() <= row {
         return Offsets { start: 0, end: 0 };
     }
     Offsets {
-        start: plan::place(starts[row]),
-        end: plan::place(ends[row]),
+        start: plan.starts[row] as usize,
+        end: plan.ends[row] as usize,
     }
 }
 
-// The window of a call's first row, where it has one: the pair that its row loop opens with, by how far fixed windows reach.
-pub(crate) fn first_offsets(rows: Rows, n: usize, starts: &[u32], ends: &[u32]) -> Offsets
-    requires { SameMany rows n starts.now ends.now }
-    ensures { RowAt rows n starts ends 0 result }
-{
-    if rows.fixed {
-        return Offsets {
-            start: 0,
-            end: plan::shorter(n, rows.right),
-        };
+impl<'a> Rows<'a> {
+    pub(crate) fn listed(plan: Plan<'a>, min_periods: usize, widest: usize) -> Self
+        ensures { result ≡ listed_rows plan.entry min_periods widest }
+    {
+        Rows {
+            windows: Windows::Listed(plan),
+            min_periods,
+            widest,
+        }
     }
-    listed(starts, ends, 0)
-}
 
-// The window of the row behind `row`, whose own is `at`: of fixed windows stepped on from it, of a plan as it is listed.
-pub(crate) fn next(
-    rows: Rows,
-    n: usize,
-    starts: &[u32],
-    ends: &[u32],
-    row: usize,
-    at: Offsets,
-) -> Offsets
-    requires { RowIn rows n starts.now ends.now row at }
-    ensures { RowAt rows n starts ends (row + 1) result }
-{
-    if rows.fixed {
-        return plan::next_offsets(row, at, rows.left, n);
+    pub(crate) fn fixed(window_size: usize, center: bool, min_periods: usize, widest: usize) -> Self
+        ensures { result ≡ fixed_rows window_size center min_periods widest }
+    {
+        let right = plan::right_window(center, window_size);
+        Rows {
+            windows: Windows::Fixed {
+                left: window_size - right,
+                right,
+            },
+            min_periods,
+            widest,
+        }
     }
-    listed(starts, ends, row + 1)
+
+    // How many there are over n places: of fixed windows one a place.
+    pub(crate) fn len(self, n: usize) -> usize
+        ensures { result ≡ rows (plan_by self.entry n) }
+    {
+        match self.windows {
+            Windows::Fixed { .. } => n,
+            Windows::Listed(plan) => plan.starts.len(),
+        }
+    }
+
+    // The window of the first row, where there is one.
+    pub(crate) fn first(self, n: usize) -> Offsets
+        requires { SameMany self n }
+        ensures { Ahead (plan_by self.entry n) 0 result }
+    {
+        match self.windows {
+            Windows::Fixed { right, .. } => Offsets {
+                start: 0,
+                end: n.min(right),
+            },
+            Windows::Listed(plan) => listed(plan, 0),
+        }
+    }
+
+    // The window of the row behind `row`, whose own is `at`: of fixed windows stepped on from it, of a plan as it is listed.
+    pub(crate) fn next(self, n: usize, row: usize, at: Offsets) -> Offsets
+        requires { RowIn self n row at }
+        ensures { Ahead (plan_by self.entry n) (row + 1) result }
+    {
+        match self.windows {
+            Windows::Fixed { left, .. } => plan::next_offsets(row, at, left, n),
+            Windows::Listed(plan) => listed(plan, row + 1),
+        }
+    }
 }
 
 pub(crate) fn moves(has_map: bool, min_periods: usize, row: usize, start: usize, end: usize) -> bool
@@ -112,6 +141,32 @@ pub(crate) fn is_valid(
         return min_periods <= valid;
     }
     min_periods <= end - start
+}
+
+// What makes a figure of a state: a moment's `finalize` with what it takes beside the state.
+pub(crate) trait Finalize<S>: Copy {
+    ghost finalize: { Self → S → Figure };
+
+    fn finalize(self, state: S) -> Figure
+        ensures { result ≡ finalize self state };
+}
+
+// 001's `get_moment` and the test of the minimum: a row's answer, of the window after its step and the state of its two parts.
+pub(crate) fn answer<S: Copy, F: Finalize<S>>(
+    moment: F,
+    state: S,
+    w: Window,
+    mapped: bool,
+    min_periods: usize,
+    at: Offsets,
+) -> Figure
+    requires { Testable w at.start at.end }
+    ensures { result ≡ answer_from (F.finalize moment) mapped min_periods at.start at.end w state }
+{
+    if is_valid(mapped, min_periods, w.front + w.back, at.start, at.end) {
+        return window::or_nan(moment.finalize(state), w.nonfinite);
+    }
+    Figure::Missing
 }
 
 // A row's answer. A NaN is written as the one pattern 7FF8000000000000, in a branch of its own: a chosen value costs more here than the

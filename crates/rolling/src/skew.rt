@@ -1,156 +1,50 @@
-// Skewness over moving windows: 001's `SkewMoment` and `MomentWindow` over it. The two stacks lie in the work slice, states
-// of the front stack from its beginning, readings of the back stack from `base` on.
-ghost use Rattle.std.specs.Prelude.{◌≡◌, ◌*◌, ◌≤◌, min, false, length, if◌then◌else◌, nat_le, slice_index_or, slice_set};
+// Skewness over moving windows: 001's `SkewMoment`. Its rows are finalised 32 at a time, so that their roots are taken side by side, and
+// rows of one count of readings share a correction.
+ghost use Rattle.std.proofs.Common.{rules};
+ghost use Rattle.std.specs.Prelude.{◌≡◌, ◌<◌, ◌≤◌, ℕ, refl, false, min, length, nat_le, slice_index, slice_index_or, if◌then◌else◌, Option};
 ghost use Rattle.std.specs.Float.{nan};
 ghost use Rattle.float.specs.Operators.{◌⊗◌, of_nat64};
 ghost use Rattle.float.specs.Tables.{table};
-ghost use Rattle.trace.specs.Trace.{tracing};
-ghost use Rattle.moment.specs.Skew.{skew_empty, skew_combine, skew_correction, skew_finalize};
-ghost use Rattle.window.specs.Code.Stacks.{answer_by};
-ghost use Rattle.window.specs.Readings.{series};
-ghost use Rattle.window.specs.Code.Stacks.{Flippable, Flipped, Appendable, Appended, top_of};
-ghost use Rattle.window.specs.Code.Stacks.{Trimmable, Trimmed, Extendable, Extended, Movable, Updated, Stepped};
-ghost use Rattle.rolling.specs.Moments.{Skewness};
-ghost use Rattle.rolling.specs.Calls.{querying, lending, Calls};
+ghost use Rattle.float.proofs.Counts.{zero_is};
+ghost use Rattle.trace.specs.Outcomes.{outcome_number};
+ghost use Rattle.trace.specs.Lent.{traced};
+ghost use Rattle.moment.specs.Skew.{skew_insert, skew_correction, skew_finalize};
+ghost use Rattle.moment.proofs.Weights.{raising, skew_weight, skew_raises};
+ghost use Rattle.plan.specs.Plan.{planned};
+ghost use Rattle.window.specs.Given.{Readings, series_of};
+ghost use Rattle.window.specs.Code.Stacks.{answer_by, state_by};
+ghost use Rattle.rolling.specs.Moments.{Skewness, skewness};
+ghost use Rattle.rolling.specs.Calls.{query, lending, Calls};
 ghost use Rattle.rolling.specs.Fixed.{CallsFixed};
-ghost use Rattle.rolling.specs.Code.Layouts.{skew_states, skew_stored};
-ghost use Rattle.rolling.specs.Code.Weighed.{skew_weight, Weighed};
-ghost use Rattle.rolling.specs.Code.Rows.{series_in, driven_query, Leaves, Driven};
-ghost use Rattle.rolling.specs.Code.Slots.{Corrections, m2_of, m3_of, least_of, estimate, double_at, pending_of};
-ghost use Rattle.rolling.specs.Code.Slots.{SlotFree, SlotHolds, SlotsFor, CanFill, BlockFilled};
+ghost use Rattle.rolling.specs.Code.Ops.{ops_of};
+ghost use Rattle.rolling.specs.Code.Layouts.{skew_layout, skew_stored};
+ghost use Rattle.rolling.specs.Code.Rows.{Driven, GivesFigure};
+ghost use Rattle.rolling.specs.Code.Slots.{m3_of, least_of, estimate, double_at, pending_of};
+ghost use Rattle.rolling.specs.Code.Slots.{CanPend, SlotHolds, slot_set, CanFill, BlockFilled};
 
-use crate::row::Rows;
-use crate::{leaving, row};
+use crate::memory::InMemory;
+use crate::moment_window::{MomentWindow, WindowState};
+use crate::row::{self, Rows};
+use crate::series::Places;
 use moment::SkewState;
-use plan::Offsets;
-use window::Window;
+use plan::{Offsets, Plan};
+use trace::{Refusal, Trace};
 
-#[derive(Clone, Copy)]
-pub struct SkewMoment {
-    pub bias: bool,
-}
+impl InMemory for SkewState {
+    ghost WIDTH = { 4 };
 
-// A window with the state of its back part.
-#[derive(Clone, Copy)]
-pub struct SkewWindow {
-    pub window: Window,
-    pub agg_back: SkewState,
-}
+    const WIDTH: usize = 4;
 
-// The back stack grown: how many readings stand in it, how many in the window are not finite, and its state.
-#[derive(Clone, Copy)]
-pub struct SkewAppended {
-    pub back: usize,
-    pub nonfinite: usize,
-    pub agg_back: SkewState,
-}
+    ghost layout = { skew_layout };
 
-// What stands behind a block of rows: the window, and the next row's bounds.
-#[derive(Clone, Copy)]
-pub struct SkewBlock {
-    pub w: SkewWindow,
-    pub at: Offsets,
-}
-
-// A row whose window is done: the state to finalise, or that the row is missing.
-#[derive(Clone, Copy)]
-pub enum SkewPending {
-    Missing,
-    State(SkewState),
-}
-
-impl SkewMoment {
-    // Doubles of a state on the front stack, of an entry on the back stack, and of a place of the window in both.
-    const STATE: usize = 4;
-
-    const ENTRY: usize = 1;
-
-    pub const PLACE: usize = SkewMoment::STATE + SkewMoment::ENTRY;
-
-    // Counts whose correction is kept.
-    const KEPT: usize = 256;
-
-    // Rows that are finalised together.
-    const BLOCK: usize = 32;
-
-    fn empty() -> SkewState
-        ensures { result ≡ skew_empty }
-    {
-        SkewState::default()
+    fn store(self, work: &mut [f64], at: usize) {
+        work[at] = self.weight;
+        work[at + 1] = self.mean;
+        work[at + 2] = self.m2;
+        work[at + 3] = self.m3;
     }
 
-    // The n readings of the back stack become the front stack, the last of them at its bottom. The weight counts them, so that
-    // `insert_one` has nothing to clear.
-    fn flip(work: &mut [f64], base: usize, n: usize)
-        requires { Flippable skew_stored base n work.old }
-        ensures { Flipped skew_stored base n work.old work.new }
-    {
-        let mut agg = SkewMoment::empty();
-        let mut at: usize = 0;
-        let mut j = n;
-        while 0 < j {
-            j -= 1;
-            agg = agg.inserted(work[base + j]);
-            work[at] = agg.weight;
-            work[at + 1] = agg.mean;
-            work[at + 2] = agg.m2;
-            work[at + 3] = agg.m3;
-            at += SkewMoment::STATE;
-        }
-    }
-
-    // The readings of the valid places from a up to b, appended to the n that stand in the back stack.
-    fn append(
-        back: &mut [f64],
-        n: usize,
-        values: &[f64],
-        has_map: bool,
-        map: &[u8],
-        a: usize,
-        b: usize,
-        nonfinite: usize,
-        agg_back: SkewState,
-    ) -> SkewAppended
-        requires appendable { Appendable skew_stored (series has_map map.now values.now) a b (length values.now) n nonfinite back.old }
-        requires agg_back_value { agg_back.weight ≡ of_nat64 n }
-        ensures { Appended skew_stored (series_in has_map map values) back.old n nonfinite agg_back a b
-            back.new result.back result.nonfinite result.agg_back }
-    {
-        let mut state = agg_back;
-        let mut at = n;
-        let mut count = nonfinite;
-        let mut i = a;
-        while i < b {
-            if trace::valid(has_map, map, i) {
-                let x = values[i];
-                if float::is_finite(x) {
-                    back[at] = x;
-                    state = state.inserted(x);
-                } else {
-                    back[at] = 0.0;
-                    state = state.inserted(0.0);
-                    count += 1;
-                }
-                at += 1;
-            }
-            i += 1;
-        }
-        SkewAppended {
-            back: at,
-            nonfinite: count,
-            agg_back: state,
-        }
-    }
-
-    // The state on the top of the front stack's n, or the empty one.
-    fn last(work: &[f64], n: usize) -> SkewState
-        requires { 4 * n ≤ length work.now }
-        ensures { result ≡ top_of skew_stored work.now n }
-    {
-        if n == 0 {
-            return SkewMoment::empty();
-        }
-        let at = SkewMoment::STATE * (n - 1);
+    fn load(work: &[f64], at: usize) -> Self {
         SkewState {
             weight: work[at],
             mean: work[at + 1],
@@ -159,188 +53,147 @@ impl SkewMoment {
         }
     }
 
-    // The window without the places below `start`.
-    fn trim(
-        work: &mut [f64],
-        base: usize,
-        values: &[f64],
-        has_map: bool,
-        map: &[u8],
-        w: SkewWindow,
-        start: usize,
-    ) -> SkewWindow
-        requires { Trimmable skew_stored (series has_map map.now values.now) base start (length values.now)
-            w.window w.agg_back work.old }
-        ensures { Trimmed skew_stored (series_in has_map map values) base start w.window work.old
-            result.window result.agg_back work.new }
-    {
-        let window = w.window;
-        let agg_back = w.agg_back;
-        let leaving = leaving::tally_below(values, has_map, map, window, start);
-        let trim = leaving::trimmed(window, start, leaving);
-        let kept = trim.window;
-        if trim.flips {
-            SkewMoment::flip(work, base, window.back);
-            return SkewWindow {
-                window: kept,
-                agg_back: SkewMoment::empty(),
-            };
-        }
-        if kept.back == 0 {
-            return SkewWindow {
-                window: kept,
-                agg_back: SkewMoment::empty(),
-            };
-        }
-        SkewWindow {
-            window: kept,
-            agg_back,
-        }
+    ghost wide = { refl };
+
+    ghost narrow = { Prim.search rules };
+}
+
+// By the counts the weights are known: an insert then has nothing to clear, and `combine` need not compare.
+impl WindowState for SkewState {
+    type Entry = f64;
+
+    ghost ops = { ops_of skewness };
+
+    ghost counts = { λ s n. s.weight ≡ of_nat64 n };
+
+    fn empty() -> Self {
+        SkewState::default()
     }
 
-    // The window with the places from its end up to `end`. The back stack is the part of the work slice that begins after the
-    // front stack.
-    fn extend(
-        work: &mut [f64],
-        base: usize,
-        widest: usize,
-        values: &[f64],
-        has_map: bool,
-        map: &[u8],
-        w: SkewWindow,
-        end: usize,
-    ) -> SkewWindow
-        requires { Extendable skew_stored (series has_map map.now values.now) base widest end (length values.now)
-            w.window w.agg_back work.old }
-        ensures { Extended skew_stored (series_in has_map map values) base widest end w.window work.old
-            result.window result.agg_back work.new }
-    {
-        let window = w.window;
-        let agg_back = w.agg_back;
-        let appended = SkewMoment::append(
-            &mut work[base..],
-            window.back,
-            values,
-            has_map,
-            map,
-            window.end,
-            end,
-            window.nonfinite,
-            agg_back,
-        );
-        let grown = appended.agg_back;
-        SkewWindow {
-            window: window.extended(end, appended.back, appended.nonfinite),
-            agg_back: grown,
+    fn insert(self, _n: usize, x: f64) -> Self {
+        self.inserted(x)
+    }
+
+    fn combine(self, n: usize, other: Self, m: usize) -> Self {
+        if m == 0 {
+            return self;
         }
-    }
-
-    // 001's `update`: the window moved to the row from `start` up to `end`. No window is wider than `widest`.
-    fn update(
-        work: &mut [f64],
-        widest: usize,
-        values: &[f64],
-        has_map: bool,
-        map: &[u8],
-        w: SkewWindow,
-        start: usize,
-        end: usize,
-    ) -> SkewWindow
-        requires { Movable skew_stored (series has_map map.now values.now) start end (length values.now) widest
-            w.window w.agg_back work.old }
-        ensures { Updated skew_stored (series_in has_map map values) widest start end w.window work.old
-            result.window result.agg_back work.new }
-    {
-        let base = SkewMoment::STATE * widest;
-        let trimmed = SkewMoment::trim(work, base, values, has_map, map, w, start);
-        SkewMoment::extend(work, base, widest, values, has_map, map, trimmed, end)
-    }
-
-    // The window after a row's part in it: a row is one step, so that two plans can be driven in turn.
-    fn step(
-        work: &mut [f64],
-        rows: Rows,
-        values: &[f64],
-        has_map: bool,
-        map: &[u8],
-        w: SkewWindow,
-        row: usize,
-        start: usize,
-        end: usize,
-    ) -> SkewWindow
-        requires { Movable skew_stored (series has_map map.now values.now) start end (length values.now) rows.widest
-            w.window w.agg_back work.old }
-        ensures { Stepped skew_stored (series_in has_map map values) rows.widest rows.min_periods row start end
-            w.window work.old result.window result.agg_back work.new }
-    {
-        if row::moves(has_map, rows.min_periods, row, start, end) {
-            return SkewMoment::update(work, rows.widest, values, has_map, map, w, start, end);
+        if n == 0 {
+            return other;
         }
-        w
+        self.merged(other)
     }
 
+    ghost starts = { zero_is };
+
+    ghost grows = { raising skew_weight skew_insert skew_raises };
+}
+
+#[derive(Clone, Copy)]
+pub struct SkewMoment {
+    pub bias: bool,
+}
+
+// Counts whose correction is kept.
+const KEPT: usize = 256;
+
+// Rows that are finalised together: their roots, taken side by side, hide their time behind one another.
+const BLOCK: usize = 32;
+
+// Corrections that are kept by the count of readings: in each place a count and its correction.
+#[derive(Drop)]
+struct Corrections {
+    counts: [u64; KEPT],
+    factors: [f64; KEPT],
+    ghost kept: { (i : ℕ) → i < 256 → slice_index_or factors i nan ≡ skew_correction (of_nat64 (slice_index counts i)) },
+}
+
+impl Corrections {
     // The correction for a count of readings. Rows of one count share it: a root and a division less for each.
-    fn correction(self, counts: &mut [u64], corrections: &mut [f64], valid: usize) -> f64
-        requires { Corrections counts.old corrections.old }
-        ensures { (self.bias ≡ false → result ≡ skew_correction (of_nat64 valid)) × Corrections counts.new corrections.new }
+    fn factor(&mut self, valid: usize) -> f64
+        ensures { result ≡ skew_correction (of_nat64 valid) }
     {
-        if self.bias {
-            return 0.0;
-        }
-        let at = valid % SkewMoment::KEPT;
+        let at = valid % KEPT;
         let n = valid as u64;
-        if counts[at] == n {
-            return corrections[at];
+        if self.counts[at] == n {
+            return self.factors[at];
         }
         let factor = SkewState::correction(std::num::nearest_u64_to_f64(n));
-        counts[at] = n;
-        corrections[at] = factor;
+        self.counts[at] = n;
+        self.factors[at] = factor;
         factor
     }
+}
 
-    // The back state combined with the front state. The counts tell which weights are zero.
-    fn total(work: &[f64], w: SkewWindow) -> SkewState
-        requires { Weighed skew_states skew_weight w.window w.agg_back work.now }
-        ensures { result ≡ skew_combine w.agg_back (top_of skew_stored work.now w.window.front) }
+// What is left of a block's rows to finalise: of each its m2, its m3 and its correction.
+#[derive(Drop)]
+struct Slots {
+    m2s: [f64; BLOCK],
+    m3s: [f64; BLOCK],
+    factors: [f64; BLOCK],
+}
+
+// The m3 of a row with this m2: NaN where `is_zero` holds or a reading is not finite.
+fn m3_of(state: SkewState, m2: f64, nonfinite: usize) -> f64
+    ensures { result ≡ m3_of state m2 nonfinite }
+{
+    if nonfinite != 0 {
+        return float::not_a_number();
+    }
+    if moment::is_zero(m2, state.mean) {
+        return float::not_a_number();
+    }
+    state.m3 / state.weight
+}
+
+impl Slots {
+    // Slot k written.
+    fn set(&mut self, k: usize, m2: f64, m3: f64, factor: f64)
+        requires { k < 32 }
+        ensures { self.new ≡ slot_set self.old k m2 m3 factor }
     {
-        let agg_back = w.agg_back;
-        if w.window.front == 0 {
-            return agg_back;
-        }
-        let top = SkewMoment::last(work, w.window.front);
-        if w.window.back == 0 {
-            return top;
-        }
-        agg_back.merged(top)
+        self.m2s[k] = m2;
+        self.m3s[k] = m3;
+        self.factors[k] = factor;
     }
 
-    // A row's m2, m3 and correction, written to slot k. NaN stands for m3 where `is_zero` holds or a reading is not finite.
-    fn hold(
-        state: SkewState,
-        nonfinite: usize,
-        factor: f64,
-        m2s: &mut [f64],
-        m3s: &mut [f64],
-        factors: &mut [f64],
-        k: usize,
-    )
-        requires { SlotFree k m2s.old m3s.old factors.old }
-        ensures { (m2s.new ≡ slice_set m2s.old k (m2_of state)) × (m3s.new ≡ slice_set m3s.old k (m3_of state nonfinite))
-            × (factors.new ≡ slice_set factors.old k factor) }
+    // The doubles that the slots come to, where `figures` holds the roots of their second moments.
+    fn estimates(&self, bias: bool, figures: &mut [f64])
+        requires { length figures.old ≤ 32 }
+        ensures { figures.new ≡ table (λ i. estimate bias (slice_index_or self.now.m2s i nan) (slice_index_or self.now.m3s i nan)
+            (slice_index_or self.now.factors i nan) (slice_index_or figures.old i nan)) (length figures.old) }
     {
-        let m2 = state.m2 / state.weight;
-        m2s[k] = m2;
-        factors[k] = factor;
-        if nonfinite != 0 {
-            m3s[k] = 0.0 / 0.0;
-            return;
+        for i in 0..figures.len() {
+            let biased = self.m3s[i] / (self.m2s[i] * figures[i]);
+            let estimate = if bias {
+                biased
+            } else {
+                self.factors[i] * biased
+            };
+            figures[i] = float::canonical(estimate);
         }
-        if moment::is_zero(m2, state.mean) {
-            m3s[k] = 0.0 / 0.0;
-            return;
-        }
-        m3s[k] = state.m3 / state.weight;
     }
+
+    // The figures of as many rows: the roots of their slots, then what each comes to.
+    fn finish(&self, bias: bool, figures: &mut [f64])
+        requires { length figures.old ≤ 32 }
+        ensures { figures.new ≡ table (double_at bias self.now) (length figures.old) }
+    {
+        root::roots(&self.m2s[..figures.len()], figures);
+        self.estimates(bias, figures);
+    }
+}
+
+// What stands before a row: the window, and the row's bounds.
+#[derive(Clone, Copy)]
+struct Standing {
+    w: MomentWindow<SkewState>,
+    at: Offsets,
+}
+
+impl SkewMoment {
+    // Doubles of a place of the window, in both stacks.
+    pub const PLACE: usize = 5;
 
     // Whether a state of so many readings has a figure.
     fn has_figure(self, valid: usize) -> bool
@@ -354,257 +207,166 @@ impl SkewMoment {
     fn pending(
         self,
         work: &[f64],
-        w: SkewWindow,
-        has_map: bool,
+        w: MomentWindow<SkewState>,
+        mapped: bool,
         min_periods: usize,
-        start: usize,
-        end: usize,
-    ) -> SkewPending
-        requires { Weighed skew_states skew_weight w.window w.agg_back work.now × (start ≤ end) }
-        ensures { result ≡ pending_of self.bias has_map min_periods start end w.window
-            (skew_combine w.agg_back (top_of skew_stored work.now w.window.front)) }
+        at: Offsets,
+    ) -> Option<SkewState>
+        requires { CanPend w.window w.agg_back work.now at }
+        ensures { result ≡ pending_of self.bias mapped min_periods at w.window (state_by skew_stored w.window w.agg_back work.now) }
     {
         let valid = w.window.front + w.window.back;
-        if row::is_valid(has_map, min_periods, valid, start, end) {
-            if self.has_figure(valid) {
-                return SkewPending::State(SkewMoment::total(work, w));
-            }
+        if row::is_valid(mapped, min_periods, valid, at.start, at.end) && self.has_figure(valid) {
+            return Some(w.total(work));
         }
-        SkewPending::Missing
+        None
+    }
+
+    // What an unbiased estimate from so many readings is multiplied by.
+    fn correction(self, corrections: &mut Corrections, valid: usize) -> f64
+        ensures { self.bias ≡ false → result ≡ skew_correction (of_nat64 valid) }
+    {
+        if self.bias {
+            return 0.0;
+        }
+        corrections.factor(valid)
     }
 
     // The row's byte, and in slot k what is left of it to finalise, of the window after its step. A missing row's slot comes to zero.
     fn prepare(
         self,
         work: &[f64],
-        w: SkewWindow,
-        has_map: bool,
+        w: MomentWindow<SkewState>,
+        mapped: bool,
         min_periods: usize,
-        start: usize,
-        end: usize,
-        counts: &mut [u64],
-        corrections: &mut [f64],
-        m2s: &mut [f64],
-        m3s: &mut [f64],
-        factors: &mut [f64],
+        at: Offsets,
+        corrections: &mut Corrections,
+        slots: &mut Slots,
         k: usize,
     ) -> u8
-        requires weighed { Weighed skew_states skew_weight w.window w.agg_back work.now × (start ≤ end) }
-        requires slot_free { SlotFree k m2s.old m3s.old factors.old × Corrections counts.old corrections.old }
-        ensures { SlotHolds self.bias (answer_by skew_stored (λ z. skew_finalize z self.bias) has_map min_periods
-            start end w.window w.agg_back work.now) k result m2s.old m3s.old factors.old
-            m2s.new m3s.new factors.new × Corrections counts.new corrections.new }
+        requires can_pend { CanPend w.window w.agg_back work.now at }
+        requires slot_in { k < 32 }
+        ensures { SlotHolds self.bias (answer_by skew_stored (λ z. skew_finalize z self.bias) mapped min_periods at.start at.end
+            w.window w.agg_back work.now) k result slots.old slots.new }
     {
-        let SkewPending::State(state) = self.pending(work, w, has_map, min_periods, start, end)
-        else {
-            m2s[k] = 1.0;
-            m3s[k] = 0.0;
-            factors[k] = 0.0;
+        let Some(state) = self.pending(work, w, mapped, min_periods, at) else {
+            slots.set(k, 1.0, 0.0, 0.0);
             return 0;
         };
-        let valid = w.window.front + w.window.back;
-        let factor = self.correction(counts, corrections, valid);
-        SkewMoment::hold(state, w.window.nonfinite, factor, m2s, m3s, factors, k);
+        let factor = self.correction(corrections, w.window.front + w.window.back);
+        let m2 = state.m2 / state.weight;
+        slots.set(k, m2, m3_of(state, m2, w.window.nonfinite), factor);
         1
     }
 
-    // The last step of `finalize`: an unbiased estimate takes the correction.
-    fn scaled(self, factor: f64, biased: f64) -> f64
-        ensures { result ≡ (if self.bias then biased else (factor ⊗ biased)) }
-    {
-        if self.bias { biased } else { factor * biased }
-    }
-
-    // The doubles that the slots come to, by the roots of their second moments.
-    fn estimates(self, m2s: &[f64], m3s: &[f64], factors: &[f64], roots: &[f64], out: &mut [f64])
-        requires { SlotsFor (length out.old) m2s.now m3s.now factors.now roots.now }
-        ensures { out.new ≡ table (λ i. estimate self.bias (slice_index_or m2s.now i nan) (slice_index_or m3s.now i nan)
-            (slice_index_or factors.now i nan) (slice_index_or roots.now i nan)) (length out.old) }
-    {
-        let mut i: usize = 0;
-        while i < out.len() {
-            let biased = m3s[i] / (m2s[i] * roots[i]);
-            out[i] = float::canonical(self.scaled(factors[i], biased));
-            i += 1;
-        }
-    }
-
-    // The figures of a block's rows: the roots of all slots, then what each comes to.
-    fn finish(self, m2s: &[f64], m3s: &[f64], factors: &[f64], roots: &mut [f64], out: &mut [f64])
-        requires { SlotsFor (length out.old) m2s.now m3s.now factors.now roots.old }
-        ensures { out.new ≡ table (double_at self.bias m2s.now m3s.now factors.now)
-            (length out.old) }
-    {
-        let n = out.len();
-        root::roots(&m2s[..n], &mut roots[..n]);
-        self.estimates(m2s, m3s, factors, roots, out);
-    }
-
-    // The rows of a block, from `first` up to `until`, with the bounds `at` of the first; what stands behind them, with their bytes and
+    // The rows of a block, from `first` up to `until`, from what stands before the first; what stands behind them, with their bytes and
     // slots written. The next row's bounds are told before the row is worked, as in the other moments.
     fn block(
         self,
         rows: Rows,
-        values: &[f64],
-        has_map: bool,
-        map: &[u8],
-        starts: &[u32],
-        ends: &[u32],
+        x: Trace,
         work: &mut [f64],
         present: &mut [u8],
-        opening: SkewWindow,
-        at: Offsets,
+        opening: Standing,
         first: usize,
         until: usize,
-        counts: &mut [u64],
-        corrections: &mut [f64],
-        m2s: &mut [f64],
-        m3s: &mut [f64],
-        factors: &mut [f64],
-    ) -> SkewBlock
-        requires { CanFill has_map map.now values.now rows starts.now ends.now (length present.old) first until at
-            opening.window opening.agg_back work.old counts.old corrections.old m2s.old m3s.old factors.old }
-        ensures { BlockFilled self.bias has_map map.now values.now rows starts.now ends.now
-            first until work.old present.old result.at result.w.window result.w.agg_back work.new
-            present.new counts.new corrections.new m2s.new m3s.new factors.new }
+        corrections: &mut Corrections,
+        slots: &mut Slots,
+    ) -> Standing
+        requires { CanFill (traced x) rows (length present.old) first until opening.at opening.w.window opening.w.agg_back work.old }
+        ensures { BlockFilled self.bias (traced x.entry) rows.entry first until work.old present.old
+            result.at result.w.window result.w.agg_back work.new present.new slots.new }
     {
-        let mut w = opening;
-        let mut next = at;
-        let mut row = first;
-        while row < until {
+        let mut w = opening.w;
+        let mut next = opening.at;
+        for row in first..until {
             let at = next;
-            next = row::next(rows, values.len(), starts, ends, row, at);
-            w = SkewMoment::step(work, rows, values, has_map, map, w, row, at.start, at.end);
-            let there = self.prepare(
+            next = rows.next(x.values.len(), row, at);
+            w = w.step(work, rows, x, row, at);
+            present[row] = self.prepare(
                 work,
                 w,
-                has_map,
+                x.is_mapped(),
                 rows.min_periods,
-                at.start,
-                at.end,
-                counts,
+                at,
                 corrections,
-                m2s,
-                m3s,
-                factors,
+                slots,
                 row - first,
             );
-            present[row] = there;
-            row += 1;
         }
-        SkewBlock { w, at: next }
+        Standing { w, at: next }
     }
 
     // Every row of an accepted plan, or of fixed windows.
-    pub(crate) fn rows(
-        self,
-        rows: Rows,
-        values: &[f64],
-        has_map: bool,
-        map: &[u8],
-        starts: &[u32],
-        ends: &[u32],
-        work: &mut [f64],
-        figures: &mut [f64],
-        present: &mut [u8],
-    )
-        requires { Driven rows (length values.now) starts.now ends.now (min (length figures.old) (length present.old))
-            5 (length work.old) }
-        ensures { Leaves (driven_query rows values starts ends (Skewness self.bias)) (tracing values has_map map)
-            (lending work figures present) }
+    fn rows(self, rows: Rows, x: Trace, work: &mut [f64], figures: &mut [f64], present: &mut [u8])
+        requires { Driven rows (length (traced x).readings) (min (length figures.old) (length present.old)) 5 (length work.old) }
+        ensures { GivesFigure skew_stored (λ z. skew_finalize z self.bias) (series_of Readings (traced x.entry))
+            (length (traced x.entry).readings) rows.entry work figures present }
     {
-        let mut w = SkewWindow {
-            window: Window::empty_at(0),
-            agg_back: SkewMoment::empty(),
+        let n = x.values.len();
+        let many = rows.len(n);
+        let mut standing = Standing {
+            w: MomentWindow::<SkewState>::new(),
+            at: rows.first(n),
         };
-        // Every place holds the correction of the count 0.
-        let mut counts = [0u64; 256];
-        let none = SkewState::correction(0.0);
-        let mut corrections = [none; 256];
-        let mut m2s = [0.0; 32];
-        let mut m3s = [0.0; 32];
-        let mut factors = [0.0; 32];
-        let mut roots = [0.0; 32];
-        let mut at = row::first_offsets(rows, values.len(), starts, ends);
-        let many = row::how_many(rows, values.len(), starts.len());
-        let mut first: usize = 0;
-        while first < many {
-            let until = plan::end_of(SkewMoment::BLOCK, many, first);
-            let block = self.block(
+        // Every place holds the count 0, whose correction is 0.0.
+        let mut corrections = Corrections {
+            counts: [0; KEPT],
+            factors: [0.0; KEPT],
+        };
+        let mut slots = Slots {
+            m2s: [0.0; BLOCK],
+            m3s: [0.0; BLOCK],
+            factors: [0.0; BLOCK],
+        };
+        for first in (0..many).step_by(BLOCK) {
+            let until = plan::end_of(BLOCK, many, first);
+            standing = self.block(
                 rows,
-                values,
-                has_map,
-                map,
-                starts,
-                ends,
+                x,
                 work,
                 present,
-                w,
-                at,
+                standing,
                 first,
                 until,
-                &mut counts,
                 &mut corrections,
-                &mut m2s,
-                &mut m3s,
-                &mut factors,
+                &mut slots,
             );
-            w = block.w;
-            at = block.at;
-            self.finish(&m2s, &m3s, &factors, &mut roots, &mut figures[first..until]);
-            first = until;
+            slots.finish(self.bias, &mut figures[first..until]);
         }
     }
 }
 
 // Rolling skewness over a plan.
 pub fn plan_skew(
-    values: &[f64],
-    has_map: bool,
-    map: &[u8],
-    starts: &[u32],
-    ends: &[u32],
+    x: Trace,
+    plan: Plan,
     min_periods: usize,
     bias: bool,
     work: &mut [f64],
     figures: &mut [f64],
     present: &mut [u8],
-) -> u32
-    ensures { Calls (querying starts ends min_periods (Skewness bias)) (tracing values has_map map)
-        (lending work figures present) result }
+) -> Result<(), Refusal>
+    ensures { Calls (query (planned plan.entry) min_periods (Skewness bias)) (traced x.entry) (lending work figures present)
+        (outcome_number result) }
 {
-    let checked = plan::plan_refusal(
-        trace::array_refusal(values.len(), has_map, map),
-        starts,
-        ends,
-        values.len(),
+    let widest = plan::check_plan(
+        x.check(),
+        plan,
+        x.len(),
         false,
-        plan::shorter(figures.len(), present.len()),
+        figures.len().min(present.len()),
         SkewMoment::PLACE,
         work.len(),
-    );
-    if checked.number != 0 {
-        return checked.number;
-    }
-    let rows = Rows {
-        fixed: false,
-        left: 0,
-        right: 0,
-        min_periods,
-        widest: checked.widest,
-    };
-    let moment = SkewMoment { bias };
-    moment.rows(
-        rows, values, has_map, map, starts, ends, work, figures, present,
-    );
-    0
+    )?;
+    let rows = Rows::listed(plan, min_periods, widest);
+    SkewMoment { bias }.rows(rows, x, work, figures, present);
+    Ok(())
 }
 
 // Rolling skewness over fixed windows: 004's and 005's `rolling_skew`.
 pub fn rolling_skew(
-    values: &[f64],
-    has_map: bool,
-    map: &[u8],
+    x: Trace,
     window_size: usize,
     min_periods: usize,
     center: bool,
@@ -612,35 +374,19 @@ pub fn rolling_skew(
     work: &mut [f64],
     figures: &mut [f64],
     present: &mut [u8],
-) -> u32
-    ensures { CallsFixed center window_size min_periods (Skewness bias) (tracing values has_map map)
-        (lending work figures present) result }
+) -> Result<(), Refusal>
+    ensures { CallsFixed center window_size min_periods (Skewness bias) (traced x.entry) (lending work figures present)
+        (outcome_number result) }
 {
-    let checked = plan::fixed_refusal(
-        trace::array_refusal(values.len(), has_map, map),
-        values.len(),
+    let widest = plan::check_fixed(
+        x.check(),
+        x.len(),
         window_size,
-        plan::shorter(figures.len(), present.len()),
+        figures.len().min(present.len()),
         SkewMoment::PLACE,
         work.len(),
-    );
-    if checked.number != 0 {
-        return checked.number;
-    }
-    let right = plan::right_window(center, window_size);
-    let left = window_size - right;
-    let rows = Rows {
-        fixed: true,
-        left,
-        right,
-        min_periods,
-        widest: checked.widest,
-    };
-    // no row of fixed windows reads a list
-    let none = [0u32; 1];
-    let moment = SkewMoment { bias };
-    moment.rows(
-        rows, values, has_map, map, &none, &none, work, figures, present,
-    );
-    0
+    )?;
+    let rows = Rows::fixed(window_size, center, min_periods, widest);
+    SkewMoment { bias }.rows(rows, x, work, figures, present);
+    Ok(())
 }

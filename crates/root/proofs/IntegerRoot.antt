@@ -122,3 +122,7 @@ rounded_to n r b p h g = elim (dec_le (r * r) n) [
     up : (n r : ℕ) → n < 2 ^ 106 → 0 < r → r * r < n + r → n < r * r → rounded_root 0 n ≡ r
     up n zero b p h k = absurd (omega arith)
     up n (suc q) b p h k = rounded_up n q (n - q * q) b (omega arith) (omega arith) (omega arith) ∙ omega arith
+
+-- and r + 1 that of those above them, up to (r + 1) * (r + 2)
+pub rounded_next : (n r : ℕ) → n < 2 ^ 106 → r * r + r < n → n ≤ r * r + (r * 3 + 2) → rounded_root 0 n ≡ r + 1
+rounded_next n r b h g = rounded_to n (r + 1) b (omega arith) (omega arith) (omega arith)

@@ -1,15 +1,16 @@
 -- The root of a double by its bits: they are a number of units, the root of that number is an integer root moved some
 -- places up, and it has 53 digits, so its bits are the digits beside the exponent. Assumes nothing.
-use Rattle.std.proofs.Common.{◌≡◌, ℕ, zero, suc, ◌+◌, ◌-◌, ◌*◌, ◌/◌, ◌%◌, ◌^◌, ◌<◌, ◌≤◌, Bool, true, false, cond, T, eqb, ltb, leb, ℤ, sym, refl, ap, ◌∙◌, subst, ap₂, lt_of_lt_of_le, lt_irrefl, mul-le-mul_right, mod-eq_of_lt, mul-le-mul, mul-pos, lt_of_not-le, zero-mul, mul-one, not-le_of_lt, mul-div_cancel, arith, le→leb, eqb→eq, lt→ltb, leb→le, pow_pos, pow_mono, pow-add, shl_lt}
+use Rattle.std.proofs.Common.{◌≡◌, ℕ, zero, suc, ◌+◌, ◌-◌, ◌*◌, ◌/◌, ◌%◌, ◌^◌, ◌<◌, ◌≤◌, Bool, true, false, cond, T, eqb, ltb, leb, ℤ, sym, refl, ap, ◌∙◌, subst, ap₂, lt_of_lt_of_le, lt_irrefl, mul-le-mul_right, mod-eq_of_lt, mul-le-mul, mul-pos, lt_of_not-le, zero-mul, mul-one, not-le_of_lt, mul-div_cancel, arith, eqb→eq, lt→ltb, pow_pos, pow_mono, pow-add, shl_lt}
 use Prim.Native.Nat.{compare}
 use native.Mathlib.Decide.{dec_le}
 use lib.Dec.{not_T, eqb-suc-zero}
 use lib.Pow.{shl-shr}
+use Rattle.std.proofs.lemmas.Bool.{lt-leb, le-leb}
 use lib.Count.{count_trailing_zeros, under, count_leading_zeros, leading_top}
 use lib.Ieee.{Float, nan, inf, fin, binary64, up, down, size, nearest, odd, units, of_fields, of_bits}
 use lib.Ieee.Digits.{size-le, size-lt}
 use lib.Ieee.Fits.{down_pos}
-use lib.Ieee.Bits.{is_true, is_false, cond_no}
+use lib.Ieee.Bits.{is_true, cond_no}
 use lib.Ieee.Exact.{HasValue, odd_sign}
 use Rattle.root.specs.Root.{square, integer_root, rounded_root, root_of_units, root}
 use Rattle.root.proofs.IntegerRoot.{Floor, integer_root_floor, at_most, compare_scaled, toward, rounded_root_at, rounded_root_is, rounded_down, rounded_up}
@@ -66,15 +67,12 @@ pub of_bits_is : (b : ℕ) → of_bits binary64 b ≡ of_fields binary64 (leb (2
 unfolding of_bits
 of_bits_is b = refl
 
-clear : (b : ℕ) → b < 2 ^ 63 → leb (2 ^ 63) b ≡ false
-clear b h = is_false (leb (2 ^ 63) b) (not_T (leb (2 ^ 63) b) λ u. let z = leb→le (2 ^ 63) b u in omega arith)
-
 pub fields : (b x t : ℕ) → x < 2 ^ 11 → t < 2 ^ 52 → b ≡ x * 2 ^ 52 + t → of_bits binary64 b ≡ of_fields binary64 false x t
 fields b x t X H e =
     let s : b < 2 ^ 63 = omega arith in
     let p : b % 2 ^ 63 / 2 ^ 52 ≡ x = omega arith in
     let q : b % 2 ^ 52 ≡ t = omega arith in
-    of_bits_is b ∙ ap (λ (s : Bool). of_fields binary64 s (b % 2 ^ 63 / 2 ^ 52) (b % 2 ^ 52)) (clear b s)
+    of_bits_is b ∙ ap (λ (s : Bool). of_fields binary64 s (b % 2 ^ 63 / 2 ^ 52) (b % 2 ^ 52)) (lt-leb (2 ^ 63) b s)
     ∙ ap₂ (λ (x t : ℕ). of_fields binary64 false x t) p q
 
 pub field_low : (t : ℕ) → of_fields binary64 false 0 t ≡ odd 53 false t 0 1074
@@ -337,9 +335,6 @@ unfolding of_fields root
 nan_fields zero p = absurd (lt_irrefl 0 p)
 nan_fields (suc t) p = ap (λ (b : Bool). root (cond b (inf false) nan)) (eqb-suc-zero t)
 
-set_sign : (b : ℕ) → 2 ^ 63 ≤ b → leb (2 ^ 63) b ≡ true
-set_sign b h = is_true (leb (2 ^ 63) b) (le→leb (2 ^ 63) b h)
-
 -- every pattern above that of plus infinity but that of -0
 pub no_root_lem : (b : ℕ) → b < 2 ^ 64 → 0x7ff0000000000000 < b → (b ≡ 2 ^ 63 → ⊥) → root (of_bits binary64 b) ≡ nan
 no_root_lem b w h n = elim (dec_le (2 ^ 63) b) [
@@ -347,7 +342,7 @@ no_root_lem b w h n = elim (dec_le (2 ^ 63) b) [
       let x = b % 2 ^ 63 / 2 ^ 52 in
       let t = b % 2 ^ 52 in
       let s : 0 < x + t = omega arith in
-      ap root (of_bits_is b ∙ ap (λ (s : Bool). of_fields binary64 s x t) (set_sign b d)) ∙ neg_fields x t s
+      ap root (of_bits_is b ∙ ap (λ (s : Bool). of_fields binary64 s x t) (le-leb (2 ^ 63) b d)) ∙ neg_fields x t s
   | no d ↦
       let t = b % 2 ^ 52 in
       let l : b < 2 ^ 63 = lt_of_not-le d in
@@ -356,10 +351,7 @@ no_root_lem b w h n = elim (dec_le (2 ^ 63) b) [
       ap root (fields b 2047 t (omega arith) (omega arith) e) ∙ nan_fields t s
 ]
 
--- ---- NaN, and the doubles that are their own root
-pub nan_none : (x : Float) → x ≡ nan → root x ≡ nan
-nan_none x e = ap root e ∙ unfold root in refl
-
+-- ---- the doubles that are their own root
 pub zero_own : root (of_bits binary64 0) ≡ of_bits binary64 0
 unfolding root of_bits
 zero_own = refl

@@ -1,13 +1,15 @@
 -- What no refusal tells: an accepted range lies inside its trace, and accepted traces of a pair have one length. Assumes nothing.
-use Prim.Native.Nat.{ℕ, ◌+◌, ◌<◌, ◌≤◌}
+use Prim.Native.Nat.{ℕ, ◌+◌, ◌<◌, ◌≤◌, min}
+use lib.ListN.{length}
 use mathlib.Core.Path.{◌≡◌, refl, sym, ◌∙◌}
-use mathlib.Core.Bool.{Bool, true, false}
+use mathlib.Core.Bool.{Bool, true, false, ◌||◌}
 use mathlib.Core.List.{List}
 use mathlib.Core.Logic.{◌⊎◌, inl, inr, ⊎_elim}
 use native.Mathlib.Omega.{arith}
 use lib.Dec.{eqb}
 use borrow.Author.Tests.{eqb-true, eqb-false, ltb-false, not-false}
-use Rattle.trace.specs.Refusals.{refusal, ◌or_else◌, range_refusal, pair_refusal}
+use Rattle.trace.specs.Trace.{Trace}
+use Rattle.trace.specs.Refusals.{refusal, ◌or_else◌, too_many, range_refusal, pair_refusal, trace_refusal, paired_refusal}
 
 bool_cases : (t : Bool) → (t ≡ true) ⊎ (t ≡ false)
 bool_cases true = inl refl
@@ -32,3 +34,17 @@ pair_fits n has map n' has' map' r e h =
     let a = none_of _ _ (sym e ∙ h) in
     let b = none_of _ _ a.0 in
     eqb-true n n' (not-false _ (not_refused_lem 2 _ (omega arith) b.1))
+
+-- an accepted trace, and two, have no more readings than a trace may
+pub few_readings : (t : Trace) → trace_refusal t ≡ 0 → length t.readings ≤ 16777216
+few_readings t z = ltb-false _ _ (not_refused_lem 1 _ (omega arith) (none_of _ _ z).0)
+
+neither_of : (a b : Bool) → (a || b) ≡ false → a ≡ false
+neither_of true b e = e
+neither_of false b e = refl
+
+pub few_pairs : (x y : Trace) → paired_refusal x y ≡ 0 → min (length x.readings) (length y.readings) ≤ 16777216
+few_pairs x y z =
+    let one = not_refused_lem 1 _ (omega arith) (none_of _ _ (none_of _ _ z).0).0 in
+    let h = ltb-false _ _ (neither_of (too_many (length x.readings)) _ one) in
+    omega arith

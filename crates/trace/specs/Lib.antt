@@ -2,3 +2,5 @@
 pub mod Slices
 pub mod Trace
 pub mod Refusals
+pub mod Outcomes
+pub mod Lent

@@ -34,6 +34,10 @@ pair_refusal n has map n' has' map' =
     refusal 1 (too_many n || too_many n') or_else refusal 2 (not (eqb n n'))
     or_else refusal 3 (wrong_map n has map || wrong_map n' has' map')
 
+-- the number of two traces
+abbrev pub paired_refusal : Trace → Trace → ℕ
+paired_refusal x y = pair_refusal (length x.readings) x.mapped x.map (length y.readings) y.mapped y.map
+
 -- a range: 1, 3, then "11 start + length > n, added without a limit of width"
 abbrev pub range_refusal : ℕ → Bool → List ℕ → ℕ → ℕ → ℕ
 range_refusal n has map start len = array_refusal n has map or_else refusal 11 (ltb n (start + len))

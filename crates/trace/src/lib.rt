@@ -2,20 +2,41 @@
 // above share them.
 #![tactic(auto)]
 
-ghost use Rattle.std.specs.Prelude.{◌≡◌, ◌||◌, ◌+◌, ltb};
+ghost use Rattle.std.specs.Prelude.{◌≡◌, ◌+◌, ltb, length};
 ghost use Rattle.trace.specs.Trace.{valid_at, both_at};
-ghost use Rattle.trace.specs.Refusals.{refusal, ◌or_else◌, wrong_map, array_refusal, pair_refusal, range_refusal};
+ghost use Rattle.trace.specs.Refusals.{wrong_map, array_refusal, pair_refusal, range_refusal, trace_refusal};
+ghost use Rattle.trace.specs.Outcomes.{outcome_number};
+ghost use Rattle.trace.specs.Lent.{mapped, bytes_of, traced, MapAs, LentAs};
+
+mod refusals;
+
+pub use refusals::{Refusal, number};
 
 // The most readings that a trace may have.
 pub const MAX_READINGS: usize = 16777216;
 
-// Whether place i is valid. A place past the map's end reads as missing.
-pub fn valid(has_map: bool, map: &[u8], i: usize) -> bool
-    ensures { result ≡ valid_at has_map map.now i }
+// A trace's readings, and its validity map where one is lent.
+#[derive(Clone, Copy)]
+pub struct Trace<'a> {
+    pub values: &'a [f64],
+    pub map: Option<&'a [u8]>,
+}
+
+// Two traces, whose places are taken together.
+#[derive(Clone, Copy)]
+pub struct Pair<'a> {
+    pub x: Trace<'a>,
+    pub y: Trace<'a>,
+}
+
+// Whether place i is valid by a map. A place past the map's end reads as missing.
+#[tactic(auto, unfolding(crate::specs::Trace::valid_at))]
+pub fn is_valid(map: Option<&[u8]>, i: usize) -> bool
+    ensures { result ≡ valid_at (mapped map.entry) (bytes_of map.entry) i }
 {
-    if !has_map {
+    let Some(map) = map else {
         return true;
-    }
+    };
     let at = i / 8;
     if map.len() <= at {
         return false;
@@ -23,73 +44,38 @@ pub fn valid(has_map: bool, map: &[u8], i: usize) -> bool
     (map[at] >> (i % 8)) % 2 == 1
 }
 
-// Whether place i is valid in both of two traces.
-pub fn both(x_has_map: bool, x_map: &[u8], y_has_map: bool, y_map: &[u8], i: usize) -> bool
-    ensures { result ≡ both_at x_has_map x_map.now y_has_map y_map.now i }
-{
-    if valid(x_has_map, x_map, i) {
-        return valid(y_has_map, y_map, i);
-    }
-    false
-}
-
-// The refusals are put together without a branch for each, so that the code mirrors their definition.
-pub fn refuse(number: u32, holds: bool) -> u32
-    ensures { result ≡ refusal number holds }
-{
-    if holds { number } else { 0 }
-}
-
-pub fn first(a: u32, b: u32) -> u32
-    ensures { result ≡ a or_else b }
-{
-    if a == 0 { b } else { a }
-}
-
-pub fn either(a: bool, b: bool) -> bool
-    ensures { result ≡ (a || b) }
-{
-    if a { true } else { b }
-}
-
 // n / 8 rounded up, by a sum that cannot wrap.
-pub fn wrong_map(n: usize, has_map: bool, map: &[u8]) -> bool
-    ensures { result ≡ wrong_map n has_map map.now }
+#[tactic(auto, unfolding(crate::specs::Refusals::wrong_map))]
+fn is_too_short(map: Option<&[u8]>, n: usize) -> bool
+    ensures { result ≡ wrong_map n (mapped map.entry) (bytes_of map.entry) }
 {
-    if has_map {
-        return map.len() < n / 8 + (n % 8 + 7) / 8;
-    }
-    false
+    let Some(map) = map else {
+        return false;
+    };
+    map.len() < n / 8 + (n % 8 + 7) / 8
 }
 
-pub fn array_refusal(n: usize, has_map: bool, map: &[u8]) -> u32
-    ensures { result ≡ array_refusal n has_map map.now }
+// What refuses n readings with a map.
+pub fn check_array(n: usize, map: Option<&[u8]>) -> Result<(), Refusal>
+    ensures { outcome_number result ≡ array_refusal n (mapped map.entry) (bytes_of map.entry) }
 {
-    first(
-        refuse(1, n > MAX_READINGS),
-        refuse(3, wrong_map(n, has_map, map)),
-    )
+    Refusal::TooManyReadings.when(n > MAX_READINGS)?;
+    Refusal::MapTooShort.when(is_too_short(map, n))
 }
 
-pub fn pair_refusal(
+// What refuses two traces.
+pub fn check_pair(
     x_len: usize,
-    x_has_map: bool,
-    x_map: &[u8],
+    x_map: Option<&[u8]>,
     y_len: usize,
-    y_has_map: bool,
-    y_map: &[u8],
-) -> u32
-    ensures { result ≡ pair_refusal x_len x_has_map x_map.now y_len y_has_map y_map.now }
+    y_map: Option<&[u8]>,
+) -> Result<(), Refusal>
+    ensures { outcome_number result ≡ pair_refusal
+        x_len (mapped x_map.entry) (bytes_of x_map.entry) y_len (mapped y_map.entry) (bytes_of y_map.entry) }
 {
-    let counts = first(
-        refuse(1, either(x_len > MAX_READINGS, y_len > MAX_READINGS)),
-        refuse(2, x_len != y_len),
-    );
-    let maps = either(
-        wrong_map(x_len, x_has_map, x_map),
-        wrong_map(y_len, y_has_map, y_map),
-    );
-    first(counts, refuse(3, maps))
+    Refusal::TooManyReadings.when((x_len > MAX_READINGS) | (y_len > MAX_READINGS))?;
+    Refusal::LengthsDiffer.when(x_len != y_len)?;
+    Refusal::MapTooShort.when(is_too_short(x_map, x_len) | is_too_short(y_map, y_len))
 }
 
 // start + length > n, of numbers whose sum might not fit.
@@ -102,11 +88,72 @@ fn past(n: usize, start: usize, length: usize) -> bool
     length > n - start
 }
 
-pub fn range_refusal(n: usize, has_map: bool, map: &[u8], start: usize, length: usize) -> u32
-    ensures { result ≡ range_refusal n has_map map.now start length }
+// A map as C lends it: it is looked at where the flag says so.
+pub fn lent_map(has_map: bool, map: &[u8]) -> Option<&[u8]>
+    ensures { MapAs has_map map.now result }
 {
-    first(
-        array_refusal(n, has_map, map),
-        refuse(11, past(n, start, length)),
-    )
+    if has_map { Some(map) } else { None }
+}
+
+impl<'a> Trace<'a> {
+    // A trace as C lends it.
+    pub fn lent(values: &'a [f64], has_map: bool, map: &'a [u8]) -> Self
+        ensures { LentAs values.now has_map map.now (traced result) }
+    {
+        Trace {
+            values,
+            map: lent_map(has_map, map),
+        }
+    }
+
+    pub fn len(self) -> usize
+        ensures { result ≡ length (traced self.entry).readings }
+    {
+        self.values.len()
+    }
+
+    // Whether place i is valid.
+    pub fn is_valid(self, i: usize) -> bool
+        ensures { result ≡ valid_at (traced self.entry).mapped (traced self.entry).map i }
+    {
+        is_valid(self.map, i)
+    }
+
+    pub fn check(self) -> Result<(), Refusal>
+        ensures { outcome_number result ≡ trace_refusal (traced self.entry) }
+    {
+        check_array(self.values.len(), self.map)
+    }
+
+    // What refuses a range of it.
+    pub fn check_range(self, start: usize, len: usize) -> Result<(), Refusal>
+        ensures { outcome_number result ≡ range_refusal (length (traced self.entry).readings)
+            (traced self.entry).mapped (traced self.entry).map start len }
+    {
+        self.check()?;
+        Refusal::RangePastTrace.when(past(self.values.len(), start, len))
+    }
+}
+
+impl Pair<'_> {
+    // Whether both traces have place i.
+    pub fn is_valid(self, i: usize) -> bool
+        ensures { result ≡ both_at (traced self.entry.x).mapped (traced self.entry.x).map
+            (traced self.entry.y).mapped (traced self.entry.y).map i }
+    {
+        self.x.is_valid(i) && self.y.is_valid(i)
+    }
+
+    pub fn check(self) -> Result<(), Refusal>
+        ensures { outcome_number result ≡ pair_refusal
+            (length (traced self.entry.x).readings) (traced self.entry.x).mapped (traced self.entry.x).map
+            (length (traced self.entry.y).readings) (traced self.entry.y).mapped (traced self.entry.y).map }
+    {
+        check_pair(
+            self.x.values.len(),
+            self.x.map,
+            self.y.values.len(),
+            self.y.map,
+        )
+    }
 }

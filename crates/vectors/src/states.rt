@@ -1,141 +1,184 @@
-// Records of insert, combine and finalize. Word 1 is the state (0 var, 1 cov, 2 pearson, 3 skew, 4
-// kurtosis), from 2 on the state's six words. Insert: 8 and 9 what is inserted, from 10 on the answer.
-// Combine: from 8 on the other state, from 14 on the answer. Finalize: 8 ddof, 9 biased, 10 fisher,
-// 11 present, 12 the figure.
-use crate::words::{are, byte, double, flag, is, reach, wide, word};
+// Records of insert, combine and finalize. Word 1 is the state's kind, from 2 on the state's six words. Insert: 8 and 9 what is inserted,
+// from 10 on the answer. Combine: from 8 on the other state, from 14 on the answer. Finalize: 8 ddof, 9 biased, 10 fisher, 11 present, 12
+// the figure.
+use crate::words::Record;
 use moment::{CovState, KurtosisState, PearsonState, SkewState, VarState};
 
-fn var(rec: &[u8]) -> VarState {
-    VarState {
-        weight: double(rec, 2),
-        mean: double(rec, 3),
-        dp: double(rec, 4),
+#[derive(Clone, Copy, Debug, PartialEq, Eq)]
+pub enum Kind {
+    Var,
+    Cov,
+    Pearson,
+    Skew,
+    Kurtosis,
+}
+
+impl TryFrom<u64> for Kind {
+    type Error = u64;
+
+    fn try_from(word: u64) -> Result<Kind, u64> {
+        match word {
+            0 => Ok(Kind::Var),
+            1 => Ok(Kind::Cov),
+            2 => Ok(Kind::Pearson),
+            3 => Ok(Kind::Skew),
+            4 => Ok(Kind::Kurtosis),
+            _ => Err(word),
+        }
     }
 }
 
-fn cov(rec: &[u8]) -> CovState {
-    CovState {
-        weight: double(rec, 2),
-        mean_x: double(rec, 3),
-        mean_y: double(rec, 4),
-        dp_xy: double(rec, 5),
+// A state as its members from a word on, in the source's order. Each is a struct of its own (document 01), so each names its members.
+pub trait State: Copy {
+    fn at(rec: Record, k: usize) -> Self;
+
+    fn stands_at(self, rec: Record, k: usize) -> bool;
+}
+
+impl State for VarState {
+    fn at(rec: Record, k: usize) -> Self {
+        let [weight, mean, dp]: [f64; 3] = rec.array(k);
+        VarState { weight, mean, dp }
+    }
+
+    fn stands_at(self, rec: Record, k: usize) -> bool {
+        rec.are(k, &[self.weight, self.mean, self.dp])
     }
 }
 
-fn pearson(rec: &[u8]) -> PearsonState {
-    PearsonState {
-        weight: double(rec, 2),
-        mean_x: double(rec, 3),
-        mean_y: double(rec, 4),
-        dp_xx: double(rec, 5),
-        dp_xy: double(rec, 6),
-        dp_yy: double(rec, 7),
+impl State for CovState {
+    fn at(rec: Record, k: usize) -> Self {
+        let [weight, mean_x, mean_y, dp_xy]: [f64; 4] = rec.array(k);
+        CovState {
+            weight,
+            mean_x,
+            mean_y,
+            dp_xy,
+        }
+    }
+
+    fn stands_at(self, rec: Record, k: usize) -> bool {
+        rec.are(k, &[self.weight, self.mean_x, self.mean_y, self.dp_xy])
     }
 }
 
-fn skew(rec: &[u8]) -> SkewState {
-    SkewState {
-        weight: double(rec, 2),
-        mean: double(rec, 3),
-        m2: double(rec, 4),
-        m3: double(rec, 5),
+impl State for PearsonState {
+    fn at(rec: Record, k: usize) -> Self {
+        let [weight, mean_x, mean_y, dp_xx, dp_xy, dp_yy]: [f64; 6] = rec.array(k);
+        PearsonState {
+            weight,
+            mean_x,
+            mean_y,
+            dp_xx,
+            dp_xy,
+            dp_yy,
+        }
+    }
+
+    fn stands_at(self, rec: Record, k: usize) -> bool {
+        let PearsonState {
+            weight,
+            mean_x,
+            mean_y,
+            dp_xx,
+            dp_xy,
+            dp_yy,
+        } = self;
+        rec.are(k, &[weight, mean_x, mean_y, dp_xx, dp_xy, dp_yy])
     }
 }
 
-fn kurtosis(rec: &[u8]) -> KurtosisState {
-    KurtosisState {
-        weight: double(rec, 2),
-        mean: double(rec, 3),
-        m2: double(rec, 4),
-        m3: double(rec, 5),
-        m4: double(rec, 6),
+impl State for SkewState {
+    fn at(rec: Record, k: usize) -> Self {
+        let [weight, mean, m2, m3]: [f64; 4] = rec.array(k);
+        SkewState {
+            weight,
+            mean,
+            m2,
+            m3,
+        }
+    }
+
+    fn stands_at(self, rec: Record, k: usize) -> bool {
+        rec.are(k, &[self.weight, self.mean, self.m2, self.m3])
     }
 }
 
-pub fn is_var(rec: &[u8], k: usize, s: VarState) -> bool {
-    are(rec, k, &[s.weight, s.mean, s.dp])
-}
+impl State for KurtosisState {
+    fn at(rec: Record, k: usize) -> Self {
+        let [weight, mean, m2, m3, m4]: [f64; 5] = rec.array(k);
+        KurtosisState {
+            weight,
+            mean,
+            m2,
+            m3,
+            m4,
+        }
+    }
 
-pub fn is_cov(rec: &[u8], k: usize, s: CovState) -> bool {
-    are(rec, k, &[s.weight, s.mean_x, s.mean_y, s.dp_xy])
-}
-
-pub fn is_pearson(rec: &[u8], k: usize, s: PearsonState) -> bool {
-    are(
-        rec,
-        k,
-        &[s.weight, s.mean_x, s.mean_y, s.dp_xx, s.dp_xy, s.dp_yy],
-    )
-}
-
-pub fn is_skew(rec: &[u8], k: usize, s: SkewState) -> bool {
-    are(rec, k, &[s.weight, s.mean, s.m2, s.m3])
-}
-
-pub fn is_kurtosis(rec: &[u8], k: usize, s: KurtosisState) -> bool {
-    are(rec, k, &[s.weight, s.mean, s.m2, s.m3, s.m4])
-}
-
-pub fn insert(rec: &[u8]) -> bool {
-    let x = double(rec, 8);
-    let y = double(rec, 9);
-    match word(rec, 1) {
-        0 => is_var(rec, 10, moments::moments_var_insert_one(var(rec), x)),
-        1 => is_cov(rec, 10, moments::moments_cov_insert_one(cov(rec), x, y)),
-        2 => is_pearson(
-            rec,
-            10,
-            moments::moments_pearson_insert_one(pearson(rec), x, y),
-        ),
-        3 => is_skew(rec, 10, moments::moments_skew_insert_one(skew(rec), x)),
-        4 => is_kurtosis(
-            rec,
-            10,
-            moments::moments_kurtosis_insert_one(kurtosis(rec), x),
-        ),
-        _ => false,
+    fn stands_at(self, rec: Record, k: usize) -> bool {
+        rec.are(k, &[self.weight, self.mean, self.m2, self.m3, self.m4])
     }
 }
 
-// Six words on, the other state stands where the first does.
-pub fn combine(rec: &[u8]) -> bool {
-    let at = reach(rec, 6);
-    let o = &rec[at..];
-    match word(rec, 1) {
-        0 => is_var(rec, 14, moments::moments_var_combine(var(rec), var(o))),
-        1 => is_cov(rec, 14, moments::moments_cov_combine(cov(rec), cov(o))),
-        2 => is_pearson(
-            rec,
-            14,
-            moments::moments_pearson_combine(pearson(rec), pearson(o)),
-        ),
-        3 => is_skew(rec, 14, moments::moments_skew_combine(skew(rec), skew(o))),
-        4 => is_kurtosis(
-            rec,
-            14,
-            moments::moments_kurtosis_combine(kurtosis(rec), kurtosis(o)),
-        ),
-        _ => false,
+fn inserted<S: State, F: FnOnce(S, f64, f64) -> S>(rec: Record, insert: F) -> bool
+    requires { F.IsAlwaysCallable insert }
+{
+    insert(S::at(rec, 2), rec.get(8), rec.get(9)).stands_at(rec, 10)
+}
+
+pub fn insert(rec: Record) -> bool {
+    match Kind::try_from(rec.word(1)) {
+        Ok(Kind::Var) => inserted(rec, |s, x, _| moments::moments_var_insert_one(s, x)),
+        Ok(Kind::Cov) => inserted(rec, moments::moments_cov_insert_one),
+        Ok(Kind::Pearson) => inserted(rec, moments::moments_pearson_insert_one),
+        Ok(Kind::Skew) => inserted(rec, |s, x, _| moments::moments_skew_insert_one(s, x)),
+        Ok(Kind::Kurtosis) => inserted(rec, |s, x, _| moments::moments_kurtosis_insert_one(s, x)),
+        Err(_) => false,
+    }
+}
+
+fn combined<S: State, F: FnOnce(S, S) -> S>(rec: Record, combine: F) -> bool
+    requires { F.IsAlwaysCallable combine }
+{
+    combine(S::at(rec, 2), S::at(rec, 8)).stands_at(rec, 14)
+}
+
+pub fn combine(rec: Record) -> bool {
+    match Kind::try_from(rec.word(1)) {
+        Ok(Kind::Var) => combined(rec, moments::moments_var_combine),
+        Ok(Kind::Cov) => combined(rec, moments::moments_cov_combine),
+        Ok(Kind::Pearson) => combined(rec, moments::moments_pearson_combine),
+        Ok(Kind::Skew) => combined(rec, moments::moments_skew_combine),
+        Ok(Kind::Kurtosis) => combined(rec, moments::moments_kurtosis_combine),
+        Err(_) => false,
     }
 }
 
 // The figure is lent as 1.0, so that a missing one is seen to be written.
-pub fn finalize(rec: &[u8]) -> bool {
-    let ddof = byte(rec, 8);
-    let bias = flag(rec, 9);
-    let mut x = 1.0;
-    let present = match word(rec, 1) {
-        0 => moments::moments_var_finalize(var(rec), ddof, &mut x),
-        1 => moments::moments_cov_finalize(cov(rec), ddof, &mut x),
-        3 => moments::moments_skew_finalize(skew(rec), bias, &mut x),
-        4 => moments::moments_kurtosis_finalize(kurtosis(rec), flag(rec, 10), bias, &mut x),
-        _ => {
-            x = moments::moments_pearson_finalize(pearson(rec));
+fn finalized<S: State, F: FnOnce(S, &mut f64) -> u8>(rec: Record, finalize: F) -> bool
+    requires { F.IsAlwaysCallable finalize }
+{
+    let mut figure = 1.0;
+    let present = finalize(S::at(rec, 2), &mut figure);
+    rec.is(11, present) && rec.is(12, figure)
+}
+
+pub fn finalize(rec: Record) -> bool {
+    let ddof = rec.get(8);
+    let bias = rec.flag(9);
+    let fisher = rec.flag(10);
+    match Kind::try_from(rec.word(1)) {
+        Ok(Kind::Var) => finalized(rec, |s, x| moments::moments_var_finalize(s, ddof, x)),
+        Ok(Kind::Cov) => finalized(rec, |s, x| moments::moments_cov_finalize(s, ddof, x)),
+        Ok(Kind::Pearson) => finalized(rec, |s, x| {
+            *x = moments::moments_pearson_finalize(s);
             1
-        }
-    };
-    if wide(present) == word(rec, 11) {
-        return is(rec, 12, x);
+        }),
+        Ok(Kind::Skew) => finalized(rec, |s, x| moments::moments_skew_finalize(s, bias, x)),
+        Ok(Kind::Kurtosis) => finalized(rec, |s, x| {
+            moments::moments_kurtosis_finalize(s, fisher, bias, x)
+        }),
+        Err(_) => false,
     }
-    false
 }

@@ -1,177 +1,157 @@
-// A stored list is words of 16 hexadecimal digits, each followed by one byte, so word k stands at
-// byte 17 * k. A record is a part of a list, its words counted from 0. What lies past the end
-// reads as 0, so nothing is asked of a list.
-ghost use Rattle.std.specs.Prelude.{◌≡◌, ◌+◌, ◌<◌, ◌≤◌, length};
-ghost use Rattle.vectors.specs.Lends.{Lends};
+// A stored list is words of 16 hexadecimal digits. A record is a part of it, whose first word says how many words it has. What lies past
+// its end reads as 0, and a list that is not whole in it as empty, so nothing is asked of a record.
+ghost use Rattle.std.specs.Prelude.{length};
+ghost use Rattle.std.specs.Iterator.{at_most};
 
-pub fn wide(x: u8) -> u64
-    ensures { result ≡ x }
-{
-    x as u64
+use std::alloc::{AllocError, Global};
+use std::{array, io};
+
+pub fn read(alloc: Global, text: &str) -> io::Result<Vec<u64>> {
+    text.split_ascii_whitespace()
+        .map(|word| -> io::Result<u64> {
+            u64::from_str_radix(word, 16).map_err(|_| io::ErrorKind::InvalidData.into())
+        })
+        .try_collect(alloc)
 }
 
-// Any other byte counts as 0.
-fn digit(b: u8) -> u64
-    ensures { result < 16 }
-{
-    match b {
-        b'0'..=b'9' => wide(b - b'0'),
-        b'A'..=b'F' => wide(b - b'A' + 10),
-        _ => 0,
+// The n words from word k on, or none where there are fewer.
+fn part(words: &[u64], k: usize, n: usize) -> &[u64] {
+    words.get(k..).and_then(|rest| rest.get(..n)).unwrap_or(&[])
+}
+
+// What a word stands for.
+pub trait Word: Copy {
+    fn from_word(word: u64) -> Self;
+
+    fn to_word(self) -> u64;
+}
+
+impl Word for usize {
+    fn from_word(word: u64) -> Self {
+        word as usize
+    }
+
+    fn to_word(self) -> u64 {
+        self as u64
     }
 }
 
-fn digits2(list: &[u8], at: usize) -> u64
-    requires { at + 2 ≤ length list.now }
-    ensures { result < 256 }
-{
-    digit(list[at]) * 16 + digit(list[at + 1])
-}
-
-fn digits4(list: &[u8], at: usize) -> u64
-    requires { at + 4 ≤ length list.now }
-    ensures { result < 65536 }
-{
-    digits2(list, at) * 256 + digits2(list, at + 2)
-}
-
-fn digits8(list: &[u8], at: usize) -> u64
-    requires { at + 8 ≤ length list.now }
-    ensures { result < 4294967296 }
-{
-    digits4(list, at) * 65536 + digits4(list, at + 4)
-}
-
-fn digits16(list: &[u8], at: usize) -> u64
-    requires { at + 16 ≤ length list.now }
-{
-    digits8(list, at) * 4294967296 + digits8(list, at + 8)
-}
-
-pub fn word(list: &[u8], k: usize) -> u64 {
-    if k < list.len() / 17 {
-        return digits16(list, k * 17);
+impl Word for u32 {
+    fn from_word(word: u64) -> Self {
+        (word & 0xffff_ffff) as u32
     }
-    0
-}
 
-pub fn flag(list: &[u8], k: usize) -> bool {
-    word(list, k) == 1
-}
-
-pub fn double(list: &[u8], k: usize) -> f64 {
-    float::from_bits(word(list, k))
-}
-
-pub fn byte(list: &[u8], k: usize) -> u8 {
-    (word(list, k) % 256) as u8
-}
-
-// The number that stands at k, at most 1024.
-pub fn count(list: &[u8], k: usize) -> usize
-    ensures { result ≤ 1024 }
-{
-    let n = word(list, k);
-    if n < 1024 {
-        return n as usize;
+    fn to_word(self) -> u64 {
+        u64::from(self)
     }
-    1024
 }
 
-// The bytes that the list's first `words` words take, or all there are.
-pub fn reach(list: &[u8], words: u64) -> usize
-    ensures { result ≤ length list.now }
-{
-    if words < (list.len() / 17) as u64 {
-        return words as usize * 17;
+impl Word for u8 {
+    fn from_word(word: u64) -> Self {
+        (word & 0xff) as u8
     }
-    list.len()
-}
 
-// Room of which the first n places hold the n words from word `from` on, as doubles.
-pub(crate) fn doubles(list: &[u8], from: usize, n: usize) -> [f64; 1024]
-    requires { n ≤ 1024 }
-    ensures { Lends n result }
-{
-    let mut out = [0.0; 1024];
-    let mut i = 0;
-    while i < n {
-        out[i] = double(list, std::num::wrapping_add_usize(from, i));
-        i += 1;
+    fn to_word(self) -> u64 {
+        u64::from(self)
     }
-    out
 }
 
-fn number(list: &[u8], k: usize) -> u32 {
-    (word(list, k) % 4294967296) as u32
-}
-
-// The same, as numbers of 32 bits.
-pub(crate) fn numbers(list: &[u8], from: usize, n: usize) -> [u32; 1024]
-    requires { n ≤ 1024 }
-    ensures { Lends n result }
-{
-    let mut out = [0u32; 1024];
-    let mut i = 0;
-    while i < n {
-        out[i] = number(list, std::num::wrapping_add_usize(from, i));
-        i += 1;
+// An expected NaN is 7FF8000000000000, and every NaN reads so.
+impl Word for f64 {
+    fn from_word(word: u64) -> Self {
+        float::from_bits(word)
     }
-    out
-}
 
-// Byte i of the words from `from` on, eight a word, lowest first: the trace of a host call.
-fn packed(list: &[u8], from: usize, i: usize) -> u8 {
-    let w = word(list, std::num::wrapping_add_usize(from, i / 8));
-    ((w >> (i % 8 * 8)) % 256) as u8
-}
-
-fn nth(list: &[u8], from: usize, eight: bool, i: usize) -> u8 {
-    if eight {
-        return packed(list, from, i);
+    fn to_word(self) -> u64 {
+        float::to_bits(self)
     }
-    byte(list, std::num::wrapping_add_usize(from, i))
 }
 
-// The same, as bytes: the lowest of each word, or all eight.
-pub(crate) fn bytes(list: &[u8], from: usize, eight: bool, n: usize) -> [u8; 1024]
-    requires { n ≤ 1024 }
-    ensures { Lends n result }
-{
-    let mut out = [0u8; 1024];
-    let mut i = 0;
-    while i < n {
-        out[i] = nth(list, from, eight, i);
-        i += 1;
+#[derive(Clone, Copy)]
+pub struct Record<'a> {
+    alloc: Global,
+    words: &'a [u64],
+}
+
+impl Record<'_> {
+    pub fn word(self, k: usize) -> u64 {
+        self.words.get(k).copied().unwrap_or(0)
     }
-    out
-}
 
-// Whether x has the bits at k. An expected NaN is 7FF8000000000000, and every NaN reads so.
-pub fn is(list: &[u8], k: usize, x: f64) -> bool {
-    float::to_bits(x) == word(list, k)
-}
-
-// Whether the values have the bits that stand from word `from` on.
-pub fn are(list: &[u8], from: usize, values: &[f64]) -> bool {
-    let mut i = 0;
-    while i < values.len() {
-        if !is(list, std::num::wrapping_add_usize(from, i), values[i]) {
-            return false;
-        }
-        i += 1;
+    pub fn flag(self, k: usize) -> bool {
+        self.word(k) == 1
     }
-    true
+
+    pub fn get<T: Word>(self, k: usize) -> T {
+        T::from_word(self.word(k))
+    }
+
+    pub fn is<T: Word>(self, k: usize, value: T) -> bool {
+        value.to_word() == self.word(k)
+    }
+
+    // What the N words from word k on stand for.
+    pub fn array<T: Word, const N: usize>(self, k: usize) -> [T; N] {
+        array::from_fn(|i| self.get(k.saturating_add(i)))
+    }
+
+    // What the n words from word k on stand for, or nothing where the record ends before.
+    pub fn values<T: Word>(self, k: usize, n: usize) -> Result<Vec<T>, AllocError> {
+        part(self.words, k, n)
+            .iter()
+            .map(|word| T::from_word(*word))
+            .collect(self.alloc)
+    }
+
+    // Whether the words from word k on stand for these values.
+    pub fn are<T: Word>(self, k: usize, values: &[T]) -> bool {
+        values
+            .iter()
+            .map(|value| value.to_word())
+            .eq(part(self.words, k, values.len()).iter().copied())
+    }
+
+    // The list whose place and length stand at word k and behind it.
+    pub fn list<T: Word>(self, k: usize) -> Result<Vec<T>, AllocError> {
+        let [from, n]: [usize; 2] = self.array(k);
+        self.values(from, n)
+    }
+
+    pub fn is_list<T: Word>(self, k: usize, values: &[T]) -> bool {
+        let [from, n]: [usize; 2] = self.array(k);
+        values.len() == n && self.are(from, values)
+    }
+
+    // The bytes whose place and count stand there, eight a word, lowest first.
+    pub fn packed(self, k: usize) -> Result<Vec<u8>, AllocError> {
+        let [from, n]: [usize; 2] = self.array(k);
+        part(self.words, from, n.div_ceil(8))
+            .iter()
+            .flat_map(|word| word.to_le_bytes())
+            .take(n)
+            .collect(self.alloc)
+    }
 }
 
-// Whether the values are the bytes that stand from word `from` on.
-pub fn are_bytes(list: &[u8], from: usize, values: &[u8]) -> bool {
-    let mut i = 0;
-    while i < values.len() {
-        if byte(list, std::num::wrapping_add_usize(from, i)) != values[i] {
-            return false;
-        }
-        i += 1;
+// The records of a list, up to one that is not whole.
+#[derive(Drop)]
+pub struct Records<'a> {
+    pub alloc: Global,
+    pub words: &'a [u64],
+}
+
+impl<'a> Iterator for Records<'a> {
+    type Item = Record<'a>;
+
+    ghost remaining = { λ s. at_most (length s.words.now) };
+
+    fn next(&mut self) -> Option<Record<'a>> {
+        let n = *self.words.first()? as usize;
+        let (words, rest) = self.words.split_at_checked(n.max(1))?;
+        self.words = rest;
+        Some(Record {
+            alloc: self.alloc,
+            words,
+        })
     }
-    true
 }

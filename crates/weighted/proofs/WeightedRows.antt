@@ -16,8 +16,14 @@ use Rattle.float.specs.Tables.{table}
 use Rattle.float.proofs.Cases.{apart}
 use Rattle.float.proofs.Counts.{zero_is}
 use Rattle.float.proofs.Tables.{table-length, table-place, table_same}
-use Rattle.trace.specs.Trace.{Trace}
+use Rattle.trace.specs.Trace.{Trace, trace_of}
+use Rattle.trace.specs.Lent.{LentAs}
+use Rattle.trace.proofs.Lent.{lent_wrong}
 use Rattle.trace.specs.Refusals.{trace_refusal}
+use Rattle.std.specs.Prelude.{Result, Ok, Err, IsErrAnd}
+use Rattle.trace.specs.Outcomes.{number_of, outcome_number}
+use Rattle.trace.specs.declared.refusals.Refusal.{Refusal}
+use Rattle.trace.proofs.Checks.{number_above}
 use Rattle.trace.proofs.Accepted.{none_of, not_refused_lem}
 use Rattle.moment.specs.Figure.{double_of, byte_of}
 use Rattle.moment.specs.declared.Figure.{Figure}
@@ -32,7 +38,8 @@ use Rattle.window.specs.Code.Filling.{Upto}
 use Rattle.window.proofs.Outputs.{upto_done, unfilled, column-is}
 use Rattle.weighted.specs.Weights.{total_of, variance_of, compute_var_weights, weights_start, aligned, weighted_at}
 use Rattle.weighted.specs.Weights.{weights_refusal, CalledWeights}
-use Rattle.weighted.specs.Code.Sums.{sums_of, sums_at, SumsUpTo}
+use Rattle.weighted.specs.Code.Blocks.{BlockRows}
+use Rattle.weighted.specs.Code.Sums.{Lists, sums_of, sums_at, SumsUpTo}
 use Rattle.weighted.specs.Code.Rows.{length_at, validity_at, answer_of, double_at, variance_by, weighted_by}
 use Rattle.weighted.specs.Code.Rows.{AcceptedWeights, WrittenWeights}
 
@@ -41,9 +48,6 @@ abbrev pub Held : ℕ → ℕ → ℕ → ℕ → Offsets → Type 0
 Held n left right k at = k < n → Reaches left right n k at.start at.end
 
 module _ (n left right k : ℕ) {at : Offsets} (v : Held n left right k at) (h : k < n) where
-  pub rises : at.start ≤ at.end
-  rises = let x = (v h).start_is in let y = (v h).end_is in omega arith
-
   -- whether it is long enough
   pub validity-is : (min_periods : ℕ) → bool_byte (leb min_periods (at.end - at.start)) ≡ validity_at n left right min_periods k
   validity-is min_periods = rw ((v h).start_is, (v h).end_is) (go (leb min_periods (length_at n left right k)) refl)
@@ -54,25 +58,25 @@ module _ (n left right k : ℕ) {at : Offsets} (v : Held n left right k at) (h :
 
 -- ---- after the last weight
 -- a row's variance, of its sums
-variance_done : (values weights : List Float) (total : Float) (left first until : ℕ) {wssq wsum wtot : List Float}
-    → SumsUpTo values weights total left first until (length weights) wssq wsum wtot → (r : ℕ) → r < until - first
-    → variance_of (sums_at wssq wsum wtot r) ≡ variance_by values weights total left (length weights - left) (first + r)
-variance_done values weights total left first until held r h =
-    let b = held.block.before in
+variance_done : (values weights : List Float) (total : Float) (left first until : ℕ) → BlockRows (length values) (length weights) left first until
+    → {s : Lists} → SumsUpTo values weights total left first until (length weights) s → (r : ℕ) → r < until - first
+    → variance_of (sums_at s r) ≡ variance_by values weights total left (length weights - left) (first + r)
+variance_done values weights total left first until block held r h =
+    let b = block.before in
     let z : first + r + length weights - left ≡ first + r + (length weights - left) = omega arith in
     ap variance_of (held.sums_are r h ∙ ap (λ (i : ℕ). sums_of values weights total left (first + r) (min (length values) i - (first +
     r - left))) z)
 
 -- a block's doubles, of their sums
-pub block_done : (values weights : List Float) (total : Float) (left first until : ℕ) {wssq wsum wtot : List Float}
-    → SumsUpTo values weights total left first until (length weights) wssq wsum wtot
+pub block_done : (values weights : List Float) (total : Float) (left first until : ℕ) → BlockRows (length values) (length weights) left first until
+    → {s : Lists} → SumsUpTo values weights total left first until (length weights) s
     → (present : List ℕ) {figures : List Float} {m : ℕ} → m ≡ until - first
-    → figures ≡ table (double_at present (λ r. variance_of (sums_at wssq wsum wtot r))) m
+    → figures ≡ table (double_at present (λ r. variance_of (sums_at s r))) m
     → figures ≡ table (double_at present (λ r. variance_by values weights total left (length weights - left) (first + r))) (until - first)
-block_done values weights total left first until held present m t =
+block_done values weights total left first until block held present m t =
     t ∙ ap (table _) m
     ∙ table_same _ _ (until - first) (λ r h. ap (λ (x : Float). double_of (answer_of (get_or present r 0) x)) (variance_done values
-    weights total left first until held r h))
+    weights total left first until block held r h))
 
 -- its answer has the byte by its length, and the double by its byte
 module _ (values weights : List Float) (total : Float) (left right min_periods k : ℕ) where
@@ -228,6 +232,14 @@ module _ (size : ℕ) (weights : List Float) (t : Trace) (c : Column) where
     pub weights_refused : {number : ℕ} → number ≡ Number → (number ≡ 0 → ⊥) → CalledWeights center size min_periods weights t c c number
     weights_refused {number} e h = record { number_is = e; column-is = column-is (unfilled _ number N c.doubles h) (unfilled _ number N c.bytes h) }
 
+    -- the error that a `?` hands on
+    pub weights-stopped : (r : Result (Unit {0}) Refusal) (e : Refusal) → IsErrAnd r (λ x. x ≡ e) → number_of e ≡ Number →
+        CalledWeights center size min_periods weights t c c (outcome_number r)
+    weights-stopped (Ok _) e h q = elim h [ ]
+    weights-stopped (Err x) e h q =
+        let f : 0 < number_of x = number_above x in
+        weights_refused (ap number_of h ∙ q) (λ z. absurd (omega arith))
+
     -- rows by as many places as there are weights are rows by the window's size
     pub weights-called : {c₁ : Column} → 0 ≡ Number → WrittenWeights center min_periods weights t.readings c c₁ →
         CalledWeights center size min_periods weights t c c₁ 0
@@ -236,3 +248,13 @@ module _ (size : ℕ) (weights : List Float) (t : Trace) (c : Column) where
           number_is = z;
           column-is = w.column-is ∙ ap (λ (s : ℕ). column_after 0 (weighted_at center s min_periods weights t.readings) N c) (taken z).same;
         }
+
+-- a trace that is lent with a flag is worked as the trace that the flag tells
+pub weights_lent : {center : Bool} {size min_periods : ℕ} {weights values : List Float} {has : Bool} {map : List ℕ} {t : Trace} {c₀ c₁ : Column} {number : ℕ} →
+    LentAs values has map t → CalledWeights center size min_periods weights t c₀ c₁ number →
+    CalledWeights center size min_periods weights (trace_of values has map) c₀ c₁ number
+weights_lent {values = values} {has = has} {map = map} {t = t} h call =
+    record {
+      number_is = rw (lent_wrong (length t.readings) values has map t h, h.mapped_is, h.readings_are) at call.number_is;
+      column-is = rw (h.readings_are) at call.column-is;
+    }

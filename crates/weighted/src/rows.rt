@@ -5,15 +5,14 @@ ghost use Rattle.std.specs.Prelude.{◌≡◌, ◌≤◌, length};
 ghost use Rattle.weighted.specs.Weights.{variance_of};
 ghost use Rattle.moment.specs.Figure.{double_of};
 ghost use Rattle.window.specs.Code.Filling.{Upto};
-ghost use Rattle.weighted.specs.Code.Rows.{validity_at, answer_of, Finishable, Finishes, Workable, Works};
+ghost use Rattle.weighted.specs.Code.Rows.{validity_at, answer_of, Finishable, Finishes, BlockLent, WritesBlock};
 ghost use Rattle.weighted.specs.Code.Rows.{AcceptedWeights, WritesWeights};
 
-use crate::sums;
+use crate::sums::{BLOCK, Block, BlockSums};
 use plan::Offsets;
 
-const BLOCK: usize = 32;
-
 // The last step of 002's `compute_var_weights`, of its three sums. A zero total is no missing figure, and a figure below zero stays.
+#[tactic(auto, unfolding(crate::specs::Weights::variance_of))]
 fn variance(wssq: f64, wsum: f64, wtot: f64) -> f64
     ensures { result ≡ variance_of (record { wssq = wssq; wsum = wsum; wtot = wtot }) }
 {
@@ -31,13 +30,11 @@ fn create_validity(n: usize, left: usize, right: usize, min_periods: usize, pres
 {
     let mut at = Offsets {
         start: 0,
-        end: plan::shorter(n, right),
+        end: n.min(right),
     };
-    let mut row: usize = 0;
-    while row < n {
-        present[row] = (min_periods <= at.end - at.start) as u8;
+    for row in 0..n {
+        present[row] = u8::from(min_periods <= at.end - at.start);
         at = plan::next_offsets(row, at, left, n);
-        row += 1;
     }
 }
 
@@ -52,39 +49,31 @@ fn double(present: u8, variance: f64) -> f64
 }
 
 // The doubles of the rows that have these bytes, of their sums.
-fn finish(wssq: &[f64], wsum: &[f64], wtot: &[f64], present: &[u8], figures: &mut [f64])
-    requires { Finishable wssq.now wsum.now wtot.now present.now (length figures.old) }
-    ensures { Finishes wssq wsum wtot present figures }
+fn finish(sums: BlockSums, present: &[u8], figures: &mut [f64])
+    requires { Finishable present.now (length figures.old) }
+    ensures { Finishes sums.entry present figures }
 {
-    let mut r = 0;
-    while r < figures.len() {
-        let variance = variance(wssq[r], wsum[r], wtot[r]);
-        figures[r] = double(present[r], variance);
-        r += 1;
+    for (r, figure) in figures.iter_mut().enumerate() {
+        let variance = variance(sums.wssq[r], sums.wsum[r], sums.wtot[r]);
+        *figure = double(present[r], variance);
     }
 }
 
-// The rows from `first` up to `until`, which have these bytes.
-fn block(
-    values: &[f64],
-    left: usize,
-    weights: &[f64],
-    total: f64,
-    first: usize,
-    until: usize,
-    present: &[u8],
-    figures: &mut [f64],
-)
-    requires { Workable (length values.now) (length weights.now) left first until present.now figures.old }
-    ensures { Works values left weights total first until present figures }
+// The rows of a block, which have these bytes.
+fn write_block(block: Block, present: &[u8], figures: &mut [f64])
+    requires { BlockLent block present.now figures.old }
+    ensures { WritesBlock block.entry present figures }
 {
     let mut wssq = [0.0; BLOCK];
     let mut wsum = [0.0; BLOCK];
     let mut wtot = [0.0; BLOCK];
-    sums::of_block(
-        values, weights, total, left, first, until, &mut wssq, &mut wsum, &mut wtot,
-    );
-    finish(&wssq, &wsum, &wtot, present, figures);
+    let mut sums = BlockSums {
+        wssq: &mut wssq,
+        wsum: &mut wsum,
+        wtot: &mut wtot,
+    };
+    sums.weigh_all(block);
+    finish(sums, present, figures);
 }
 
 // Every row of an accepted call.
@@ -103,19 +92,17 @@ pub(crate) fn write_rows(
     let right = plan::right_window(center, weights.len());
     let left = weights.len() - right;
     create_validity(values.len(), left, right, min_periods, present);
-    let mut first: usize = 0;
-    while first < values.len() {
+    for k in 0..values.len().div_ceil(BLOCK) {
+        let first = k * BLOCK;
         let until = plan::end_of(BLOCK, values.len(), first);
-        block(
+        let block = Block {
             values,
-            left,
             weights,
             total,
+            left,
             first,
             until,
-            &present[first..until],
-            &mut figures[first..until],
-        );
-        first = until;
+        };
+        write_block(block, &present[first..until], &mut figures[first..until]);
     }
 }

@@ -1,9 +1,8 @@
--- Laws of places, stacks and moves, over any moment and any layout; of single readings and of pairs; of rows; of the lists that are filled;
+-- Laws of places, stacks and moves, over any moment and any layout; of pairs; of rows; of the lists that are filled;
 -- of what two moments keep alike.
 pub mod Places
 pub mod Stacks
 pub mod Moves
-pub mod Readings
 pub mod Pairs
 pub mod Rows
 pub mod Extremes

@@ -229,6 +229,30 @@ module _ {C A : Type 0} (M : Stored C A) where
     pub out-kept : flips ≡ false → (w'.back ≡ 0 → ⊥) → Held M t base w' agg work
     out-kept z n = subst (λ (y : M.moment.State). Held M t base w' y work) (sym (kept_more agg w'.back n)) (unflipped z)
 
+    -- a flip puts the split at the end
+    flip_to : flips ≡ true → (s ≤ w.end) × (length F < Out) × (account w' ≡ record { start = s; end = w.end; split = w.end })
+    flip_to z = go (leb w.end s) refl
+      where
+        go : (q : Bool) → leb w.end s ≡ q → (s ≤ w.end) × (length F < Out) × (account w' ≡ record { start = s; end = w.end; split = w.end })
+        go true q = apart (sym (gone.flips_is ∙ rw q) ∙ z)
+        go false q =
+            let o = ltb-true w.front (Out) (sym (no-flip q) ∙ z) in
+            let g = leb-false w.end s q in
+            let i = front-many t w held.numbers in
+            let o' : length F < Out = omega arith in
+            (omega arith, o', gone.to ∙ rw (q, (split-law t.places.valid t.entry (s - w.start) w.start w.end w.split).1 o'))
+
+    flip_bare : flips ≡ true → back t (account w') ≡ []
+    flip_bare z =
+        let e = flip_to z in
+        let k = e.0 in
+        let m : max s w.end ≡ w.end = omega arith in
+        ap (back t) e.2 ∙ rw (m, entries-self t.places.valid t.entry)
+
+    -- and leaves nothing behind it
+    pub flip-empties : flips ≡ true → w'.back ≡ 0
+    flip-empties z = back-many t w' gone.numbers ∙ ap length (flip_bare z)
+
     module _ (room : M.in_front.width * w.back ≤ base) (fits : base + M.in_back.width * w.back ≤ length work) (z : flips ≡ true)
         (work' : List C) (flipped : work' ≡ in_memory M.in_front (front_stack M.moment B) ++ drop (M.in_front.width * w.back) work) where
       -- what lies from base on is as it was
@@ -243,24 +267,13 @@ module _ {C A : Type 0} (M : Stored C A) where
           ∙ rw (drop-append-add, drop-drop, v)
 
       pub out-flipped : (agg' : M.moment.State) → agg' ≡ M.moment.empty → Held M t base w' agg' work' × (drop base work' ≡ drop base work)
-      out-flipped agg' a = (go (leb w.end s) refl, out-rest)
-        where
-          go : (q : Bool) → leb w.end s ≡ q → Held M t base w' agg' work'
-          go true q = apart (sym (gone.flips_is ∙ rw q) ∙ z)
-          go false q =
-              let c = held.numbers in
-              let o = ltb-true w.front (Out) (sym (no-flip q) ∙ z) in
-              let g = leb-false w.end s q in
-              let k : s ≤ w.end = omega arith in
-              let m : max s w.end ≡ w.end = omega arith in
-              let i = front-many t w c in
-              let o' : length F < Out = omega arith in
-              let e : account w' ≡ record { start = s; end = w.end; split = w.end } =
-              gone.to ∙ rw (q, (split-law t.places.valid t.entry (s - w.start) w.start w.end w.split).1 o') in
-              let f : front t (account w') ≡ drop (Out - length F) B =
-              ap (front t) e ∙ flip-front t.places.valid t.entry w.start w.end w.split s h k c.split_le o' in
-              bare work' (ap (back t) e ∙ rw (m, entries-self t.places.valid t.entry))
-              (rw (f, flipped) (fewer B (drop (M.in_front.width * w.back) work) (Out - length F))) agg' a
+      out-flipped agg' a =
+          let e = flip_to z in
+          let f : front t (account w') ≡ drop (Out - length F) B =
+          ap (front t) e.2 ∙ flip-front t.places.valid t.entry w.start w.end w.split s h e.0 held.numbers.split_le e.1 in (
+            bare work' (flip_bare z) (rw (f, flipped) (fewer B (drop (M.in_front.width * w.back) work) (Out - length F))) agg' a,
+            out-rest,
+          )
 
 -- ---- places enter
 -- a part that begins at base, when it is back

@@ -4,12 +4,12 @@ use Prim.Native.Nat.{ℕ, zero, suc, ◌+◌, ◌-◌, ◌*◌, ◌≤◌, ◌<�
 use mathlib.Core.Path.{◌≡◌, refl, sym, ap, ◌∙◌, subst}
 use mathlib.Core.Bool.{Bool, true, false}
 use mathlib.Core.List.{List, [], ◌∷◌, ◌++◌, append_assoc, append-nil, foldl-append}
-use native.Mathlib.Nat.{mul-zero, mul-add, mul-suc, mul-sub, mul-le-mul_left, add-zero, zero-add}
+use native.Mathlib.Nat.{mul-zero, mul-add, mul-suc, mul-le-mul_left, add-zero}
 use native.Mathlib.Numerals.{add-one}
 use native.Mathlib.Omega.{arith}
 use mir.Val.{bool_byte}
 use lib.ListN.{length, take, drop, length-append, length-drop, length-take, drop_of_length-le, take-append-drop}
-use lib.Seq.{take-length, take-append-le, take-append_seam, drop_at, drop-append-add, drop-drop, sets, sets-eq, length-sets}
+use lib.Seq.{take-length, take-append-le, take-append_seam, drop_at, drop-append-add, drop-drop, sets, sets-eq}
 use Rattle.window.specs.Places.{Series, entries, valid_count}
 use Rattle.window.specs.Window.{falling}
 use Rattle.window.specs.Code.Memory.{Layout, Stored, in_memory}
@@ -97,173 +97,134 @@ cons_at_lem (x ∷ l) (suc j) h = let i = cons_at_lem l j (omega arith) in (i.0,
 
 -- ---- a flip: the turns of its loop
 
--- where the j entries below are left of the list B, which stands n entries long in the back stack: l₀ is the work slice at first, l now
-pub record Flip {C A : Type 0} (M : Stored C A) (l₀ : List C) (n : ℕ) (B : List A) (l : List C) (agg : M.moment.State) (at j : ℕ) : Type 0 where
-  pub low : j ≤ n
-  pub place : at + M.in_front.width * j ≡ M.in_front.width * n
-  pub same : length l ≡ length l₀
-  pub agg_is : agg ≡ falling M.moment (drop j B)
-  pub list_is : l ≡ in_memory M.in_front (front_stack M.moment (drop j B)) ++ drop at l₀
+-- where the last k of the list B are turned over, which stands n entries long in the back stack: l₀ is the work slice at first, l now
+pub record Flip {C A : Type 0} (M : Stored C A) (l₀ : List C) (n : ℕ) (B : List A) (l : List C) (agg : M.moment.State) (k : ℕ) : Type 0 where
+  pub agg_is : agg ≡ falling M.moment (drop (n - k) B)
+  pub list_is : l ≡ in_memory M.in_front (front_stack M.moment (drop (n - k) B)) ++ drop (M.in_front.width * k) l₀
 
-module _ {C A : Type 0} (M : Stored C A) (l₀ : List C) (base n : ℕ) (B : List A) (many : length B ≡ n) where
-  pub flip-start : (agg : M.moment.State) → agg ≡ M.moment.empty → Flip M l₀ n B l₀ agg 0 n
+module _ {C A : Type 0} (M : Stored C A) (l₀ : List C) (base n : ℕ) (B : List A) (fits : base + E M * n ≤ length l₀)
+    (standing : take (E M * n) (drop base l₀) ≡ in_memory M.in_back B) where
+  -- what is read at place j of the back stack, which the front stack has not reached
+  read_is : (l F : List C) (at j : ℕ) (x : A) → B ≡ take j B ++ (x ∷ drop (suc j) B) → j < length B → length F ≡ at → at ≤ base →
+      l ≡ F ++ drop at l₀ → M.in_back.load (drop (base + E M * j) l) ≡ x
+  read_is l F at j x e h f g k =
+      let p : base + E M * j ≡ length F + (base + E M * j - at) = omega arith in
+      let q : at + (base + E M * j - at) ≡ base + E M * j = omega arith in
+      let r : drop (base + E M * j) l ≡ drop (E M * j) (drop base l₀) =
+      ap (drop (base + E M * j)) k ∙ ap (λ (i : ℕ). drop i (F ++ drop at l₀)) p
+      ∙ rw (drop-append-add F (drop at l₀) (base + E M * j - at), drop-drop (base + E M * j - at) at l₀, q, drop-drop (E M * j) base l₀) in
+      let s : drop base l₀ ≡ in_memory M.in_back (take j B ++ (x ∷ drop (suc j) B)) ++ drop (E M * n) (drop base l₀) =
+      sym (take-append-drop (E M * n) (drop base l₀)) ∙ ap (λ (m : List C). m ++ drop (E M * n) (drop base l₀)) (standing ∙ ap (in_memory M.in_back) e) in
+      let t : length (take j B) ≡ j = rw length-take (omega arith) in
+      ap M.in_back.load (r ∙ ap (drop (E M * j)) s)
+      ∙ memory-read M.in_back (take j B) x (drop (suc j) B) (drop (E M * n) (drop base l₀)) (E M * j) (rw t)
+
+module _ {C A : Type 0} {M : Stored C A} {l₀ : List C} {n : ℕ} {B : List A} (many : n ≡ length B) where
+  pub flip-start : {agg : M.moment.State} → agg ≡ M.moment.empty → Flip M l₀ n B l₀ agg 0
   unfolding in_memory front_stack
-  flip-start agg e =
-      let o : length B ≤ n = omega arith in
-      let z : drop n B ≡ [] = drop_of_length-le B o in
-      record { low = omega arith; place = zero-add (W M * n); same = refl; agg_is = rw z e; list_is = rw z }
+  flip-start e =
+      let o : length B ≤ n - 0 = omega arith in
+      let z : drop (n - 0) B ≡ [] = drop_of_length-le B o in
+      record { agg_is = rw z e; list_is = rw (z, mul-zero) }
 
-  module _ (room : W M * n ≤ base) (fits : base + E M * n ≤ length l₀) (standing : take (E M * n) (drop base l₀) ≡ in_memory M.in_back B) where
-    -- what is read at place j of the back stack, which the front stack has not reached
-    read_is : (l F : List C) (at j : ℕ) (x : A) → B ≡ take j B ++ (x ∷ drop (suc j) B) → j < n → length F ≡ at → at ≤ base →
-        l ≡ F ++ drop at l₀ → M.in_back.load (drop (base + E M * j) l) ≡ x
-    read_is l F at j x e h f g k =
-        let p : base + E M * j ≡ length F + (base + E M * j - at) = omega arith in
-        let q : at + (base + E M * j - at) ≡ base + E M * j = omega arith in
-        let r : drop (base + E M * j) l ≡ drop (E M * j) (drop base l₀) =
-        ap (drop (base + E M * j)) k ∙ ap (λ (i : ℕ). drop i (F ++ drop at l₀)) p
-        ∙ rw (drop-append-add F (drop at l₀) (base + E M * j - at), drop-drop (base + E M * j - at) at l₀, q, drop-drop (E M * j) base l₀) in
-        let s : drop base l₀ ≡ in_memory M.in_back (take j B ++ (x ∷ drop (suc j) B)) ++ drop (E M * n) (drop base l₀) =
-        sym (take-append-drop (E M * n) (drop base l₀)) ∙ ap (λ (m : List C). m ++ drop (E M * n) (drop base l₀)) (standing ∙ ap (in_memory M.in_back) e) in
-        let t : length (take j B) ≡ j = rw length-take (omega arith) in
-        ap M.in_back.load (r ∙ ap (drop (E M * j)) s)
-        ∙ memory-read M.in_back (take j B) x (drop (suc j) B) (drop (E M * n) (drop base l₀)) (E M * j) (rw t)
+  pub flip-done : {l : List C} {agg : M.moment.State} {k : ℕ} → Flip M l₀ n B l agg k → k ≡ n → l ≡ Front M B ++ drop (W M * n) l₀
+  flip-done {l} {k = k} f e =
+      let z : n - k ≡ 0 = omega arith in
+      rw (← e) (subst (λ (i : ℕ). l ≡ Front M (drop i B) ++ drop (W M * k) l₀) z f.list_is)
 
-    flip-turn' : (l : List C) (agg agg' : M.moment.State) (at j : ℕ) → Flip M l₀ n B l agg at (suc j) →
-        agg' ≡ M.moment.insert agg (M.in_back.load (drop (base + E M * j) l)) → Flip M l₀ n B (sets l at (M.in_front.store agg')) agg' (at + W M) j
-    flip-turn' l agg agg' at j f e =
+  module _ {base : ℕ} (room : W M * n ≤ base) (fits : base + E M * n ≤ length l₀) (standing : take (E M * n) (drop base l₀) ≡ in_memory M.in_back B) where
+    -- one entry more is turned over
+    pub flip-turn : {l : List C} {agg : M.moment.State} {k : ℕ} → Flip M l₀ n B l agg k → k < n →
+        (x : A) → x ≡ M.in_back.load (drop (base + E M * (n - 1 - k)) l) → (u : M.moment.State) → u ≡ M.moment.insert agg x →
+        Flip M l₀ n B (sets l (W M * k) (M.in_front.store u)) u (k + 1)
+    flip-turn {l} {agg} {k} f h x e u g =
+        let j = n - 1 - k in
+        let v = cons_at_lem B j (omega arith) in
+        let a : n - k ≡ suc j = omega arith in
+        let b : n - (k + 1) ≡ j = omega arith in
         let F = drop (suc j) B in
-        let low = f.low in
-        let p = simp mul-suc at f.place in
-        let hj : j < length B = omega arith in
-        let x = cons_at_lem B j hj in
-        let lf : length F ≡ n - suc j = rw (length-drop, many) in
-        let at-is : at ≡ W M * length F = rw (lf, mul-sub) (omega arith) in
-        let fl : length (Front M F) ≡ at = front_length M F ∙ sym at-is in
-        let r = read_is l (Front M F) at j x.0 x.1 (omega arith) fl (omega arith) f.list_is in
-        let a : agg' ≡ M.moment.insert (falling M.moment F) x.0 = e ∙ rw (r, f.agg_is) in
-        let w : W M ≤ length (drop at l₀) = rw length-drop (omega arith) in
+        let lf : length F ≡ k = rw length-drop (omega arith) in
+        let fl : length (Front M F) ≡ W M * k = front_length M F ∙ rw lf in
+        let m : W M * k + W M ≤ W M * n = let y = simp mul-suc at (mul-le-mul_left (W M) (let z : suc k ≤ n = omega arith in z)) in omega arith in
+        let p : l ≡ Front M F ++ drop (W M * k) l₀ = rw (← a) f.list_is in
+        let r = e ∙ read_is M l₀ base n B fits standing l (Front M F) (W M * k) j v.0 v.1 (omega arith) fl (omega arith) p in
+        let i : u ≡ M.moment.insert (falling M.moment F) v.0 = g ∙ rw (r, f.agg_is, a) in
+        let w : W M ≤ length (drop (W M * k) l₀) = rw length-drop (omega arith) in
+        let next : W M * (k + 1) ≡ W M * k + W M = rw (add-one, mul-suc) (omega arith) in
         record {
-          low = omega arith;
-          place = omega arith;
-          same = length-sets l at (M.in_front.store agg') ∙ f.same;
-          agg_is = rw x.2 a;
-          list_is = rw (f.list_is, a, front-push M F x.0 (drop at l₀) at at-is w, drop-drop (W M) at l₀, x.2);
+          agg_is = rw (b, v.2) i;
+          list_is = rw (p, i, front-push M F v.0 (drop (W M * k) l₀) (W M * k) (rw lf) w, drop-drop (W M) (W M * k) l₀, b, v.2, next);
         }
 
-    pub flip-turn : {l : List C} {agg agg' : M.moment.State} {at j : ℕ} → Flip M l₀ n B l agg at j → 0 < j →
-        agg' ≡ M.moment.insert agg (M.in_back.load (drop (base + E M * (j - 1)) l)) →
-        Flip M l₀ n B (sets l at (M.in_front.store agg')) agg' (at + W M) (j - 1)
-    flip-turn {l} {agg} {agg'} {at} {j} f h e =
-        let k : j ≡ suc (j - 1) = omega arith in
-        flip-turn' l agg agg' at (j - 1) (subst (λ (z : ℕ). Flip M l₀ n B l agg at z) k f) e
-
-    pub flip-done : {l : List C} {agg : M.moment.State} {at j : ℕ} → Flip M l₀ n B l agg at j → j ≤ 0 → l ≡ Front M B ++ drop (W M * n) l₀
-    flip-done {l} {agg} {at} {j} f h =
-        let z : j ≡ 0 = omega arith in
-        let e : at ≡ W M * n = sym (add-zero at) ∙ rw (← mul-zero (W M), ← z) f.place in
-        rw (← e) (subst (λ (i : ℕ). l ≡ Front M (drop i B) ++ drop at l₀) z f.list_is)
-
 -- ---- entries appended: the turns of the loop, where the places before i are done
+abbrev Entries : {A : Type 0} → Series A → ℕ → ℕ → List A
+Entries t a i = entries t.places.valid t.entry a i
 
-pub record Append {C A : Type 0} (M : Stored C A) (t : Series A) (l₀ : List C) (n nonfinite₀ : ℕ) (s₀ : M.moment.State) (a e : ℕ)
-    (l : List C) (many nonfinite : ℕ) (s : M.moment.State) (i : ℕ) : Type 0 where
-  pub low : a ≤ i
-  pub high : i ≤ e
-  pub same : length l ≡ length l₀
-  pub now : Appended M t l₀ n nonfinite₀ s₀ a i l many nonfinite s
-
-module _ {C A : Type 0} (M : Stored C A) (t : Series A) (l₀ : List C) (n nonfinite₀ : ℕ) (s₀ : M.moment.State) (a e : ℕ) where
-  abbrev R : ℕ → List A
-  R i = entries t.places.valid t.entry a i
-
-  pub append-start : a ≤ e → Append M t l₀ n nonfinite₀ s₀ a e l₀ n nonfinite₀ s₀ a
+module _ {C A : Type 0} {M : Stored C A} {t : Series A} {l₀ : List C} {n nonfinite₀ : ℕ} {s₀ : M.moment.State} {a : ℕ} where
+  pub append-start : Appended M t l₀ n nonfinite₀ s₀ a a l₀ n nonfinite₀ s₀
   unfolding in_memory
-  append-start h =
+  append-start =
       record {
-        low = omega arith;
-        high = h;
-        same = refl;
-        now = record {
-          list_is = rw (entries-self t.places.valid t.entry, entries-self t.places.valid (λ j. j), add-zero, append-nil) (sym (take-append-drop (E M * n) l₀));
-          many_is = rw (entries-self t.places.valid (λ j. j)) (sym (add-zero n));
-          nonfinite_is = rw (entries-self t.places.nonfinite (λ j. j)) (sym (add-zero nonfinite₀));
-          agg_is = rw (entries-self t.places.valid t.entry);
-        };
+        list_is = rw (entries-self t.places.valid t.entry, entries-self t.places.valid (λ j. j), add-zero, append-nil) (sym (take-append-drop (E M * n) l₀));
+        many_is = rw (entries-self t.places.valid (λ j. j)) (sym (add-zero n));
+        nonfinite_is = rw (entries-self t.places.nonfinite (λ j. j)) (sym (add-zero nonfinite₀));
+        agg_is = rw (entries-self t.places.valid t.entry);
       }
 
-  module _ {l : List C} {many nonfinite : ℕ} {s : M.moment.State} {i : ℕ} (p : Append M t l₀ n nonfinite₀ s₀ a e l many nonfinite s i) (more : i < e)
-      (room : E M * (n + valid_count t.places a e) ≤ length l₀) where
-    -- a valid place has room behind the entries
-    next : t.places.valid i ≡ true → E M * (n + valid_count t.places a i) + E M ≤ length l₀
-    next v =
-        let low = p.low in
-        let u = count-up t.places.valid (λ j. j) a (i + 1) e (omega arith) (omega arith) in
-        let m = count-more t.places.valid (λ j. j) a i low true (sym v) in
-        let q : n + valid_count t.places a i + 1 ≤ n + valid_count t.places a e = omega arith in
-        let r = simp (add-one, mul-suc) at (mul-le-mul_left (E M) q) in
-        omega arith
+  module _ {l : List C} {many nonfinite : ℕ} {s : M.moment.State} {i : ℕ} (p : Appended M t l₀ n nonfinite₀ s₀ a i l many nonfinite s) (low : a ≤ i) where
+    -- no more are appended, and no more are not finite, than places are done
+    pub append_le : (many ≤ n + (i - a)) × (nonfinite ≤ nonfinite₀ + (i - a))
+    append_le =
+        let k = count-le t.places.valid (λ j. j) a i in
+        let f = count-le t.places.nonfinite (λ j. j) a i in
+        let o = p.many_is in
+        let q = p.nonfinite_is in
+        (omega arith, omega arith)
 
-    pub append-room : t.places.valid i ≡ true → E M * many + E M ≤ length l
-    append-room v = rw (p.now.many_is, p.same) (next v)
+    module _ {e : ℕ} (more : i < e) (room : E M * (n + valid_count t.places a e) ≤ length l₀) (v : t.places.valid i ≡ true) where
+      -- a valid place has room behind the entries
+      pub append-room : E M * many + E M ≤ length l₀
+      append-room =
+          let u = count-up t.places.valid (λ j. j) a (i + 1) e (omega arith) (omega arith) in
+          let m = count-more t.places.valid (λ j. j) a i low true (sym v) in
+          let q : n + valid_count t.places a i + 1 ≤ n + valid_count t.places a e = omega arith in
+          let r = simp (add-one, mul-suc) at (mul-le-mul_left (E M) q) in
+          rw p.many_is (omega arith)
 
-    -- no more are not finite than places are done
-    pub append-nonfinite-le : nonfinite ≤ nonfinite₀ + (i - a)
-    append-nonfinite-le = let k = count-le t.places.nonfinite (λ j. j) a i in let q = p.now.nonfinite_is in omega arith
-
-    -- a valid place
-    pub append-hit : t.places.valid i ≡ true → (at : ℕ) → at ≡ E M * many → (x : A) → x ≡ t.entry i → (u : M.moment.State) → u ≡ M.moment.insert s x →
-        (z : Bool) → z ≡ t.places.nonfinite i → (k : ℕ) → k ≡ nonfinite + bool_byte z →
-        Append M t l₀ n nonfinite₀ s₀ a e (sets l at (M.in_back.store x)) (many + 1) k u (i + 1)
-    append-hit v at w x f u g z y k c =
-        let low = p.low in
-        let o = next v in
-        let m = count-more t.places.valid (λ j. j) a i low true (sym v) in
-        let b = count-more t.places.nonfinite (λ j. j) a i low z y in
-        let q = p.now.nonfinite_is in
-        let r = p.now.many_is in
-        let d : R (i + 1) ≡ R i ++ (x ∷ []) = entries-snoc t.places.valid t.entry a i low ∙ rw (v, f) in
-        let head = take (E M * n) l₀ ++ in_memory M.in_back (R i) in
-        let rest = drop (E M * (n + valid_count t.places a i)) l₀ in
-        let at-is : at ≡ E M * (n + valid_count t.places a i) = w ∙ ap (λ (j : ℕ). E M * j) r in
-        let long : length head ≡ at =
-        length-append (take (E M * n) l₀) (in_memory M.in_back (R i))
-        ∙ rw (length-take, memory-length M.in_back (R i), many-chosen t.places.valid t.entry a i, at-is) (let y = simp mul-add at o in simp mul-add (omega arith)) in
-        let fits : length (M.in_back.store x) ≤ length rest = rw (M.in_back.stored x, length-drop) (omega arith) in
-        let past : E M * (n + valid_count t.places a i) + E M ≡ E M * (n + valid_count t.places a (i + 1)) = rw m (simp mul-add (omega arith)) in
-        record {
-          low = omega arith;
-          high = omega arith;
-          same = length-sets l at (M.in_back.store x) ∙ p.same;
-          now = record {
-            list_is = rw (p.now.list_is, write_at_lem head rest (M.in_back.store x) at long fits, M.in_back.stored x, drop-drop, past, d, memory-snoc M.in_back (R i) x)
+      -- a valid place
+      pub append-hit : (x : A) → x ≡ t.entry i → (u : M.moment.State) → u ≡ M.moment.insert s x → (z : Bool) → z ≡ t.places.nonfinite i →
+          Appended M t l₀ n nonfinite₀ s₀ a (i + 1) (sets l (E M * many) (M.in_back.store x)) (many + 1) (nonfinite + bool_byte z) u
+      append-hit x f u g z y =
+          let at = E M * many in
+          let m = count-more t.places.valid (λ j. j) a i low true (sym v) in
+          let b = count-more t.places.nonfinite (λ j. j) a i low z y in
+          let q = p.nonfinite_is in
+          let r = p.many_is in
+          let o : E M * many + E M ≤ length l₀ = append-room in
+          let d : Entries t a (i + 1) ≡ Entries t a i ++ (x ∷ []) = entries-snoc t.places.valid t.entry a i low ∙ rw (v, f) in
+          let head = take (E M * n) l₀ ++ in_memory M.in_back (Entries t a i) in
+          let rest = drop (E M * (n + valid_count t.places a i)) l₀ in
+          let at-is : at ≡ E M * (n + valid_count t.places a i) = ap (λ (j : ℕ). E M * j) r in
+          let long : length head ≡ at =
+          length-append (take (E M * n) l₀) (in_memory M.in_back (Entries t a i))
+          ∙ rw (length-take, memory-length M.in_back (Entries t a i), many-chosen t.places.valid t.entry a i, at-is) (let h = simp (at-is, mul-add) at o in simp mul-add (omega arith)) in
+          let fits : length (M.in_back.store x) ≤ length rest = rw (M.in_back.stored x, length-drop) (omega arith) in
+          let past : E M * (n + valid_count t.places a i) + E M ≡ E M * (n + valid_count t.places a (i + 1)) = rw m (simp mul-add (omega arith)) in
+          record {
+            list_is = rw (p.list_is, write_at_lem head rest (M.in_back.store x) at long fits, M.in_back.stored x, drop-drop, past, d, memory-snoc M.in_back (Entries t a i) x)
                 (simp append_assoc);
             many_is = omega arith;
             nonfinite_is = omega arith;
-            agg_is = rw d (g ∙ ap (λ (y : M.moment.State). M.moment.insert y x) p.now.agg_is ∙ sym (foldl-append M.moment.insert s₀ (R i) (x ∷ [])));
-          };
-        }
+            agg_is = rw d (g ∙ ap (λ (y : M.moment.State). M.moment.insert y x) p.agg_is ∙ sym (foldl-append M.moment.insert s₀ (Entries t a i) (x ∷ [])));
+          }
 
     -- a place that is not valid
-    pub append-miss : t.places.valid i ≡ false → t.places.nonfinite i ≡ false → Append M t l₀ n nonfinite₀ s₀ a e l many nonfinite s (i + 1)
+    pub append-miss : t.places.valid i ≡ false → t.places.nonfinite i ≡ false → Appended M t l₀ n nonfinite₀ s₀ a (i + 1) l many nonfinite s
     append-miss v z =
-        let low = p.low in
-        let d : R (i + 1) ≡ R i = entries-snoc t.places.valid t.entry a i low ∙ rw (v, append-nil) in
+        let d : Entries t a (i + 1) ≡ Entries t a i = entries-snoc t.places.valid t.entry a i low ∙ rw (v, append-nil) in
         let m = count-more t.places.valid (λ j. j) a i low false (sym v) in
         let f = count-more t.places.nonfinite (λ j. j) a i low false (sym z) in
-        let o = p.now.many_is in
-        let q = p.now.nonfinite_is in
+        let o = p.many_is in
+        let q = p.nonfinite_is in
         let c : valid_count t.places a (i + 1) ≡ valid_count t.places a i = omega arith in
-        record {
-          low = omega arith;
-          high = omega arith;
-          same = p.same;
-          now = record { list_is = rw (d, c) p.now.list_is; many_is = omega arith; nonfinite_is = omega arith; agg_is = rw d p.now.agg_is };
-        }
-
-  pub append-done : {l : List C} {many nonfinite : ℕ} {s : M.moment.State} {i : ℕ} → Append M t l₀ n nonfinite₀ s₀ a e l many nonfinite s i → e ≤ i →
-      Appended M t l₀ n nonfinite₀ s₀ a e l many nonfinite s
-  append-done {l} {many} {nonfinite} {s} {i} p h =
-      let g = p.high in
-      let q : i ≡ e = omega arith in
-      subst (λ (j : ℕ). Appended M t l₀ n nonfinite₀ s₀ a j l many nonfinite s) q p.now
+        record { list_is = rw (d, c) p.list_is; many_is = omega arith; nonfinite_is = omega arith; agg_is = rw d p.agg_is }

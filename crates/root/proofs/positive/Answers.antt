@@ -5,24 +5,15 @@ use Rattle.root.specs.Root.{root_of_units}
 use Rattle.root.proofs.Patterns.{shift, zeros-in, moved-lo, moved-hi, moved, low-root, high_root}
 use Rattle.root.proofs.positive.Goals as goal
 
-pub overflow_sub-shift : goal.overflow_sub-shift
-overflow_sub-shift c = omega (arith, zeros-in c.args.b c.requires.0 c.if-b-lt4503599627370496.true)
-
-pub overflow_cast-shift : goal.overflow_cast-shift
-overflow_cast-shift c = omega (arith, zeros-in c.args.b c.requires.0 c.if-b-lt4503599627370496.true)
-
-pub overflow_shl-b : goal.overflow_shl-b
-overflow_shl-b c = omega (arith, zeros-in c.args.b c.requires.0 c.if-b-lt4503599627370496.true)
-
-pub overflow_sub-shift-then-b-lt4503599627370496 : goal.overflow_sub-shift-then-b-lt4503599627370496
-overflow_sub-shift-then-b-lt4503599627370496 c = omega (arith, zeros-in c.args.b c.requires.0 c.if-b-lt4503599627370496.true)
+pub overflow_sub-b : goal.overflow_sub-b
+overflow_sub-b c = omega (arith, zeros-in c.args.b c.requires.0 c.if-b-lt4503599627370496.true)
 
 pub assemble-requires : goal.assemble-requires
 assemble-requires c =
     let b = c.args.b in
     let p = c.requires.0 in
     let h = c.if-b-lt4503599627370496.true in
-    omega (arith, zeros-in b p h, moved-lo b p h, moved-hi b p h, moved b p h)
+    rw c.from-shift.ensures (omega (arith, zeros-in b p h, moved-lo b p h, moved-hi b p h, moved b p h))
 
 pub returns-then-b-lt4503599627370496 : goal.returns-then-b-lt4503599627370496
 returns-then-b-lt4503599627370496 c =
@@ -30,10 +21,10 @@ returns-then-b-lt4503599627370496 c =
     let p = c.requires.0 in
     let h = c.if-b-lt4503599627370496.true in
     let j = 1074 - shift b p h in
-    let r = c.assemble.ensures in
+    let r = rw c.from-shift.ensures at c.assemble.ensures in
     (r.0, r.1 ∙ ap (λ (x : ℕ). root_of_units (x * 2 ^ j)) (moved b p h) ∙ sym (low-root b p h))
 
 pub returns-else-b-lt4503599627370496 : goal.returns-else-b-lt4503599627370496
 returns-else-b-lt4503599627370496 c =
-    let s = c in
-    (c.assemble-else-b-lt4503599627370496.ensures.0, c.assemble-else-b-lt4503599627370496.ensures.1 ∙ sym (high_root s.args.b c.if-b-lt4503599627370496.false s.requires.1))
+    let r = c.assemble-else-b-lt4503599627370496.ensures in
+    (r.0, r.1 ∙ sym (high_root c.args.b c.if-b-lt4503599627370496.false c.requires.1))

@@ -7,7 +7,9 @@ use Rattle.moment.specs.declared.Figure.{Figure}
 use Rattle.moment.specs.declared.Figure.TheVariants.{Missing, Present}
 use Rattle.window.specs.Outputs.{Column, column_after}
 use Rattle.weighted.specs.Weights.{total_of, variance_of, weighted_at, lending_column}
-use Rattle.weighted.specs.Code.Sums.{Block, sums_of, sums_at}
+use Rattle.weighted.specs.Code.Sums.{lists_of, sums_of, sums_at}
+use Rattle.weighted.specs.declared.sums.Block.{Block}
+use Rattle.weighted.specs.declared.sums.BlockSums.{BlockSums}
 
 -- how many places row k's window has, which reaches `left` places before its own and `right` places from it on
 abbrev pub length_at : ℕ → ℕ → ℕ → ℕ → ℕ
@@ -32,31 +34,27 @@ weighted_by values weights total left right min_periods k =
     cond (ltb (length_at (length values) left right k) min_periods) Missing (Present (variance_by values weights total left right k))
 
 -- ---- the rows of a block, of their sums: one for each place of the outputs
-pub record Finishable (wssq wsum wtot : List Float) (present : List ℕ) (rows : ℕ) : Type 0 where
-  pub wssq_long : rows ≤ length wssq
-  pub wsum_long : rows ≤ length wsum
-  pub wtot_long : rows ≤ length wtot
+pub record Finishable (present : List ℕ) (rows : ℕ) : Type 0 where
+  pub few : rows ≤ 32
   pub present_long : rows ≤ length present
 
 -- the double of the row in place r, of its byte and its variance
 abbrev pub double_at : List ℕ → (ℕ → Float) → ℕ → Float
 double_at present variance r = double_of (answer_of (get_or present r 0) (variance r))
 
-abbrev pub Finishes : Slice Float → Slice Float → Slice Float → Slice ℕ → MutSlice Float → Type 0
-Finishes wssq wsum wtot present figures =
-    leaving figures ≡ table (double_at (entering present) (λ r. variance_of (sums_at (entering wssq) (entering wsum) (entering wtot) r)))
-    (length (entering_mut figures))
+abbrev pub Finishes : BlockSums → Slice ℕ → MutSlice Float → Type 0
+Finishes sums present figures =
+    leaving figures ≡ table (double_at (entering present) (λ r. variance_of (sums_at (lists_of sums) r))) (length (entering_mut figures))
 
 -- ---- the same rows, of the readings
-pub record Workable (n weights left first until : ℕ) (present : List ℕ) (figures : List Float) : Type 0 where
-  pub block : Block n weights left first until
-  pub present_long : length present ≡ until - first
-  pub figures_long : length figures ≡ until - first
+pub record BlockLent (b : Block) (present : List ℕ) (figures : List Float) : Type 0 where
+  pub present_long : length present ≡ b.until - b.first
+  pub figures_long : length figures ≡ b.until - b.first
 
-abbrev pub Works : Slice Float → ℕ → Slice Float → Float → ℕ → ℕ → Slice ℕ → MutSlice Float → Type 0
-Works values left weights total first until present figures =
+abbrev pub WritesBlock : Block → Slice ℕ → MutSlice Float → Type 0
+WritesBlock b present figures =
     leaving figures ≡ table (double_at (entering present)
-    (λ r. variance_by (entering values) (entering weights) total left (length (entering weights) - left) (first + r))) (until - first)
+    (λ r. variance_by b.values.now b.weights.now b.total b.left (length b.weights.now - b.left) (b.first + r))) (b.until - b.first)
 
 -- ---- all rows of a call that is accepted, over n places
 pub record AcceptedWeights (n : ℕ) (weights : List Float) (total : Float) (figures present : ℕ) : Type 0 where

@@ -1,13 +1,9 @@
--- Row after row, with the row before in the locals. Assumes nothing.
-use Rattle.std.proofs.Common.{◌≡◌, ◌-◌, ◌≤◌, length}
-use Rattle.plan.specs.Refusals.{before, rows_refusal, widest}
+-- Row after row, with the row before in a local. Assumes nothing.
+use Rattle.std.proofs.Common.{length}
 use Rattle.plan.specs.Plan.{plan_of}
+use Rattle.plan.proofs.Plans.{Walked}
 use Rattle.plan.proofs.rows.first_refusal.Given as goal
 
-abbrev pub invariant-loop-row : goal.invariant-loop-row
-invariant-loop-row l =
-    (l.row ≤ length l.starts) × (rows_refusal l.n (plan_of l.starts l.ends) l.row ≡ 0) × (l.widest ≡ widest (plan_of l.starts l.ends) l.row)
-    × (l.before_start ≡ before l.starts l.row) × (l.before_end ≡ before l.ends l.row)
-
-abbrev pub decreases-loop-row : goal.decreases-loop-row
-decreases-loop-row l = length l.starts - l.row
+abbrev pub invariant-loop-start : goal.invariant-loop-start
+invariant-loop-start l =
+    Walked l.n (plan_of l.plan.starts.now l.plan.ends.now) (length l.yielded) l.widest l.before.start l.before.end

@@ -1,53 +1,21 @@
 -- Rows rise while no bound falls; a width that has wrapped is wider than the series. Assumes nothing.
-use Rattle.std.proofs.Common.{◌≡◌, length, refl, arith}
-use Rattle.plan.specs.Refusals.{rows_refusal, widest}
-use Rattle.plan.proofs.Plans.{pass-first, pass-row, pass-last}
-use Rattle.plan.specs.Plan.{plan_of}
+use Rattle.std.proofs.Common.{◌≡◌, ℕ, length, rules, arith}
+use Rattle.std.proofs.lemmas.List.{length_push}
+use Rattle.std.proofs.lemmas.Slice.Zip.{zip_turn, zip_end}
+use Rattle.plan.proofs.Plans.{pass-none, pass-row, pass-all}
 use Rattle.plan.proofs.rows.test_rows.Goals as goal
-use Rattle.plan.proofs.rows.test_rows.Goals.{else-widest-wide, then-widest-wide}
 
-pub returns-then-starts-eq0 : goal.returns-then-starts-eq0
-unfolding rows_refusal widest
-returns-then-starts-eq0 c = let e = c.if-starts-eq0.true in record { passed = λ _. rw e (refl, refl) }
+pub loop-start-init : goal.loop-start-init
+loop-start-init c = pass-none _ _
 
-pub loop-row-init : goal.loop-row-init
-loop-row-init c =
-    let s = c in
-    let first = c.shared_slice_known-3-1.given 0 in
-    let second = c.shared_slice_known-4-1.given 0 in
-    let diff = c.wrapping_sub_u32-widest.ensures.value in
-    let ok = c.wrapping_sub_u32-widest.type_inv in (
-      omega arith,
-      omega arith,
-      λ _. pass-first s.args.n (plan_of s.args.starts.now s.args.ends.now) _
-          (record { kept = omega arith; plain = λ o. omega arith; wrapped = λ o. omega arith }),
-    )
+pub loop-start-preserved : goal.loop-start-preserved
+loop-start-preserved c =
+    let t = zip_turn {A = ℕ} {B = ℕ} c.args.plan.starts.now c.args.plan.ends.now _ c.into_iter-start-iterator.result c.loop-start.start-iterator c.next.new.self c.next.result (search rules) (search rules) c.loop-start.yielded_by _ c.in-Some.is c.next.ensures.steps in
+    rw length_push
+    (pass-row _ _ _ _ _ _ _ _ _ _ _ c.loop-start.invariant (t.2 0) (t.3 0) c.width.ensures c.max-widest.ensures)
 
-pub loop-row-preserved : goal.loop-row-preserved
-loop-row-preserved c =
-    let l = c in
-    let a = l.args in
-    let first = c.shared_slice_known-in-loop-row-1.given l.loop-row.row in
-    let second = c.shared_slice_known-in-loop-row-2-1.given l.loop-row.row in
-    let diff = c.wrapping_sub_u32-wide.ensures.value in
-    let ok = c.wrapping_sub_u32-wide.type_inv in (
-      omega arith,
-      omega arith,
-      pass-row a.n (plan_of a.starts.now a.ends.now) l.loop-row.row _ _ _ l.loop-row.invariant.0 l.loop-row.invariant.2
-          (record {
-            kept = elim c.if-widest-wide.branch [ then-widest-wide w ↦ let a = w.if-widest-wide.true in let b = w.widest-is in omega arith | else-widest-wide w ↦ let b = w.widest-is in omega arith ];
-            plain = λ o. elim c.if-widest-wide.branch [ then-widest-wide w ↦ let a = w.if-widest-wide.true in let b = w.widest-is in omega arith | else-widest-wide w ↦ let a = w.if-widest-wide.false in let b = w.widest-is in omega arith ];
-            wrapped = λ o. elim c.if-widest-wide.branch [ then-widest-wide w ↦ let a = w.if-widest-wide.true in let b = w.widest-is in omega arith | else-widest-wide w ↦ let a = w.if-widest-wide.false in let b = w.widest-is in omega arith ];
-          }),
-    )
-
-pub returns : goal.returns
-returns c =
-    let l = c.loop-row in
-    let t = c in
-    let i = l.invariant.1 in
-    let h = c.loop-row-test.false in
-    let e : l.row ≡ length t.args.starts.now = omega arith in
-    record {
-      passed = pass-last t.args.n (plan_of t.args.starts.now t.args.ends.now) _ _ _ t.requires.same t.requires.few (omega arith) (rw e at l.invariant.2);
-    }
+pub returns-else-falls-past : goal.returns-else-falls-past
+returns-else-falls-past c =
+    let t = zip_end {A = ℕ} {B = ℕ} c.args.plan.starts.now c.args.plan.ends.now _ c.into_iter-start-iterator.result c.loop-start.start-iterator c.next.new.self c.next.result (search rules) (search rules) c.loop-start.yielded_by c.in-None.is c.next.ensures.steps in
+    let e : length c.loop-start.yielded ≡ length c.args.plan.starts.now = omega (arith, c.requires.same) in
+    pass-all _ _ _ _ _ _ c.requires.same c.requires.few (rw e at c.loop-start.invariant) c.if-falls-past.false

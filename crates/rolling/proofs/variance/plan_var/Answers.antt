@@ -1,28 +1,20 @@
 -- A refusal as it is checked, else the rows. Assumes nothing.
 use Rattle.std.proofs.Common.{refl}
-use Rattle.trace.specs.Trace.{trace_of}
+use Rattle.trace.specs.Lent.{traced}
 use Rattle.window.specs.Given.{Readings}
-use Rattle.rolling.proofs.Calls.{driven, plan_refused, plan-called}
+use Rattle.rolling.proofs.Calls.{drives, plan_refused, plan-called}
 use Rattle.rolling.proofs.variance.plan_var.Goals as goal
 
-pub returns-then-checked-ne0 : goal.returns-then-checked-ne0
-returns-then-checked-ne0 c =
-    let k = c in
-    plan_refused _ _ _ k.array_refusal.ensures k.shortest.ensures k.plan_refusal-checked.ensures.number_is
-    (record { answers = refl; counts = refl }) c.if-checked-ne0.true
+pub returns-in_err-widest : goal.returns-in_err-widest
+returns-in_err-widest c =
+    plan_refused _ _ _ c.check.ensures c.len.ensures c.shortest-outputs.ensures c.in_err-widest.ensures _ c.from_residual.ensures.1
+    (record { answers = refl; counts = refl })
 
 pub rows-requires : goal.rows-requires
 rows-requires c =
-    let i = c in
-    let k = i in
-    let g = k.args in
-    driven _ Readings (trace_of g.values.now g.has_map g.map.now) _ _ k.array_refusal.ensures
-    k.shortest.ensures (k.plan_refusal-checked.ensures.accepted i.if-checked-ne0.false)
+    rw c.listed.ensures
+    (drives _ Readings (traced c.args.x) c.check.ensures c.len.ensures c.shortest-outputs.ensures c.in_ok-widest.ensures.accepted)
 
 pub returns : goal.returns
 returns c =
-    let r = c in
-    let i = r in
-    let k = i in
-    plan-called _ _ _ k.array_refusal.ensures k.shortest.ensures k.plan_refusal-checked.ensures.number_is
-    i.if-checked-ne0.false r.rows.ensures
+    plan-called _ _ _ c.check.ensures c.len.ensures c.shortest-outputs.ensures c.in_ok-widest.ensures (rw c.listed.ensures at c.rows.ensures)

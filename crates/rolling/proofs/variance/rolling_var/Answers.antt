@@ -1,32 +1,20 @@
--- A refusal as it is checked, else the rows that the windows reach. Assumes nothing.
+-- A refusal as it is checked, else the rows. Assumes nothing.
 use Rattle.std.proofs.Common.{refl}
-use Rattle.trace.specs.Trace.{trace_of}
-use Rattle.plan.proofs.FixedWindows.{reach_accepted}
+use Rattle.trace.specs.Lent.{traced}
 use Rattle.window.specs.Given.{Readings}
-use Rattle.rolling.proofs.Calls.{driven, fixed_refused, fixed-called}
+use Rattle.rolling.proofs.Calls.{drives_fixed, fixed_refused, fixed-called}
 use Rattle.rolling.proofs.variance.rolling_var.Goals as goal
 
-pub returns-then-checked-ne0 : goal.returns-then-checked-ne0
-returns-then-checked-ne0 c =
-    let k = c in
-    fixed_refused _ _ _ _ _ _ k.array_refusal.ensures k.shortest.ensures
-    k.fixed_refusal-checked.ensures.number_is
-    (record { answers = refl; counts = refl }) c.if-checked-ne0.true
+pub returns-in_err-widest : goal.returns-in_err-widest
+returns-in_err-widest c =
+    fixed_refused _ _ _ _ _ _ c.check.ensures c.len.ensures c.shortest-outputs.ensures c.in_err-widest.ensures _ c.from_residual.ensures.1
+    (record { answers = refl; counts = refl })
 
 pub rows-requires : goal.rows-requires
 rows-requires c =
-    let w = c in
-    let k = w in
-    let g = k.args in
-    driven _ Readings (trace_of g.values.now g.has_map g.map.now) _ _ k.array_refusal.ensures
-    k.shortest.ensures
-    (reach_accepted _ _ _ _ w.right_window-right.ensures.0 (k.fixed_refusal-checked.ensures.accepted w.if-checked-ne0.false _))
+    rw c.fixed.ensures
+    (drives_fixed _ _ _ _ Readings (traced c.args.x) c.check.ensures c.len.ensures c.shortest-outputs.ensures (c.in_ok-widest.ensures.accepted _))
 
 pub returns : goal.returns
 returns c =
-    let r = c in
-    let w = r in
-    let k = w in
-    fixed-called _ _ _ _ _ _ k.array_refusal.ensures k.shortest.ensures
-    k.fixed_refusal-checked.ensures.number_is
-    _ _ w.right_window-right.ensures.0 w.if-checked-ne0.false r.rows.ensures
+    fixed-called _ _ _ _ _ _ c.check.ensures c.len.ensures c.shortest-outputs.ensures c.in_ok-widest.ensures (rw c.fixed.ensures at c.rows.ensures)

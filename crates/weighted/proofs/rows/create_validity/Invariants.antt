@@ -1,5 +1,4 @@
 -- Row after row its window is held, and the bytes of the rows before are written. Assumes nothing.
-use Prim.Native.Nat.{◌-◌, ◌≤◌}
 use Rattle.window.specs.Code.Filling.{Upto}
 use Rattle.weighted.specs.Code.Rows.{validity_at}
 use Rattle.weighted.proofs.WeightedRows.{Held}
@@ -7,7 +6,4 @@ use Rattle.weighted.proofs.rows.create_validity.Given as goal
 
 abbrev pub invariant-loop-row : goal.invariant-loop-row
 invariant-loop-row l =
-    (l.row ≤ l.n) × Upto (validity_at l.n l.left l.right l.min_periods) l.initial.present l.present l.row × Held l.n l.left l.right l.row l.at
-
-abbrev pub decreases-loop-row : goal.decreases-loop-row
-decreases-loop-row l = l.n - l.row
+    record { filled : Upto (validity_at l.n l.left l.right l.min_periods) l.initial.present l.present l.row; held : Held l.n l.left l.right l.row l.at }

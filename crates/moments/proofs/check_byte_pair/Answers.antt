@@ -1,0 +1,39 @@
+-- By each check. Assumes nothing.
+use Rattle.std.proofs.Common.{◌≡◌, refl, ◌∙◌, ltb-false}
+use Rattle.trace.proofs.Accepted.{pair_fits}
+use Rattle.plan.proofs.Plans.{neither}
+use Rattle.window.specs.Given.{Pairs}
+use Rattle.moments.specs.HostCall.{BytePair, reading_count}
+use Rattle.moments.proofs.HostCalls.{stops_odd, stops_plan, passes, decoded_many, pair_given}
+use Rattle.moments.proofs.check_byte_pair.Goals as goal
+
+pub returns-in_err-when : goal.returns-in_err-when
+returns-in_err-when c = stops_odd Pairs _ _ _ _ _ _ _ _ _ c.from_residual.ensures.1 c.in_err-when.ensures
+
+pub returns-in_err-check_plan : goal.returns-in_err-check_plan
+returns-in_err-check_plan c =
+    let a = c.args in
+    let t : BytePair = record {
+      x = record { bytes = a.x.now; mapped = a.x_has_map; map = a.x_map.now };
+      y = record { bytes = a.y.now; mapped = a.y_has_map; map = a.y_map.now };
+    } in
+    stops_plan Pairs t _ _ _ _ _ _ c.in_ok-when.ensures (c.check_pair-given.ensures ∙ pair_given t _ _ c.lent_map-x_map.ensures c.lent_map-y_map.ensures)
+    (decoded_many t.x) c.in_err-check_plan.ensures _ c.from_residual-in_err-check_plan.ensures.1
+
+pub returns : goal.returns
+returns c =
+    let a = c.args in
+    let t : BytePair = record {
+      x = record { bytes = a.x.now; mapped = a.x_has_map; map = a.x_map.now };
+      y = record { bytes = a.y.now; mapped = a.y_has_map; map = a.y_map.now };
+    } in
+    let k = c.in_ok-check_plan.ensures in
+    let fits = neither _ _ k.accepted.readings_fit in
+    let given = c.check_pair-given.ensures in
+    passes Pairs t _ _ _ _ _ _ c.in_ok-when.ensures (given ∙ pair_given t _ _ c.lent_map-x_map.ensures c.lent_map-y_map.ensures)
+    (decoded_many t.x) k _ (
+      refl,
+      pair_fits _ _ _ _ _ _ _ given k.accepted.given_is,
+      ltb-false a.x_readings (reading_count t.x) fits.0,
+      let one : reading_count t.x ≡ reading_count t.y = pair_fits _ _ _ _ _ _ _ given k.accepted.given_is in rw one (ltb-false a.y_readings (reading_count t.y) fits.1),
+    )

@@ -1,0 +1,2 @@
+-- What only the code needs of a host call.
+pub mod Checks

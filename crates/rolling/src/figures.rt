@@ -1,0 +1,104 @@
+// The rows of a call that gives one figure. Its two lists stay apart, since C lends them one by one.
+ghost use Rattle.std.specs.Prelude.{min, length};
+ghost use Rattle.trace.specs.Outcomes.{outcome_number};
+ghost use Rattle.plan.specs.Plan.{planned};
+ghost use Rattle.window.specs.Code.Stacks.{place_width};
+ghost use Rattle.rolling.specs.Code.Ops.{stored_by, series_by};
+ghost use Rattle.rolling.specs.Code.Rows.{Driven, GivesFigure, PlanGives, FixedGives};
+
+use crate::memory::InMemory;
+use crate::moment_window::{MomentWindow, WindowState};
+use crate::row::{self, Finalize, Rows};
+use crate::series::Series;
+use plan::Plan;
+use trace::Refusal;
+
+// From a fresh window on, each row is a step, an answer, and its two places in the lists. The next row's bounds are told before the row is
+// worked, which was measured to be quicker than after it.
+pub(crate) fn rows<S: WindowState, T: Series<S::Entry>, F: Finalize<S>>(
+    moment: F,
+    rows: Rows,
+    series: T,
+    work: &mut [f64],
+    figures: &mut [f64],
+    present: &mut [u8],
+)
+    requires { Driven rows (T.have series) (min (length figures.old) (length present.old))
+        (place_width (stored_by S.Entry.layout S.layout S.ops)) (length work.old) }
+    ensures { GivesFigure (stored_by S.Entry.layout S.layout S.ops) (F.finalize moment) (series_by (T.places series) (T.entries series))
+        (T.have series) rows.entry work figures present }
+{
+    let n = series.len();
+    let mut w = MomentWindow::<S>::new();
+    let mut next = rows.first(n);
+    for row in 0..rows.len(n) {
+        let at = next;
+        next = rows.next(n, row, at);
+        w = w.step(work, rows, series, row, at);
+        let state = w.total(work);
+        let figure = row::answer(
+            moment,
+            state,
+            w.window,
+            series.is_mapped(),
+            rows.min_periods,
+            at,
+        );
+        row::write(figures, present, row, figure);
+    }
+}
+
+// A plan call of one figure: what refuses it, else its rows.
+pub(crate) fn plan<S: WindowState, T: Series<S::Entry>, F: Finalize<S>>(
+    moment: F,
+    x: T,
+    plan: Plan,
+    min_periods: usize,
+    work: &mut [f64],
+    figures: &mut [f64],
+    present: &mut [u8],
+) -> Result<(), Refusal>
+    ensures { PlanGives (stored_by S.Entry.layout S.layout S.ops) (F.finalize moment) (series_by (T.places x) (T.entries x))
+        (T.have x) (T.refusal x) min_periods (planned plan.entry) work figures present (outcome_number result) }
+{
+    let outputs = figures.len().min(present.len());
+    let place = S::WIDTH + S::Entry::WIDTH;
+    let widest = plan::check_plan(x.check(), plan, x.len(), false, outputs, place, work.len())?;
+    rows(
+        moment,
+        Rows::listed(plan, min_periods, widest),
+        x,
+        work,
+        figures,
+        present,
+    );
+    Ok(())
+}
+
+// The same of a call with fixed windows.
+pub(crate) fn fixed<S: WindowState, T: Series<S::Entry>, F: Finalize<S>>(
+    moment: F,
+    x: T,
+    window_size: usize,
+    min_periods: usize,
+    center: bool,
+    work: &mut [f64],
+    figures: &mut [f64],
+    present: &mut [u8],
+) -> Result<(), Refusal>
+    ensures { FixedGives (stored_by S.Entry.layout S.layout S.ops) (F.finalize moment) (series_by (T.places x) (T.entries x))
+        (T.have x) (T.refusal x) center window_size min_periods work figures present (outcome_number result) }
+{
+    let outputs = figures.len().min(present.len());
+    let place = S::WIDTH + S::Entry::WIDTH;
+    let widest = plan::check_fixed(x.check(), x.len(), window_size, outputs, place, work.len())?;
+    rows(
+        moment,
+        Rows::fixed(window_size, center, min_periods, widest),
+        x,
+        work,
+        figures,
+        present,
+    );
+    Ok(())
+}

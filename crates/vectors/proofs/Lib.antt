@@ -1,2 +1,0 @@
--- Laws of the lists that the program lends.
-pub mod Lending
