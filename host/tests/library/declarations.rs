@@ -153,13 +153,10 @@ fn every_entry_is_declared_as_documented_and_as_exported() {
 #[test]
 fn states_have_the_members_of_the_rattle_source_in_its_order() {
     for (state, source) in RATTLE_STATES {
-        let body = source
-            .split_once(&format!("#[repr(C)]\n#[derive(Clone, Copy)]\npub struct {state} {{"))
-            .expect(state)
-            .1
-            .split_once('}')
-            .expect(state)
-            .0;
+        let (above, below) = source.split_once(&format!("\npub struct {state} {{")).expect(state);
+        let attributes: Vec<&str> = above.lines().rev().take_while(|line| line.starts_with("#[")).collect();
+        assert!(attributes.contains(&"#[repr(C)]"), "{state}");
+        let body = below.split_once('}').expect(state).0;
         let members: Vec<&str> =
             body.lines().filter_map(|line| line.trim().strip_prefix("pub ")?.strip_suffix(": f64,")).collect();
         let declared =
