@@ -18,7 +18,7 @@ use Rattle.trace.specs.Refusals.{trace_refusal}
 use Rattle.moment.specs.Var.{var_clear, var_combine, var_finalize}
 use Rattle.moment.specs.Skew.{skew_clear, skew_combine, skew_biased, skew_finalize}
 use Rattle.moment.specs.Kurtosis.{kurtosis_clear, kurtosis_combine}
-use Rattle.moment.specs.Arrays.{var_list, cov_list, pearson_list, skew_list, kurtosis_list}
+use Rattle.moment.specs.Arrays.{answer}
 use Rattle.moment.specs.declared.Figure.{Figure}
 use Rattle.moment.proofs.Weights.{at_zero}
 use Rattle.plan.specs.Plan.{Plan, rows}
@@ -36,6 +36,7 @@ use Rattle.rolling.specs.Fixed.{fixed_query, CalledFixed}
 use Rattle.rolling.proofs.Calls.{few_places}
 use Rattle.weighted.specs.Weights.{total_of, CalledWeights}
 use Rattle.weighted.proofs.WeightedRows.{weights-accepted}
+use Rattle.moments.specs.Results.{StateResult}
 use Rattle.promises.specs.SourceStates.{VarState-clear_zero_weight_nan, VarState-insert_one, VarState-combine, VarState-finalize}
 use Rattle.promises.specs.SourceStates.{SkewState-clear_zero_weight_nan, SkewState-insert_one, SkewState-combine, SkewState-finalize}
 use Rattle.promises.specs.SourceStates.{KurtosisState-clear_zero_weight_nan, KurtosisState-insert_one, KurtosisState-combine}
@@ -44,8 +45,9 @@ use Rattle.promises.specs.Rust.{Rust}
 use Rattle.promises.specs.SourceRows.{plan_row, row_of}
 use Rattle.promises.specs.SourceFixed.{fixed_row}
 use Rattle.promises.specs.SourceWeights.{rolling_var_weights}
-use Rattle.promises.specs.Calls.{OfOneTrace, AcceptedCall, fixed_call}
-use Rattle.promises.specs.DemandTwo.{StatesEqual, ArraysEqual, RangesEqual, variance_moment, skew_moment, kurtosis_moment, source_rows}
+use Rattle.promises.specs.Calls.{ArrayCall, of_var, of_skew, of_kurtosis, of_cov, of_pearson, of_skew_range, of_kurtosis_range}
+use Rattle.promises.specs.Calls.{CallsArray, OfOneTrace, AcceptedCall, fixed_call}
+use Rattle.promises.specs.DemandTwo.{StatesEqual, source_of, variance_moment, skew_moment, kurtosis_moment, source_rows}
 use Rattle.promises.specs.DemandTwo.{source_fixed_rows, RowsEqual, FixedRowsEqual, CorrectRoot, DemandTwo}
 use Rattle.promises.proofs.SourceStates.{var_insert_lem, var_combine_lem, var_finalize_lem, cov_insert_lem, cov_combine_lem, cov_finalize_lem}
 use Rattle.promises.proofs.SourceStates.{pearson_insert_lem, pearson_combine_lem, pearson_finalize_lem, skew_insert_lem, skew_combine_lem, skew_finalize_lem}
@@ -86,23 +88,19 @@ states =
           (ap (λ g. g s x) (sym kurtosis_insert_lem), ap (λ g. g s o) (sym kurtosis_combine_lem), sym (kurtosis_finalize_lem s f b));
     }
 
--- ---- whole arrays and ranges: an accepted call is refused by nothing and leaves the state of our definition, which is the source's
-arrays : ArraysEqual
-arrays =
-    record {
-      var = λ rust t b a c. let k = taken _ _ refl c in k.1 ∙ ap var_list (sym (var_array rust t k.0));
-      skew = λ rust t b a c. let k = taken _ _ refl c in k.1 ∙ ap skew_list (sym (skew_array rust t k.0));
-      kurtosis = λ rust t b a c. let k = taken _ _ refl c in k.1 ∙ ap kurtosis_list (sym (kurtosis_array rust t k.0));
-      cov = λ rust x y b a c. let k = taken _ _ refl c in k.1 ∙ ap cov_list (sym (cov_array rust x y k.0));
-      pearson = λ rust x y b a c. let k = taken _ _ refl c in k.1 ∙ ap pearson_list (sym (pearson_array rust x y k.0));
-    }
+-- ---- whole arrays, pairs and ranges: an accepted call is refused by nothing and leaves the state of our definition, which is the source's
+sourced-state : {S : Type 0} {list : S → List Float} {number : ℕ} {source s : S} {before after : List Float} → (number ≡ 0 → source ≡ s)
+    → StateResult list (answer number s) before 0 after → after ≡ list source
+sourced-state {list = list} same c = let k = taken _ _ refl c in k.1 ∙ ap list (sym (same k.0))
 
-ranges : RangesEqual
-ranges =
-    record {
-      skew = λ rust t s n b a c. let k = taken _ _ refl c in k.1 ∙ ap skew_list (sym (skew_range_lem rust t s n k.0));
-      kurtosis = λ rust t s n b a c. let k = taken _ _ refl c in k.1 ∙ ap kurtosis_list (sym (kurtosis_range_lem rust t s n k.0));
-    }
+arrays : (rust : Rust) (a : ArrayCall) (before after : List Float) → CallsArray a before after 0 → after ≡ source_of rust a
+arrays rust (of_var t) before after c = sourced-state (var_array rust t) c
+arrays rust (of_skew t) before after c = sourced-state (skew_array rust t) c
+arrays rust (of_kurtosis t) before after c = sourced-state (kurtosis_array rust t) c
+arrays rust (of_cov x y) before after c = sourced-state (cov_array rust x y) c
+arrays rust (of_pearson x y) before after c = sourced-state (pearson_array rust x y) c
+arrays rust (of_skew_range t start len) before after c = sourced-state (skew_range_lem rust t start len) c
+arrays rust (of_kurtosis_range t start len) before after c = sourced-state (kurtosis_range_lem rust t start len) c
 
 -- ---- the rows of a driver over our moments
 -- one for each figure
@@ -239,7 +237,6 @@ demand_two =
     record {
       states = states;
       arrays = arrays;
-      ranges = ranges;
       plans = plans;
       fixed = fixed;
       weights = weighted;

@@ -14,7 +14,7 @@ use Rattle.trace.proofs.Accepted.{pair_fits}
 use Rattle.moment.proofs.Pairs.{length-zip}
 use Rattle.moment.specs.Skew.{skew_new}
 use Rattle.moment.specs.Kurtosis.{kurtosis_new}
-use Rattle.moment.specs.Arrays.{answer, var_list, cov_list, pearson_list, skew_list, kurtosis_list}
+use Rattle.moment.specs.Arrays.{answer}
 use Rattle.moment.specs.Arrays.{var_whole, cov_whole, pearson_whole, skew_whole, kurtosis_whole}
 use Rattle.plan.specs.Plan.{rows, row_start, row_end}
 use Rattle.plan.specs.Bounds.{bounds}
@@ -28,10 +28,11 @@ use Rattle.rolling.specs.Fixed.{fixed_query, CalledFixed}
 use Rattle.weighted.specs.Weights.{total_of, weighted_at, weights_refusal, CalledWeights}
 use Rattle.moments.specs.HostCall.{Host, decoded_of, odd_bytes, ReadingLists, short_lists, CalledBytes}
 use Rattle.moments.specs.Results.{StateResult}
-use Rattle.promises.specs.Calls.{readings_of, readings_in, pairs_of, AcceptedCall, plan_call, host_call, fixed_call}
+use Rattle.promises.specs.Calls.{ArrayCall, CallsArray, readings_of, readings_in, pairs_of, AcceptedCall, plan_call, host_call, fixed_call}
 use Rattle.promises.specs.DemandThree.{Alike, Agree}
 use Rattle.promises.specs.Maps.{LongEnough, SameMaps, padded, SameGiven, SameHost, SameRoom, SameReadingRoom, SameAnswer}
-use Rattle.promises.specs.Maps.{SameColumns, OfTrace, OfPair, MapLaw}
+use Rattle.promises.specs.Maps.{SameColumns, SameCalls, two_var, two_skew, two_kurtosis, two_cov, two_pearson, two_skew_range}
+use Rattle.promises.specs.Maps.{two_kurtosis_range, MapLaw}
 use Rattle.promises.proofs.Accepted.{known, weights_row}
 use Rattle.promises.proofs.TwoCalls.{alike_answers}
 use Rattle.promises.proofs.DemandOne.{map_wrong, number_of_lem, taken}
@@ -98,16 +99,12 @@ module _ {x y x' y' : Trace} (s : SameMaps x x') (u : SameMaps y y') where
       ∙ rw (s.readings, u.readings)
 
 -- ---- calls that hand out a state
-module _ {S : Type 0} (list : S → List Float) where
-  -- a call that answers r, of a number and a state
-  abbrev Gives : ℕ → S → List Float → ℕ → List Float → Type 0
-  Gives number s before r after = StateResult list (answer number s) before r after
-
+module _ (before after before' after' : List Float) (r r' : ℕ) where
   -- two calls of the same number and, if that is 0, of the same state
-  handed-same : {number number' : ℕ} {s s' : S} {before after before' after' : List Float} {r r' : ℕ}
-      → number ≡ number' → (number ≡ 0 → s ≡ s') → Gives number s before r after → Gives number' s' before' r' after'
+  handed-same : {S : Type 0} {list : S → List Float} {number number' : ℕ} {s s' : S} → number ≡ number' → (number ≡ 0 → s ≡ s')
+      → StateResult list (answer number s) before r after → StateResult list (answer number' s') before' r' after'
       → SameAnswer r r' (after ≡ after')
-  handed-same e f c c' =
+  handed-same {list = list} e f c c' =
       let same = number_of_lem _ _ c ∙ e ∙ sym (number_of_lem _ _ c') in
       record {
         number = same;
@@ -117,18 +114,17 @@ module _ {S : Type 0} (list : S → List Float) where
             a.1 ∙ ap list (f a.0) ∙ sym a'.1;
       }
 
-  of-trace : (new : List Float → S) → OfTrace (λ t before after r. Gives (trace_refusal t) (new (readings_of t)) before r after)
-  of-trace new t t' s before after before' after' r r' c c' = handed-same (trace-number s) (λ e. ap new (same-readings s)) c c'
-
-  of_range : (new : List Float → S) (start len : ℕ)
-      → OfTrace (λ t before after r. Gives (range_number t start len) (new (readings_in t start len)) before r after)
-  of_range new start len t t' s before after before' after' r r' c c' =
-      handed-same (range-number s start len) (λ e. ap new (same-range s start len)) c c'
-
-  of_pair : (new : List (Float × Float) → S)
-      → OfPair (λ x y before after r. Gives (paired_refusal x y) (new (pairs_of x y)) before r after)
-  of_pair new x y x' y' s u before after before' after' r r' c c' =
-      handed-same (pair-number s u) (λ e. ap new (same-pairs s u e)) c c'
+  same-state : {a a' : ArrayCall} → SameCalls a a' → CallsArray a before after r → CallsArray a' before' after' r'
+      → SameAnswer r r' (after ≡ after')
+  same-state (two_var s) c c' = handed-same (trace-number s) (λ e. ap var_whole (same-readings s)) c c'
+  same-state (two_skew s) c c' = handed-same (trace-number s) (λ e. ap skew_whole (same-readings s)) c c'
+  same-state (two_kurtosis s) c c' = handed-same (trace-number s) (λ e. ap kurtosis_whole (same-readings s)) c c'
+  same-state (two_cov s u) c c' = handed-same (pair-number s u) (λ e. ap cov_whole (same-pairs s u e)) c c'
+  same-state (two_pearson s u) c c' = handed-same (pair-number s u) (λ e. ap pearson_whole (same-pairs s u e)) c c'
+  same-state (two_skew_range {start = start} {len = len} s) c c' =
+      handed-same (range-number s start len) (λ e. ap skew_new (same-range s start len)) c c'
+  same-state (two_kurtosis_range {start = start} {len = len} s) c c' =
+      handed-same (range-number s start len) (λ e. ap kurtosis_new (same-range s start len)) c c'
 
 -- ---- windows
 -- by the kind of entry
@@ -222,13 +218,7 @@ pub map_law : MapLaw
 map_law =
     record {
       behind = behind;
-      var = of-trace var_list var_whole;
-      skew = of-trace skew_list skew_whole;
-      kurtosis = of-trace kurtosis_list kurtosis_whole;
-      cov = of_pair cov_list cov_whole;
-      pearson = of_pair pearson_list pearson_whole;
-      skew_range = of_range skew_list skew_new;
-      kurtosis_range = of_range kurtosis_list kurtosis_new;
+      arrays = λ s before after before' after' r r'. same-state before after before' after' r r' s;
       plans = λ q t t' s l₀ l l₀' l' room r r' c c'.
           let e : r ≡ r' = c.number_is ∙ planned_number q t t' s false false refl l₀ l₀' room ∙ sym c'.number_is in
           record {

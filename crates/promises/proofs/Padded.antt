@@ -31,8 +31,8 @@ use Rattle.rolling.specs.Calls.{Called}
 use Rattle.rolling.specs.Fixed.{CalledFixed}
 use Rattle.weighted.specs.Weights.{weights_refusal, CalledWeights}
 use Rattle.moments.specs.HostCall.{Host, CalledBytes}
-use Rattle.promises.specs.Calls.{CallsVar, CallsCov, CallsSkewRange}
-use Rattle.promises.specs.Maps.{SameMaps, padded, SameHost, SameRoom, SameAnswer, SameColumns, SameRows}
+use Rattle.promises.specs.Calls.{of_var, of_cov, of_skew_range, CallsArray}
+use Rattle.promises.specs.Maps.{SameMaps, padded, two_var, two_cov, two_skew_range, SameHost, SameRoom, SameAnswer, SameColumns, SameRows}
 use Rattle.promises.specs.Table.{variance_by, p9, trace9}
 use Rattle.promises.proofs.Maps.{map_law}
 use Rattle.promises.proofs.Examples.{reals, whole}
@@ -194,49 +194,48 @@ sevens = reals (7 ∷ 7 ∷ 7 ∷ 7 ∷ [])
 abbrev eights : List Float
 eights = reals (8 ∷ 8 ∷ 8 ∷ 8 ∷ [])
 
-pub var9 : CallsVar trace9 sevens (reals (2 ∷ 3 ∷ 2 ∷ [])) 0
+pub var9 : CallsArray (of_var trace9) sevens (reals (2 ∷ 3 ∷ 2 ∷ [])) 0
 unfolding answer refusal ◌or_else◌ wrong_map valid_from chunks chunks_of in_chunks valid_at of_bits of_int add sub mul div eq var_new var_clear
     var_combine
 var9 = record { number = refl; state = refl }
 
-pub behind_var9 : CallsVar behind9 eights (reals (2 ∷ 3 ∷ 2 ∷ [])) 0
+pub behind_var9 : CallsArray (of_var behind9) eights (reals (2 ∷ 3 ∷ 2 ∷ [])) 0
 unfolding answer refusal ◌or_else◌ wrong_map valid_from chunks chunks_of in_chunks valid_at of_bits of_int add sub mul div eq var_new var_clear
     var_combine
 behind_var9 = record { number = refl; state = refl }
 
 pub vars9 : SameAnswer 0 0 (reals (2 ∷ 3 ∷ 2 ∷ []) ≡ reals (2 ∷ 3 ∷ 2 ∷ []))
-vars9 = map_law.var trace9 behind9 same9 sevens _ eights _ 0 0 var9 behind_var9
+vars9 = map_law.arrays (two_var same9) sevens _ eights _ 0 0 var9 behind_var9
 
 -- a range: its last two places, of which one is valid
-pub range9 : CallsSkewRange trace9 1 2 sevens (reals (1 ∷ 4 ∷ 0 ∷ 0 ∷ [])) 0
+pub range9 : CallsArray (of_skew_range trace9 1 2) sevens (reals (1 ∷ 4 ∷ 0 ∷ 0 ∷ [])) 0
 unfolding answer refusal ◌or_else◌ wrong_map valid_from valid_at of_bits of_int add sub mul div eq skew_new
 range9 = record { number = refl; state = refl }
 
-pub behind_range9 : CallsSkewRange behind9 1 2 eights (reals (1 ∷ 4 ∷ 0 ∷ 0 ∷ [])) 0
+pub behind_range9 : CallsArray (of_skew_range behind9 1 2) eights (reals (1 ∷ 4 ∷ 0 ∷ 0 ∷ [])) 0
 unfolding answer refusal ◌or_else◌ wrong_map valid_from valid_at of_bits of_int add sub mul div eq skew_new
 behind_range9 = record { number = refl; state = refl }
 
 pub ranges9 : SameAnswer 0 0 (reals (1 ∷ 4 ∷ 0 ∷ 0 ∷ []) ≡ reals (1 ∷ 4 ∷ 0 ∷ 0 ∷ []))
-ranges9 = map_law.skew_range 1 2 trace9 behind9 same9 sevens _ eights _ 0 0 range9 behind_range9
+ranges9 = map_law.arrays (two_skew_range {start = 1} {len = 2} same9) sevens _ eights _ 0 0 range9 behind_range9
 
 -- a pair, of which the second trace has no map
 abbrev second : Trace
 second = whole (2 ∷ 5 ∷ 6 ∷ [])
 
-pub cov9 : CallsCov trace9 second sevens (reals (2 ∷ 3 ∷ 4 ∷ 4 ∷ [])) 0
+pub cov9 : CallsArray (of_cov trace9 second) sevens (reals (2 ∷ 3 ∷ 4 ∷ 4 ∷ [])) 0
 unfolding answer refusal ◌or_else◌ wrong_map valid_from chunks chunks_of in_chunks valid_at both_at of_bits of_int add sub mul div eq zip zip_with
     cov_new cov_combine
 cov9 = record { number = refl; state = refl }
 
-pub behind_cov9 : CallsCov behind9 (padded second (255 ∷ [])) eights (reals (2 ∷ 3 ∷ 4 ∷ 4 ∷ [])) 0
+pub behind_cov9 : CallsArray (of_cov behind9 (padded second (255 ∷ []))) eights (reals (2 ∷ 3 ∷ 4 ∷ 4 ∷ [])) 0
 unfolding answer refusal ◌or_else◌ wrong_map valid_from chunks chunks_of in_chunks valid_at both_at of_bits of_int add sub mul div eq zip zip_with
     cov_new cov_combine
 behind_cov9 = record { number = refl; state = refl }
 
 pub covs9 : SameAnswer 0 0 (reals (2 ∷ 3 ∷ 4 ∷ 4 ∷ []) ≡ reals (2 ∷ 3 ∷ 4 ∷ 4 ∷ []))
 covs9 =
-    map_law.cov trace9 second behind9 (padded second (255 ∷ [])) same9 (map_law.behind second (255 ∷ []) (λ w. apart w.0)) sevens _
-    eights _ 0 0 cov9 behind_cov9
+    map_law.arrays (two_cov same9 (map_law.behind second (255 ∷ []) (λ w. apart w.0))) sevens _ eights _ 0 0 cov9 behind_cov9
 
 -- ---- what would be said too much: maps that are too short may have the same bits, as a place past a map's end reads as missing, and
 -- give another number

@@ -41,7 +41,8 @@ use Rattle.promises.specs.SourceArrays.{array_of, whole_array, pair_arrays, from
 use Rattle.promises.specs.SourceRows.{plan_row, row_of}
 use Rattle.promises.specs.SourceFixed.{fixed_row}
 use Rattle.promises.specs.SourceWeights.{rolling_var_weights}
-use Rattle.promises.specs.Calls.{CallsVar, CallsSkew, CallsKurtosis, CallsCov, CallsPearson, CallsSkewRange, CallsKurtosisRange}
+use Rattle.promises.specs.Calls.{ArrayCall, of_var, of_skew, of_kurtosis, of_cov, of_pearson, of_skew_range, of_kurtosis_range}
+use Rattle.promises.specs.Calls.{CallsArray}
 use Rattle.promises.specs.Calls.{OfOneTrace, figures_in, AcceptedCall}
 
 -- ---- states
@@ -68,46 +69,17 @@ pub record StatesEqual : Type 0 where
       × (kurtosis_combine s o ≡ KurtosisState-combine s o)
       × (kurtosis_finalize s fisher bias ≡ KurtosisState-finalize s fisher bias)
 
--- ---- whole arrays and ranges: the members of the Rust's state
--- `var`, `skew` and `kurtosis` of a trace
-abbrev pub source_var : Rust → Trace → List Float
-source_var rust t = var_list (whole_array VarState-new VarState-combine VarState-default (array_of rust t))
-
-abbrev pub source_skew : Rust → Trace → List Float
-source_skew rust t = skew_list (whole_array SkewState-new SkewState-combine SkewState-default (array_of rust t))
-
-abbrev pub source_kurtosis : Rust → Trace → List Float
-source_kurtosis rust t = kurtosis_list (whole_array KurtosisState-new KurtosisState-combine KurtosisState-default (array_of rust t))
-
--- `cov` and `pearson_corr` of two
-abbrev pub source_cov : Rust → Trace → Trace → List Float
-source_cov rust x y = cov_list (pair_arrays CovState-new CovState-combine CovState-default (array_of rust x) (array_of rust y))
-
-abbrev pub source_pearson : Rust → Trace → Trace → List Float
-source_pearson rust x y =
+-- ---- whole arrays, pairs and ranges: the members of the Rust's state
+-- `var`, `skew`, `kurtosis`, `cov`, `pearson_corr`, `SkewState::from_array` and `KurtosisState::from_array`
+abbrev pub source_of : Rust → ArrayCall → List Float
+source_of rust (of_var t) = var_list (whole_array VarState-new VarState-combine VarState-default (array_of rust t))
+source_of rust (of_skew t) = skew_list (whole_array SkewState-new SkewState-combine SkewState-default (array_of rust t))
+source_of rust (of_kurtosis t) = kurtosis_list (whole_array KurtosisState-new KurtosisState-combine KurtosisState-default (array_of rust t))
+source_of rust (of_cov x y) = cov_list (pair_arrays CovState-new CovState-combine CovState-default (array_of rust x) (array_of rust y))
+source_of rust (of_pearson x y) =
     pearson_list (pair_arrays PearsonState-new PearsonState-combine PearsonState-default (array_of rust x) (array_of rust y))
-
--- `SkewState::from_array` and `KurtosisState::from_array`
-abbrev pub source_skew_range : Rust → Trace → ℕ → ℕ → List Float
-source_skew_range rust t start len = skew_list (from_array SkewState-from_iter rust (array_of rust t) start len)
-
-abbrev pub source_kurtosis_range : Rust → Trace → ℕ → ℕ → List Float
-source_kurtosis_range rust t start len = kurtosis_list (from_array KurtosisState-from_iter rust (array_of rust t) start len)
-
--- "every state .. equals the Rust's": what an accepted call leaves
-pub record ArraysEqual : Type 0 where
-  pub var : (rust : Rust) (t : Trace) (before after : List Float) → CallsVar t before after 0 → after ≡ source_var rust t
-  pub skew : (rust : Rust) (t : Trace) (before after : List Float) → CallsSkew t before after 0 → after ≡ source_skew rust t
-  pub kurtosis : (rust : Rust) (t : Trace) (before after : List Float) → CallsKurtosis t before after 0 → after ≡ source_kurtosis rust t
-  pub cov : (rust : Rust) (x y : Trace) (before after : List Float) → CallsCov x y before after 0 → after ≡ source_cov rust x y
-  pub pearson : (rust : Rust) (x y : Trace) (before after : List Float) → CallsPearson x y before after 0 → after ≡ source_pearson rust x y
-
--- the same of ranges
-pub record RangesEqual : Type 0 where
-  pub skew : (rust : Rust) (t : Trace) (start len : ℕ) (before after : List Float) → CallsSkewRange t start len before after 0
-      → after ≡ source_skew_range rust t start len
-  pub kurtosis : (rust : Rust) (t : Trace) (start len : ℕ) (before after : List Float) → CallsKurtosisRange t start len before after 0
-      → after ≡ source_kurtosis_range rust t start len
+source_of rust (of_skew_range t start len) = skew_list (from_array SkewState-from_iter rust (array_of rust t) start len)
+source_of rust (of_kurtosis_range t start len) = kurtosis_list (from_array KurtosisState-from_iter rust (array_of rust t) start len)
 
 -- ---- windows
 -- 001, `VarianceMoment`, `SkewMoment` and `KurtosisMoment`, which forward to the states' own
@@ -176,8 +148,8 @@ CorrectRoot nan r = r ≡ nan
 -- ---- the demand
 pub record DemandTwo : Type 0 where
   pub states : StatesEqual
-  pub arrays : ArraysEqual
-  pub ranges : RangesEqual
+  -- "every state .. equals the Rust's": what an accepted call leaves
+  pub arrays : (rust : Rust) (a : ArrayCall) (before after : List Float) → CallsArray a before after 0 → after ≡ source_of rust a
   -- plan calls and host calls, and fixed windows as the plan of their bounds: "The oracle drives the Rust window with the plan's rows"
   pub plans : (rust : Rust) (q : Query) (one : OfOneTrace q.statistic) (t : GivenTo q) (l : Lent) → AcceptedCall q t l
       → RowsEqual rust q one t l
