@@ -54,17 +54,9 @@ unfolding VarState-new var_new
 var_new_lem [] = refl
 var_new_lem (x ∷ xs) = rw (eqb-suc-zero (length xs), sum-map (squared_from (mean_of (x ∷ xs))) (x ∷ xs))
 
-pub var_insert_lem : ◌≡◌ {A = VarState → Float → VarState} VarState-insert_one var_insert
-unfolding VarState-insert_one VarState-clear_zero_weight_nan var_clear
-var_insert_lem = refl
-
 pub var_combine_lem : ◌≡◌ {A = VarState → VarState → VarState} VarState-combine var_combine
 unfolding VarState-combine VarState-clear_zero_weight_nan var_combine var_clear
 var_combine_lem = refl
-
-pub var_finalize_lem : ◌≡◌ {A = VarState → ℕ → Figure} VarState-finalize var_finalize
-unfolding VarState-finalize var_finalize
-var_finalize_lem = refl
 
 -- ---- `CovState`
 -- a state from how many pairs there are, the sums of their members, and the pairs
@@ -97,17 +89,9 @@ cov_new_lem (p ∷ ps) =
     ∙ cov_alike (length x) (length all) (alg_sum x) (sum_of first_of all) (alg_sum y) (sum_of second_of all) (zip x y) all (length-map all first_of) (sum-map first_of all) (sum-map second_of all) (zip_members all)
     ∙ cov_ours p ps
 
-pub cov_insert_lem : ◌≡◌ {A = CovState → Float → Float → CovState} CovState-insert_one cov_insert
-unfolding CovState-insert_one
-cov_insert_lem = refl
-
 pub cov_combine_lem : ◌≡◌ {A = CovState → CovState → CovState} CovState-combine cov_combine
 unfolding CovState-combine cov_combine
 cov_combine_lem = refl
-
-pub cov_finalize_lem : ◌≡◌ {A = CovState → ℕ → Figure} CovState-finalize cov_finalize
-unfolding CovState-finalize cov_finalize
-cov_finalize_lem = refl
 
 -- ---- `PearsonState`
 -- a state from how many pairs there are, the sums of their members, and the pairs
@@ -145,17 +129,9 @@ pearson_new_lem (p ∷ ps) =
     ∙ pearson_alike (length x) (length all) (alg_sum x) (sum_of first_of all) (alg_sum y) (sum_of second_of all) (zip x y) all (length-map all first_of) (sum-map first_of all) (sum-map second_of all) (zip_members all)
     ∙ pearson_ours p ps
 
-pub pearson_insert_lem : ◌≡◌ {A = PearsonState → Float → Float → PearsonState} PearsonState-insert_one pearson_insert
-unfolding PearsonState-insert_one
-pearson_insert_lem = refl
-
 pub pearson_combine_lem : ◌≡◌ {A = PearsonState → PearsonState → PearsonState} PearsonState-combine pearson_combine
 unfolding PearsonState-combine pearson_combine
 pearson_combine_lem = refl
-
-pub pearson_finalize_lem : ◌≡◌ {A = PearsonState → Float} PearsonState-finalize pearson_finalize
-unfolding PearsonState-finalize pearson_finalize
-pearson_finalize_lem = refl
 
 -- ---- `SkewState`
 pub skew_new_lem : (xs : List Float) → SkewState-from_iter xs (length xs) ≡ skew_new xs
@@ -168,17 +144,9 @@ skew_new_lem xs =
       kept_sum (λ s. s.1) (add_cubes mean) (cube mean) (λ s x. refl) none xs,
     )
 
-pub skew_insert_lem : ◌≡◌ {A = SkewState → Float → SkewState} SkewState-insert_one skew_insert
-unfolding SkewState-insert_one SkewState-clear_zero_weight_nan skew_clear
-skew_insert_lem = refl
-
 pub skew_combine_lem : ◌≡◌ {A = SkewState → SkewState → SkewState} SkewState-combine skew_combine
 unfolding SkewState-combine SkewState-clear_zero_weight_nan skew_combine skew_clear
 skew_combine_lem = refl
-
-pub skew_finalize_lem : ◌≡◌ {A = SkewState → Bool → Figure} SkewState-finalize skew_finalize
-unfolding SkewState-finalize skew_finalize skew_biased
-skew_finalize_lem = refl
 
 -- ---- `KurtosisState`
 pub kurtosis_new_lem : (xs : List Float) → KurtosisState-from_iter xs (length xs) ≡ kurtosis_new xs
@@ -191,10 +159,6 @@ kurtosis_new_lem xs =
       kept_sum (λ s. s.1) (add_fourths mean) (cube mean) (λ s x. refl) none xs,
       kept_sum (λ s. s.2) (add_fourths mean) (fourth mean) (λ s x. refl) none xs,
     )
-
-pub kurtosis_insert_lem : ◌≡◌ {A = KurtosisState → Float → KurtosisState} KurtosisState-insert_one kurtosis_insert
-unfolding KurtosisState-insert_one KurtosisState-clear_zero_weight_nan kurtosis_clear
-kurtosis_insert_lem = refl
 
 pub kurtosis_combine_lem : ◌≡◌ {A = KurtosisState → KurtosisState → KurtosisState} KurtosisState-combine kurtosis_combine
 unfolding KurtosisState-combine KurtosisState-clear_zero_weight_nan kurtosis_combine kurtosis_clear

@@ -93,26 +93,22 @@ abbrev pub kurtosis_moment : Moment Float
 kurtosis_moment =
     record { State = KurtosisState; empty = KurtosisState-default; insert = KurtosisState-insert_one; combine = KurtosisState-combine }
 
--- The rows of the Rust's `rolling_apply_agg_window`, driven with the plan's rows: 003 with a map, 002 without one. It has no window of two
--- traces, so there are no rows of one here.
+-- what a driver gives over the moment of the figure that is asked; of two traces the Rust has no window, so there are no rows here
+abbrev pub driven : ((M : Moment Float) → (M.State → Figure) → Trace → ℕ → Figure) → (a : Statistic) → OfOneTrace a → Given (kind_of a)
+    → List (ℕ → Figure)
+driven row (Variance ddof) one t = row variance_moment (λ s. VarState-finalize s ddof) t ∷ []
+driven row (Skewness bias) one t = row skew_moment (λ s. SkewState-finalize s bias) t ∷ []
+driven row (Kurtosis fisher bias) one t = row kurtosis_moment (λ s. KurtosisState-finalize s fisher bias) t ∷ []
+driven row (Covariance ddof) one t = absurd one
+driven row Correlation one t = absurd one
+
+-- the rows of the Rust's `rolling_apply_agg_window`, driven with the plan's rows: 003 with a map, 002 without one
 abbrev pub source_rows : Rust → (a : Statistic) → OfOneTrace a → Given (kind_of a) → ℕ → Plan → List (ℕ → Figure)
-source_rows rust (Variance ddof) one t min_periods p = plan_row variance_moment rust (λ s. VarState-finalize s ddof) t min_periods p ∷ []
-source_rows rust (Skewness bias) one t min_periods p = plan_row skew_moment rust (λ s. SkewState-finalize s bias) t min_periods p ∷ []
-source_rows rust (Kurtosis fisher bias) one t min_periods p =
-    plan_row kurtosis_moment rust (λ s. KurtosisState-finalize s fisher bias) t min_periods p ∷ []
-source_rows rust (Covariance ddof) one t min_periods p = absurd one
-source_rows rust Correlation one t min_periods p = absurd one
+source_rows rust a one t min_periods p = driven (λ M final x. plan_row M rust final x min_periods p) a one t
 
 -- the rows of the Rust's `rolling_var`, `rolling_skew` or `rolling_kurtosis`: "005 with a map, 004 without"
 abbrev pub source_fixed_rows : Rust → (a : Statistic) → OfOneTrace a → Given (kind_of a) → ℕ → Bool → ℕ → List (ℕ → Figure)
-source_fixed_rows rust (Variance ddof) one t min_periods center size =
-    fixed_row variance_moment rust (λ s. VarState-finalize s ddof) t min_periods center size ∷ []
-source_fixed_rows rust (Skewness bias) one t min_periods center size =
-    fixed_row skew_moment rust (λ s. SkewState-finalize s bias) t min_periods center size ∷ []
-source_fixed_rows rust (Kurtosis fisher bias) one t min_periods center size =
-    fixed_row kurtosis_moment rust (λ s. KurtosisState-finalize s fisher bias) t min_periods center size ∷ []
-source_fixed_rows rust (Covariance ddof) one t min_periods center size = absurd one
-source_fixed_rows rust Correlation one t min_periods center size = absurd one
+source_fixed_rows rust a one t min_periods center size = driven (λ M final x. fixed_row M rust final x min_periods center size) a one t
 
 -- "every .. figure equals the Rust's": of a call that leaves l, every row's answers
 abbrev pub RowsEqual : Rust → (q : Query) → OfOneTrace q.statistic → GivenTo q → Lent → Type 0
