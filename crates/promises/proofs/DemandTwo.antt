@@ -39,6 +39,8 @@ use Rattle.rolling.proofs.Calls.{few_places}
 use Rattle.weighted.specs.Weights.{total_of, CalledWeights}
 use Rattle.weighted.proofs.WeightedRows.{weights-accepted}
 use Rattle.moments.specs.Results.{StateResult}
+use Rattle.promises.specs.SourceStates.{VarState-default, CovState-default, CovState-new, PearsonState-default, PearsonState-new}
+use Rattle.promises.specs.SourceStates.{SkewState-default, SkewState-from_iter, KurtosisState-default, KurtosisState-from_iter}
 use Rattle.promises.specs.SourceStates.{VarState-clear_zero_weight_nan, VarState-insert_one, VarState-combine, VarState-finalize}
 use Rattle.promises.specs.SourceStates.{CovState-insert_one, CovState-combine, CovState-finalize}
 use Rattle.promises.specs.SourceStates.{PearsonState-insert_one, PearsonState-combine, PearsonState-finalize}
@@ -53,8 +55,9 @@ use Rattle.promises.specs.Calls.{ArrayCall, of_var, of_skew, of_kurtosis, of_cov
 use Rattle.promises.specs.Calls.{CallsArray, OfOneTrace, AcceptedCall, fixed_call}
 use Rattle.promises.specs.DemandTwo.{StatesEqual, source_of, variance_moment, skew_moment, kurtosis_moment, source_rows}
 use Rattle.promises.specs.DemandTwo.{source_fixed_rows, RowsEqual, FixedRowsEqual, CorrectRoot, DemandTwo}
-use Rattle.promises.proofs.SourceStates.{kurtosis_finalize_lem}
-use Rattle.promises.proofs.SourceArrays.{var_array, skew_array, kurtosis_array, cov_array, pearson_array, skew_range_lem, kurtosis_range_lem}
+use Rattle.promises.proofs.SourceStates.{var_new_lem, var_combine_lem, cov_new_lem, cov_combine_lem, pearson_new_lem, pearson_combine_lem}
+use Rattle.promises.proofs.SourceStates.{skew_new_lem, skew_combine_lem, kurtosis_new_lem, kurtosis_combine_lem, kurtosis_finalize_lem}
+use Rattle.promises.proofs.SourceArrays.{whole_array_lem, pair_arrays_lem, range_array}
 use Rattle.promises.proofs.SourceRows.{Neutral, plan_row_lem}
 use Rattle.promises.proofs.SourceFixed.{fixed_row_lem}
 use Rattle.promises.proofs.SourceWeights.{weighted-row, weights_many}
@@ -99,13 +102,13 @@ sourced-state : {S : Type 0} {list : S → List Float} {number : ℕ} {source s 
 sourced-state {list = list} same c = let k = taken _ _ refl c in k.1 ∙ ap list (sym (same k.0))
 
 arrays : (rust : Rust) (a : ArrayCall) (before after : List Float) → CallsArray a before after 0 → after ≡ source_of rust a
-arrays rust (of_var t) before after c = sourced-state (var_array rust t) c
-arrays rust (of_skew t) before after c = sourced-state (skew_array rust t) c
-arrays rust (of_kurtosis t) before after c = sourced-state (kurtosis_array rust t) c
-arrays rust (of_cov x y) before after c = sourced-state (cov_array rust x y) c
-arrays rust (of_pearson x y) before after c = sourced-state (pearson_array rust x y) c
-arrays rust (of_skew_range t start len) before after c = sourced-state (skew_range_lem rust t start len) c
-arrays rust (of_kurtosis_range t start len) before after c = sourced-state (kurtosis_range_lem rust t start len) c
+arrays rust (of_var t) before after c = sourced-state (whole_array_lem VarState-default var_new_lem var_combine_lem rust t) c
+arrays rust (of_skew t) before after c = sourced-state (whole_array_lem SkewState-default skew_new_lem skew_combine_lem rust t) c
+arrays rust (of_kurtosis t) before after c = sourced-state (whole_array_lem KurtosisState-default kurtosis_new_lem kurtosis_combine_lem rust t) c
+arrays rust (of_cov x y) before after c = sourced-state (pair_arrays_lem CovState-default CovState-new cov_new_lem cov_combine_lem rust x y) c
+arrays rust (of_pearson x y) before after c = sourced-state (pair_arrays_lem PearsonState-default PearsonState-new pearson_new_lem pearson_combine_lem rust x y) c
+arrays rust (of_skew_range t start len) before after c = sourced-state (range_array SkewState-from_iter skew_new_lem rust t start len) c
+arrays rust (of_kurtosis_range t start len) before after c = sourced-state (range_array KurtosisState-from_iter kurtosis_new_lem rust t start len) c
 
 -- ---- rows, by what is asked: the source's moments are ours
 planned_row : (rust : Rust) (M : Moment Float) → Neutral M → (final : M.State → Figure) (t : Trace) → trace_refusal t ≡ 0
