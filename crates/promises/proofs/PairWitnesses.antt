@@ -42,6 +42,7 @@ use Rattle.promises.specs.Table.{p7}
 use Rattle.promises.proofs.DemandOne.{demand_one}
 use Rattle.promises.proofs.TwoTraces.{pair_statement}
 use Rattle.promises.proofs.Maps.{map_law}
+use Rattle.promises.proofs.FigureRows.{missing_row}
 use Rattle.promises.proofs.Examples.{reals, whole}
 use Rattle.promises.proofs.Witnesses.{four_lent, four_left, leaves, first_bits, answer}
 
@@ -428,11 +429,7 @@ ddof_yielded =
         answer = answer zero64 0;
         others = [];
         stands = refl;
-        row = record {
-          byte-is = inl refl;
-          missing = (λ z. inl (omega arith), λ few. refl);
-          not_finite = λ b. absurd (omega arith);
-        };
+        row = missing_row (inl (omega arith));
       };
     }
 
@@ -466,11 +463,7 @@ minimum_yielded =
         answer = answer zero64 0;
         others = [];
         stands = refl;
-        row = record {
-          byte-is = inl refl;
-          missing = (λ z. inr (omega arith), λ few. refl);
-          not_finite = λ b. absurd (omega arith);
-        };
+        row = missing_row (inr (omega arith));
       };
     }
 

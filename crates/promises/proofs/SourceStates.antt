@@ -48,6 +48,25 @@ unfolding zip zip_with
 zip_members [] = refl
 zip_members (p ∷ ps) = ap (λ (l : List (Float × Float)). p ∷ l) (zip_members ps)
 
+-- a state that both make of how many pairs there are, the sums of their members, and the pairs
+module _ {S : Type 0} (of : ℕ → Float → Float → List (Float × Float) → S) (empty : S) where
+  alike : (n n' : ℕ) (x x' y y' : Float) (ps ps' : List (Float × Float)) → n ≡ n' → x ≡ x' → y ≡ y' → ps ≡ ps'
+      → of n x y ps ≡ of n' x' y' ps'
+  alike n n' x x' y y' ps ps' e f g h = cc
+
+  pair-new : (source : List Float → List Float → S) (new : List (Float × Float) → S)
+      → ((x y : List Float) → source x y ≡ cond (is_empty x) empty (of (length x) (alg_sum x) (alg_sum y) (zip x y)))
+      → empty ≡ new []
+      → ((p : Float × Float) (ps : List (Float × Float)) →
+      let all = p ∷ ps in of (length all) (sum_of first_of all) (sum_of second_of all) all ≡ new all)
+      → (ps : List (Float × Float)) → source (map first_of ps) (map second_of ps) ≡ new ps
+  pair-new source new source_is none ours [] = source_is [] [] ∙ none
+  pair-new source new source_is none ours (p ∷ ps) =
+      let all = p ∷ ps in
+      source_is (map first_of all) (map second_of all)
+      ∙ alike _ _ _ _ _ _ _ _ (length-map all first_of) (sum-map first_of all) (sum-map second_of all) (zip_members all)
+      ∙ ours p ps
+
 -- ---- `VarState`
 pub var_new_lem : (x : List Float) → VarState-new x ≡ var_new x
 unfolding VarState-new var_new
@@ -75,19 +94,9 @@ cov_ours : (p : Float × Float) (ps : List (Float × Float)) →
 unfolding cov_new cov_of
 cov_ours p ps = rw (eqb-suc-zero (length ps))
 
-cov_alike : (n n' : ℕ) (x x' y y' : Float) (ps ps' : List (Float × Float)) → n ≡ n' → x ≡ x' → y ≡ y' → ps ≡ ps' → cov_of n x y ps ≡ cov_of n' x' y' ps'
-cov_alike n n' x x' y y' ps ps' e f g h = cc
-
 pub cov_new_lem : (ps : List (Float × Float)) → CovState-new (map first_of ps) (map second_of ps) ≡ cov_new ps
-unfolding CovState-new cov_new zip zip_with
-cov_new_lem [] = refl
-cov_new_lem (p ∷ ps) =
-    let all = p ∷ ps in
-    let x = map first_of all in
-    let y = map second_of all in
-    cov_source x y
-    ∙ cov_alike (length x) (length all) (alg_sum x) (sum_of first_of all) (alg_sum y) (sum_of second_of all) (zip x y) all (length-map all first_of) (sum-map first_of all) (sum-map second_of all) (zip_members all)
-    ∙ cov_ours p ps
+unfolding cov_new
+cov_new_lem = pair-new cov_of cov_empty CovState-new cov_new cov_source refl cov_ours
 
 pub cov_combine_lem : ◌≡◌ {A = CovState → CovState → CovState} CovState-combine cov_combine
 unfolding CovState-combine cov_combine
@@ -115,19 +124,9 @@ pearson_ours : (p : Float × Float) (ps : List (Float × Float)) →
 unfolding pearson_new pearson_of
 pearson_ours p ps = rw (eqb-suc-zero (length ps))
 
-pearson_alike : (n n' : ℕ) (x x' y y' : Float) (ps ps' : List (Float × Float)) → n ≡ n' → x ≡ x' → y ≡ y' → ps ≡ ps' → pearson_of n x y ps ≡ pearson_of n' x' y' ps'
-pearson_alike n n' x x' y y' ps ps' e f g h = cc
-
 pub pearson_new_lem : (ps : List (Float × Float)) → PearsonState-new (map first_of ps) (map second_of ps) ≡ pearson_new ps
-unfolding PearsonState-new pearson_new zip zip_with
-pearson_new_lem [] = refl
-pearson_new_lem (p ∷ ps) =
-    let all = p ∷ ps in
-    let x = map first_of all in
-    let y = map second_of all in
-    pearson_source x y
-    ∙ pearson_alike (length x) (length all) (alg_sum x) (sum_of first_of all) (alg_sum y) (sum_of second_of all) (zip x y) all (length-map all first_of) (sum-map first_of all) (sum-map second_of all) (zip_members all)
-    ∙ pearson_ours p ps
+unfolding pearson_new
+pearson_new_lem = pair-new pearson_of pearson_empty PearsonState-new pearson_new pearson_source refl pearson_ours
 
 pub pearson_combine_lem : ◌≡◌ {A = PearsonState → PearsonState → PearsonState} PearsonState-combine pearson_combine
 unfolding PearsonState-combine pearson_combine

@@ -40,6 +40,7 @@ use Rattle.promises.specs.Calls.{figures_in, AcceptedCall, plan_call, host_call,
 use Rattle.promises.specs.DemandTwo.{RowsEqual, FixedRowsEqual, WeightedRowsEqual, CorrectRoot}
 use Rattle.promises.specs.DemandThree.{Alike, Agree, TooFew, SomeNotFinite, VarianceRow, VarianceIn, Yielded}
 use Rattle.promises.specs.Table.{variance_by, p7, trace7, p8, trace8, p9, trace9}
+use Rattle.promises.proofs.FigureRows.{missing_row}
 use Rattle.promises.proofs.DemandTwo.{demand_two}
 use Rattle.promises.proofs.TwoCalls.{SameMoves, both_or_neither, none_shorter, SameRow, same_moves_same_row}
 use Rattle.promises.proofs.DemandThree.{demand_three}
@@ -577,11 +578,7 @@ pub ddof_row : VarianceRow trace7 3 4 1 1 (answer zero64 0)
 unfolding entries_from valid_at
 ddof_row =
     record {
-      figure = record {
-        byte-is = inl refl;
-        missing = (λ z. inl (omega arith), λ few. refl);
-        not_finite = λ b. absurd (omega arith);
-      };
+      figure = missing_row (inl (omega arith));
       not-below = λ b. absurd (omega arith);
     }
 
@@ -590,11 +587,7 @@ pub minimum_row : VarianceRow trace9 0 3 3 1 (answer zero64 0)
 unfolding entries_from valid_at
 minimum_row =
     record {
-      figure = record {
-        byte-is = inl refl;
-        missing = (λ z. inr (omega arith), λ few. refl);
-        not_finite = λ b. absurd (omega arith);
-      };
+      figure = missing_row (inr (omega arith));
       not-below = λ b. absurd (omega arith);
     }
 
