@@ -1,6 +1,6 @@
 -- Demand 2 for windows: an accepted call's answers are what the split account yields, and so are the source's rows; those of fixed
 -- windows are the rows of a plan; a weighted call's answers are row by row the source's. Assumes nothing.
-use Prim.Native.Nat.{ℕ, zero, suc, ◌^◌, ◌≤◌, ◌<◌, min}
+use Prim.Native.Nat.{ℕ, zero, suc, ◌^◌, ◌<◌, min}
 use mathlib.Core.Path.{◌≡◌, refl, sym, ap, ◌∙◌, subst}
 use mathlib.Core.Bool.{Bool, true, false}
 use mathlib.Core.List.{List, [], ◌∷◌}
@@ -29,7 +29,7 @@ use Rattle.plan.specs.Code.Accepted.{Planned}
 use Rattle.plan.proofs.FixedWindows.{bounds-rows}
 use Rattle.window.specs.Window.{Moment}
 use Rattle.window.specs.Given.{Readings, Given, series_of, places_of, given_refusal}
-use Rattle.window.specs.Outputs.{Column, Lent, Answer, of_figure, answers_in, answers_at}
+use Rattle.window.specs.Outputs.{Column, Lent, of_figure, answers_in, answers_at}
 use Rattle.window.proofs.Outputs.{◌then◌}
 use Rattle.rolling.specs.Moments.{Statistic, Variance, Skewness, Kurtosis, Covariance, Correlation, variance, skewness, kurtosis}
 use Rattle.rolling.specs.Moments.{kind_of, moment_of, finals_of}

@@ -17,34 +17,21 @@ use lib.Seq.{take_at, drop_at, take_all, take-length, length-take-le}
 use lib.Ieee.{Float}
 use Rattle.float.proofs.Tables.{table_same}
 use Rattle.float.proofs.Cases.{Or, here, there, order}
-use Rattle.trace.specs.Trace.{Trace, bytes_for, valid_at, both_at, valid_from, valid_readings, valid_pairs}
+use Rattle.trace.specs.Trace.{Trace, bytes_for, valid_at, both_at, valid_from}
 use Rattle.trace.specs.Refusals.{refusal, ◌or_else◌, too_many, wrong_map, trace_refusal, paired_refusal, range_refusal}
 use Rattle.trace.proofs.Accepted.{none_of, not_refused_lem, range_fits_lem, pair_fits}
 use Rattle.trace.proofs.Maps.{none_missing_lem}
 use Rattle.moment.specs.Sums.{first_of, second_of}
 use Rattle.moment.specs.Chunks.{chunks, chunks_of, fold_chunks, in_chunks}
-use Rattle.moment.specs.Var.{var_empty, var_new, var_combine}
-use Rattle.moment.specs.Cov.{cov_empty, cov_new, cov_combine}
-use Rattle.moment.specs.Pearson.{pearson_empty, pearson_new, pearson_combine}
-use Rattle.moment.specs.Skew.{skew_empty, skew_new, skew_combine}
-use Rattle.moment.specs.Kurtosis.{kurtosis_empty, kurtosis_new, kurtosis_combine}
-use Rattle.moment.specs.Arrays.{var_whole, skew_whole, kurtosis_whole, cov_whole, pearson_whole, range_readings}
 use Rattle.moment.proofs.Chunked.{chunks_cons}
 use Rattle.moment.proofs.Pairs.{length-zip}
 use Rattle.plan.proofs.Plans.{neither}
 use Rattle.promises.specs.Rust.{Rust, bitmap_of}
-use Rattle.promises.specs.SourceStates.{VarState-default, VarState-new, VarState-combine}
-use Rattle.promises.specs.SourceStates.{CovState-default, CovState-new, CovState-combine}
-use Rattle.promises.specs.SourceStates.{PearsonState-default, PearsonState-new, PearsonState-combine}
-use Rattle.promises.specs.SourceStates.{SkewState-default, SkewState-from_iter, SkewState-new, SkewState-combine}
-use Rattle.promises.specs.SourceStates.{KurtosisState-default, KurtosisState-from_iter, KurtosisState-new, KurtosisState-combine}
 use Rattle.promises.specs.Calls.{readings_of, readings_in, pairs_of}
 use Rattle.promises.specs.SourceArrays.{bits_of, array_of, unset_bits, has_nulls, then_some, values_where}
 use Rattle.promises.specs.SourceArrays.{options_where, both_some, stored, flushed, chunk_as_float, combine_new, whole_array}
 use Rattle.promises.specs.SourceArrays.{stored_binary, flushed_binary, chunk_as_float_binary, combine_new_binary, pair_arrays, options_of}
 use Rattle.promises.specs.SourceArrays.{non_null_values, with_unset, sliced, set_bits, range_of, from_range, from_array}
-use Rattle.promises.proofs.SourceStates.{var_new_lem, var_combine_lem, cov_new_lem, cov_combine_lem, pearson_new_lem, pearson_combine_lem}
-use Rattle.promises.proofs.SourceStates.{skew_new_lem, skew_combine_lem, kurtosis_new_lem, kurtosis_combine_lem}
 use Rattle.promises.proofs.Spans.{span, span_table, span_length, span_part}
 use Rattle.promises.proofs.Accepted.{map_long}
 

@@ -8,26 +8,25 @@ use lib.Dec.{eqb-suc-zero}
 use lib.ListN.{length, length-map}
 use lib.Ieee.{Float}
 use Rattle.float.specs.Operators.{◌⊕◌, ◌⊗◌, ◌⊘◌, zero64, one64, of_nat64}
-use Rattle.moment.specs.declared.Figure.{Figure}
 use Rattle.moment.specs.declared.var_state.VarState.{VarState}
 use Rattle.moment.specs.declared.cov_state.CovState.{CovState}
 use Rattle.moment.specs.declared.pearson_state.PearsonState.{PearsonState}
 use Rattle.moment.specs.declared.skew_state.SkewState.{SkewState}
 use Rattle.moment.specs.declared.kurtosis_state.KurtosisState.{KurtosisState}
 use Rattle.moment.specs.Sums.{sum_of, first_of, second_of, square, cube, fourth, deviation_product}
-use Rattle.moment.specs.Var.{mean_of, var_new, var_clear, var_insert, var_combine, var_finalize}
-use Rattle.moment.specs.Cov.{cov_empty, cov_new, cov_insert, cov_combine, cov_finalize}
-use Rattle.moment.specs.Pearson.{square_x, square_y, pearson_empty, pearson_about, pearson_new, pearson_insert, pearson_combine, pearson_finalize}
-use Rattle.moment.specs.Skew.{skew_new, skew_clear, skew_insert, skew_combine, skew_biased, skew_finalize}
-use Rattle.moment.specs.Kurtosis.{kurtosis_new, kurtosis_clear, kurtosis_insert, kurtosis_combine, kurtosis_biased, kurtosis_finalize}
+use Rattle.moment.specs.Var.{mean_of, var_new, var_clear, var_combine}
+use Rattle.moment.specs.Cov.{cov_empty, cov_new, cov_combine}
+use Rattle.moment.specs.Pearson.{square_x, square_y, pearson_empty, pearson_about, pearson_new, pearson_combine}
+use Rattle.moment.specs.Skew.{skew_new, skew_clear, skew_combine}
+use Rattle.moment.specs.Kurtosis.{kurtosis_new, kurtosis_clear, kurtosis_combine, kurtosis_biased, kurtosis_finalize}
 use Rattle.promises.specs.SourceStates.{is_empty, alg_add, alg_sum, add_products, add_cubes, add_fourths, squared_from, product_from}
-use Rattle.promises.specs.SourceStates.{VarState-new, VarState-clear_zero_weight_nan, VarState-insert_one}
-use Rattle.promises.specs.SourceStates.{VarState-combine, VarState-finalize}
-use Rattle.promises.specs.SourceStates.{CovState-new, CovState-insert_one, CovState-combine, CovState-finalize}
-use Rattle.promises.specs.SourceStates.{PearsonState-new, PearsonState-insert_one, PearsonState-combine, PearsonState-finalize}
-use Rattle.promises.specs.SourceStates.{SkewState-from_iter, SkewState-clear_zero_weight_nan, SkewState-insert_one}
-use Rattle.promises.specs.SourceStates.{SkewState-combine, SkewState-finalize}
-use Rattle.promises.specs.SourceStates.{KurtosisState-from_iter, KurtosisState-clear_zero_weight_nan, KurtosisState-insert_one}
+use Rattle.promises.specs.SourceStates.{VarState-new, VarState-clear_zero_weight_nan}
+use Rattle.promises.specs.SourceStates.{VarState-combine}
+use Rattle.promises.specs.SourceStates.{CovState-new, CovState-combine}
+use Rattle.promises.specs.SourceStates.{PearsonState-new, PearsonState-combine}
+use Rattle.promises.specs.SourceStates.{SkewState-from_iter, SkewState-clear_zero_weight_nan}
+use Rattle.promises.specs.SourceStates.{SkewState-combine}
+use Rattle.promises.specs.SourceStates.{KurtosisState-from_iter, KurtosisState-clear_zero_weight_nan}
 use Rattle.promises.specs.SourceStates.{KurtosisState-combine, KurtosisState-finalize}
 
 -- ---- loops
