@@ -35,6 +35,7 @@ use Rattle.promises.specs.Calls.{of_var, of_cov, of_skew_range, CallsArray}
 use Rattle.promises.specs.Maps.{SameMaps, padded, two_var, two_cov, two_skew_range, SameHost, SameRoom, SameAnswer, SameColumns, SameRows}
 use Rattle.promises.specs.Table.{variance_by, p9, trace9}
 use Rattle.promises.proofs.Maps.{map_law}
+use Rattle.promises.proofs.Spans.{each_place}
 use Rattle.promises.proofs.Examples.{reals, whole}
 use Rattle.promises.proofs.Witnesses.{four_column, var_lent_of, var_lent, var_left_of, leaves, trace13, p9_left, p9_accepted}
 
@@ -66,11 +67,8 @@ abbrev behind9 : Trace
 behind9 = trace_of trace9.readings true (253 ∷ 0 ∷ 255 ∷ [])
 
 bits9 : (i : ℕ) → i < 3 → valid_at true (5 ∷ []) i ≡ valid_at true (253 ∷ 0 ∷ 255 ∷ []) i
-unfolding valid_at
-bits9 zero h = refl
-bits9 (suc zero) h = refl
-bits9 (suc (suc zero)) h = refl
-bits9 (suc (suc (suc i))) h = absurd (omega arith)
+unfolding table valid_at
+bits9 = each_place _ _ 3 refl
 
 pub same9 : SameMaps trace9 behind9
 same9 =
@@ -244,13 +242,8 @@ pub length_counts :
     → ((i : ℕ) → i < length t.readings → valid_at t.mapped t.map i ≡ valid_at t'.mapped t'.map i)
     → trace_refusal t ≡ trace_refusal t')
     → ⊥
-unfolding refusal ◌or_else◌ wrong_map valid_at
+unfolding table refusal ◌or_else◌ wrong_map valid_at
 length_counts all =
     let numbers : ◌≡◌ {A = ℕ} 3 0 = all (trace_of trace13.readings true []) (trace_of trace13.readings true (0 ∷ [])) refl refl
-    no_bits in
+    (each_place _ _ 2 refl) in
     omega arith
-  where
-    no_bits : (i : ℕ) → i < 2 → valid_at true [] i ≡ valid_at true (0 ∷ []) i
-    no_bits zero h = refl
-    no_bits (suc zero) h = refl
-    no_bits (suc (suc i)) h = absurd (omega arith)

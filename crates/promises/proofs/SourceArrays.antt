@@ -15,6 +15,7 @@ use lib.Dec.{T, leb, ltb, leb→le, nleb→lt, lit≤}
 use lib.ListN.{length, take, drop, length-append, length-map, drop_of_length-le, length-drop}
 use lib.Seq.{take_at, drop_at, take_all, take-length, length-take-le}
 use lib.Ieee.{Float}
+use Rattle.float.specs.Tables.{table}
 use Rattle.float.proofs.Tables.{table_same}
 use Rattle.float.proofs.Cases.{Or, here, there, order}
 use Rattle.trace.specs.Trace.{Trace, bytes_for, valid_at, both_at, valid_from}
@@ -32,7 +33,7 @@ use Rattle.promises.specs.SourceArrays.{bits_of, array_of, unset_bits, has_nulls
 use Rattle.promises.specs.SourceArrays.{options_where, both_some, stored, flushed, chunk_as_float, combine_new, whole_array}
 use Rattle.promises.specs.SourceArrays.{stored_binary, flushed_binary, chunk_as_float_binary, combine_new_binary, pair_arrays, options_of}
 use Rattle.promises.specs.SourceArrays.{non_null_values, with_unset, sliced, set_bits, range_of, from_range, from_array}
-use Rattle.promises.proofs.Spans.{span, span_table, span_length, span_part}
+use Rattle.promises.proofs.Spans.{each_place, span, span_table, span_length, span_part}
 use Rattle.promises.proofs.Accepted.{map_long}
 
 -- ---- chunks
@@ -136,12 +137,8 @@ no_nulls valid xs h = none_missing_lem valid 0 xs (λ i k l. h i (omega arith))
 
 -- a map of ones, whose bits past the trace are 0
 pub ones_none_missing : NoneMissing 4 (valid_at true (15 ∷ []))
-unfolding valid_at
-ones_none_missing zero h = refl
-ones_none_missing (suc zero) h = refl
-ones_none_missing (suc (suc zero)) h = refl
-ones_none_missing (suc (suc (suc zero))) h = refl
-ones_none_missing (suc (suc (suc (suc i)))) h = absurd (omega arith)
+unfolding table valid_at
+ones_none_missing = each_place _ _ 4 refl
 
 -- ---- bits
 -- no bit is 0 where no place is missing, and the other way round
