@@ -98,6 +98,11 @@ module _ {x y x' y' : Trace} (s : SameMaps x x') (u : SameMaps y y') where
       (λ i k h. rw (s.bits i (omega arith), u.bits i (omega arith)))
       ∙ rw (s.readings, u.readings)
 
+-- ---- two calls
+-- of the same number, which the first answers, and the second
+same_answer : {n n' r r' : ℕ} {Same : Type 0} → r ≡ n → n ≡ n' → r' ≡ n' → (r ≡ 0 → r' ≡ 0 → Same) → SameAnswer r r' Same
+same_answer a e b f = let same = a ∙ e ∙ sym b in record { number = same; answer = λ z. f z (sym same ∙ z) }
+
 -- ---- calls that hand out a state
 module _ (before after before' after' : List Float) (r r' : ℕ) where
   -- two calls of the same number and, if that is 0, of the same state
@@ -105,14 +110,8 @@ module _ (before after before' after' : List Float) (r r' : ℕ) where
       → StateResult list (answer number s) before r after → StateResult list (answer number' s') before' r' after'
       → SameAnswer r r' (after ≡ after')
   handed-same {list = list} e f c c' =
-      let same = number_of_lem _ _ c ∙ e ∙ sym (number_of_lem _ _ c') in
-      record {
-        number = same;
-        answer = λ z.
-            let a = taken _ _ z c in
-            let a' = taken _ _ (sym same ∙ z) c' in
-            a.1 ∙ ap list (f a.0) ∙ sym a'.1;
-      }
+      same_answer (number_of_lem _ _ c) e (number_of_lem _ _ c')
+      (λ z z'. let a = taken _ _ z c in a.1 ∙ ap list (f a.0) ∙ sym (taken _ _ z' c').1)
 
   same-state : {a a' : ArrayCall} → SameCalls a a' → CallsArray a before after r → CallsArray a' before' after' r'
       → SameAnswer r r' (after ≡ after')
@@ -220,46 +219,28 @@ map_law =
       behind = behind;
       arrays = λ s before after before' after' r r'. same-state before after before' after' r r' s;
       plans = λ q t t' s l₀ l l₀' l' room r r' c c'.
-          let e : r ≡ r' = c.number_is ∙ planned_number q t t' s false false refl l₀ l₀' room ∙ sym c'.number_is in
-          record {
-            number = e;
-            answer = λ z.
-                rows_alike q t t' s l l' (plan_call {l₀ = l₀} (subst (λ (n : ℕ). Called q t l₀ l n) z c))
-                (plan_call {l₀ = l₀'} (subst (λ (n : ℕ). Called q t' l₀' l' n) (sym e ∙ z) c'));
-          };
+          same_answer c.number_is (planned_number q t t' s false false refl l₀ l₀' room) c'.number_is
+          (λ z z'. rows_alike q t t' s l l' (plan_call {l₀ = l₀} (subst (λ (n : ℕ). Called q t l₀ l n) z c))
+          (plan_call {l₀ = l₀'} (subst (λ (n : ℕ). Called q t' l₀' l' n) z' c')));
       hosts = λ q h h' s r₀ r r₀' r' short l₀ l l₀' l' room number number' c c'.
-          let e : number ≡ number' = c.number_is ∙ host_number_lem q h h' s r₀ r₀' short l₀ l₀' room ∙ sym c'.number_is in
-          record {
-            number = e;
-            answer = λ z.
-                rows_alike q (decoded_of (kind_of q.statistic) h) (decoded_of (kind_of q.statistic) h')
-                (given_decoded (kind_of q.statistic) h h' s) l l'
-                (host_call {r₀ = r₀} {r = r} {l₀ = l₀} (subst (λ (n : ℕ). CalledBytes q h r₀ r l₀ l n) z c))
-                (host_call {r₀ = r₀'} {r = r'} {l₀ = l₀'} (subst (λ (n : ℕ). CalledBytes q h' r₀' r' l₀' l' n) (sym e ∙ z) c'));
-          };
+          same_answer c.number_is (host_number_lem q h h' s r₀ r₀' short l₀ l₀' room) c'.number_is
+          (λ z z'. rows_alike q (decoded_of (kind_of q.statistic) h) (decoded_of (kind_of q.statistic) h')
+          (given_decoded (kind_of q.statistic) h h' s) l l'
+          (host_call {r₀ = r₀} {r = r} {l₀ = l₀} (subst (λ (n : ℕ). CalledBytes q h r₀ r l₀ l n) z c))
+          (host_call {r₀ = r₀'} {r = r'} {l₀ = l₀'} (subst (λ (n : ℕ). CalledBytes q h' r₀' r' l₀' l' n) z' c')));
       -- traces of equal length have the same bounds
       fixed = λ center window_size min_periods a t t' s l₀ l l₀' l' room r r' c c'.
-          let e : r ≡ r' = c.number_is ∙ fixed_number_lem window_size a t t' s l₀ l₀' room ∙ sym c'.number_is in
-          record {
-            number = e;
-            answer = λ z.
-                rows_alike (fixed_query center window_size min_periods a t) t t' s l l'
-                (fixed_call {l₀ = l₀} (subst (λ (n : ℕ). CalledFixed center window_size min_periods a t l₀ l n) z c))
-                (subst (λ (n : ℕ). AcceptedCall (query (bounds center window_size n) min_periods a) t' l')
-                (sym (given_long (kind_of a) t t' s))
-                (fixed_call {l₀ = l₀'} (subst (λ (n : ℕ). CalledFixed center window_size min_periods a t' l₀' l' n) (sym e ∙ z) c')));
-          };
+          same_answer c.number_is (fixed_number_lem window_size a t t' s l₀ l₀' room) c'.number_is
+          (λ z z'. rows_alike (fixed_query center window_size min_periods a t) t t' s l l'
+          (fixed_call {l₀ = l₀} (subst (λ (n : ℕ). CalledFixed center window_size min_periods a t l₀ l n) z c))
+          (subst (λ (n : ℕ). AcceptedCall (query (bounds center window_size n) min_periods a) t' l') (sym (given_long (kind_of a) t t' s))
+          (fixed_call {l₀ = l₀'} (subst (λ (n : ℕ). CalledFixed center window_size min_periods a t' l₀' l' n) z' c'))));
       weights = λ center window_size min_periods weights t t' s c₀ c c₀' c' room r r' d d'.
-          let same = weights-number window_size weights t t' s _ _ room in
-          let e : r ≡ r' = d.number_is ∙ same ∙ sym d'.number_is in
-          record {
-            number = e;
-            answer = λ z k h.
-                weights_row center window_size min_periods weights t c₀ c
-                (subst (λ (n : ℕ). CalledWeights center window_size min_periods weights t c₀ c n) z d) k h
-                ∙ ap (λ (xs : List Float). answers_at (weighted_at center window_size min_periods weights xs ∷ []) k) s.readings
-                ∙ sym (weights_row center window_size min_periods weights t' c₀' c'
-                (subst (λ (n : ℕ). CalledWeights center window_size min_periods weights t' c₀' c' n) (sym e ∙ z) d') k
-                (subst (λ (xs : List Float). k < length xs) s.readings h));
-          };
+          same_answer d.number_is (weights-number window_size weights t t' s _ _ room) d'.number_is
+          (λ z z' k h. weights_row center window_size min_periods weights t c₀ c
+          (subst (λ (n : ℕ). CalledWeights center window_size min_periods weights t c₀ c n) z d) k h
+          ∙ ap (λ (xs : List Float). answers_at (weighted_at center window_size min_periods weights xs ∷ []) k) s.readings
+          ∙ sym (weights_row center window_size min_periods weights t' c₀' c'
+          (subst (λ (n : ℕ). CalledWeights center window_size min_periods weights t' c₀' c' n) z' d') k
+          (subst (λ (xs : List Float). k < length xs) s.readings h)));
     }
