@@ -1,6 +1,6 @@
 -- Each hypothesis of the law of maps is met, by computation: two maps, one with other spare bits and bytes behind, in calls of every kind;
 -- the paper's example of nine places; and what would be said too much: of maps that are too short. Assumes nothing.
-use Prim.Native.Nat.{ℕ, zero, suc, ◌<◌}
+use Prim.Native.Nat.{ℕ, ◌<◌}
 use mathlib.Core.Path.{◌≡◌, refl}
 use mathlib.Core.Bool.{true, false}
 use mathlib.Core.List.{List, [], ◌∷◌, zip, zip_with}

@@ -43,7 +43,7 @@ use Rattle.promises.proofs.Spans.{each_place}
 use Rattle.promises.proofs.DemandOne.{demand_one}
 use Rattle.promises.proofs.TwoTraces.{pair_statement}
 use Rattle.promises.proofs.Maps.{map_law}
-use Rattle.promises.proofs.FigureRows.{missing_row, first_answer}
+use Rattle.promises.proofs.FigureRows.{missing_row}
 use Rattle.promises.proofs.Examples.{reals, whole}
 use Rattle.promises.proofs.Witnesses.{four_lent, four_left, leaves, first_bits, answer}
 
