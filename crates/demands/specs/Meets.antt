@@ -36,7 +36,7 @@ use Rattle.promises.specs.DemandThree.{Alike, SameAnswers, Yielded}
 use Rattle.promises.specs.LowestHighest.{WhereExtremes, SameExtremes}
 use Rattle.promises.specs.TwoTraces.{PairYielded}
 use Rattle.promises.specs.KeptBounds.{left_window, RaisesEach}
-use Rattle.promises.specs.Maps.{SameMaps, SameCalls, SameGiven, SameHost, SameRoom, SameReadingRoom, SameColumnRoom, SameAnswer, SameColumns, SameRows}
+use Rattle.promises.specs.Maps.{SameMaps, SameArrays, SameGiven, SameHost, SameRoom, SameReadingRoom, SameColumnRoom, SameAnswer, SameColumns, SameRows}
 
 -- ---- host calls
 -- one
@@ -153,7 +153,7 @@ holding state = (entering_mut state, leaving state)
 pub record MeetTwoArrays (a a' : ArrayCall) (state state' : List Float × List Float) (number number' : ℕ) : Type 0 where
   pub first : MeetsArray a state.0 state.1 number
   pub second : MeetsArray a' state'.0 state'.1 number'
-  pub maps : SameCalls a a' → SameAnswer number number' (state.1 ≡ state'.1)
+  pub maps : SameArrays a a' → SameAnswer number number' (state.1 ≡ state'.1)
 
 -- ---- states: what is answered, by document 01 and by the Rust
 pub record MeetsState {A : Type 0} (definition source r : A) : Type 0 where

@@ -31,8 +31,8 @@ use Rattle.moments.specs.Results.{StateResult}
 use Rattle.promises.specs.Calls.{ArrayCall, CallsArray, readings_of, readings_in, pairs_of, AcceptedCall, plan_call, host_call, fixed_call}
 use Rattle.promises.specs.DemandThree.{Alike, Agree}
 use Rattle.promises.specs.Maps.{LongEnough, SameMaps, padded, SameGiven, SameHost, SameRoom, SameReadingRoom, SameAnswer}
-use Rattle.promises.specs.Maps.{SameColumns, SameCalls, two_var, two_skew, two_kurtosis, two_cov, two_pearson, two_skew_range}
-use Rattle.promises.specs.Maps.{two_kurtosis_range, MapLaw}
+use Rattle.promises.specs.Maps.{SameColumns, SameArrays, same_var, same_skew, same_kurtosis, same_cov, same_pearson, same_skew_range}
+use Rattle.promises.specs.Maps.{same_kurtosis_range, MapLaw}
 use Rattle.promises.proofs.Accepted.{known, weights_row}
 use Rattle.promises.proofs.TwoCalls.{alike_answers}
 use Rattle.promises.proofs.DemandOne.{map_wrong, number_of_lem, taken}
@@ -113,16 +113,16 @@ module _ (before after before' after' : List Float) (r r' : ℕ) where
       same_answer (number_of_lem _ _ c) e (number_of_lem _ _ c')
       (λ z z'. let a = taken _ _ z c in a.1 ∙ ap list (f a.0) ∙ sym (taken _ _ z' c').1)
 
-  same-state : {a a' : ArrayCall} → SameCalls a a' → CallsArray a before after r → CallsArray a' before' after' r'
+  same-state : {a a' : ArrayCall} → SameArrays a a' → CallsArray a before after r → CallsArray a' before' after' r'
       → SameAnswer r r' (after ≡ after')
-  same-state (two_var s) c c' = handed-same (trace-number s) (λ e. ap var_whole (same-readings s)) c c'
-  same-state (two_skew s) c c' = handed-same (trace-number s) (λ e. ap skew_whole (same-readings s)) c c'
-  same-state (two_kurtosis s) c c' = handed-same (trace-number s) (λ e. ap kurtosis_whole (same-readings s)) c c'
-  same-state (two_cov s u) c c' = handed-same (pair-number s u) (λ e. ap cov_whole (same-pairs s u e)) c c'
-  same-state (two_pearson s u) c c' = handed-same (pair-number s u) (λ e. ap pearson_whole (same-pairs s u e)) c c'
-  same-state (two_skew_range {start = start} {len = len} s) c c' =
+  same-state (same_var s) c c' = handed-same (trace-number s) (λ e. ap var_whole (same-readings s)) c c'
+  same-state (same_skew s) c c' = handed-same (trace-number s) (λ e. ap skew_whole (same-readings s)) c c'
+  same-state (same_kurtosis s) c c' = handed-same (trace-number s) (λ e. ap kurtosis_whole (same-readings s)) c c'
+  same-state (same_cov s u) c c' = handed-same (pair-number s u) (λ e. ap cov_whole (same-pairs s u e)) c c'
+  same-state (same_pearson s u) c c' = handed-same (pair-number s u) (λ e. ap pearson_whole (same-pairs s u e)) c c'
+  same-state (same_skew_range {start = start} {len = len} s) c c' =
       handed-same (range-number s start len) (λ e. ap skew_new (same-range s start len)) c c'
-  same-state (two_kurtosis_range {start = start} {len = len} s) c c' =
+  same-state (same_kurtosis_range {start = start} {len = len} s) c c' =
       handed-same (range-number s start len) (λ e. ap kurtosis_new (same-range s start len)) c c'
 
 -- ---- windows

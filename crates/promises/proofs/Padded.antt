@@ -32,7 +32,7 @@ use Rattle.rolling.specs.Fixed.{CalledFixed}
 use Rattle.weighted.specs.Weights.{weights_refusal, CalledWeights}
 use Rattle.moments.specs.HostCall.{Host, CalledBytes}
 use Rattle.promises.specs.Calls.{of_var, of_cov, of_skew_range, CallsArray}
-use Rattle.promises.specs.Maps.{SameMaps, padded, two_var, two_cov, two_skew_range, SameHost, SameRoom, SameAnswer, SameColumns, SameRows}
+use Rattle.promises.specs.Maps.{SameMaps, padded, same_var, same_cov, same_skew_range, SameHost, SameRoom, SameAnswer, SameColumns, SameRows}
 use Rattle.promises.specs.Table.{variance_by, p9, trace9}
 use Rattle.promises.proofs.Maps.{map_law}
 use Rattle.promises.proofs.Spans.{each_place}
@@ -203,7 +203,7 @@ unfolding answer refusal ◌or_else◌ wrong_map valid_from chunks chunks_of in_
 behind_var9 = record { number = refl; state = refl }
 
 pub vars9 : SameAnswer 0 0 (reals (2 ∷ 3 ∷ 2 ∷ []) ≡ reals (2 ∷ 3 ∷ 2 ∷ []))
-vars9 = map_law.arrays (two_var same9) sevens _ eights _ 0 0 var9 behind_var9
+vars9 = map_law.arrays (same_var same9) sevens _ eights _ 0 0 var9 behind_var9
 
 -- a range: its last two places, of which one is valid
 pub range9 : CallsArray (of_skew_range trace9 1 2) sevens (reals (1 ∷ 4 ∷ 0 ∷ 0 ∷ [])) 0
@@ -215,7 +215,7 @@ unfolding answer refusal ◌or_else◌ wrong_map valid_from valid_at of_bits of_
 behind_range9 = record { number = refl; state = refl }
 
 pub ranges9 : SameAnswer 0 0 (reals (1 ∷ 4 ∷ 0 ∷ 0 ∷ []) ≡ reals (1 ∷ 4 ∷ 0 ∷ 0 ∷ []))
-ranges9 = map_law.arrays (two_skew_range {start = 1} {len = 2} same9) sevens _ eights _ 0 0 range9 behind_range9
+ranges9 = map_law.arrays (same_skew_range {start = 1} {len = 2} same9) sevens _ eights _ 0 0 range9 behind_range9
 
 -- a pair, of which the second trace has no map
 abbrev second : Trace
@@ -233,7 +233,7 @@ behind_cov9 = record { number = refl; state = refl }
 
 pub covs9 : SameAnswer 0 0 (reals (2 ∷ 3 ∷ 4 ∷ 4 ∷ []) ≡ reals (2 ∷ 3 ∷ 4 ∷ 4 ∷ []))
 covs9 =
-    map_law.arrays (two_cov same9 (map_law.behind second (255 ∷ []) (λ w. apart w.0))) sevens _ eights _ 0 0 cov9 behind_cov9
+    map_law.arrays (same_cov same9 (map_law.behind second (255 ∷ []) (λ w. apart w.0))) sevens _ eights _ 0 0 cov9 behind_cov9
 
 -- ---- what would be said too much: maps that are too short may have the same bits, as a place past a map's end reads as missing, and
 -- give another number

@@ -34,15 +34,15 @@ SameGiven Readings t t' = SameMaps t t'
 SameGiven Pairs t t' = SameMaps t.x t'.x × SameMaps t.y t'.y
 
 -- .. of a call that hands out a state ..
-pub data SameCalls : ArrayCall → ArrayCall → Type 0 where
-  two_var : {t t' : Trace} → SameMaps t t' → SameCalls (of_var t) (of_var t')
-  two_skew : {t t' : Trace} → SameMaps t t' → SameCalls (of_skew t) (of_skew t')
-  two_kurtosis : {t t' : Trace} → SameMaps t t' → SameCalls (of_kurtosis t) (of_kurtosis t')
-  two_cov : {x y x' y' : Trace} → SameMaps x x' → SameMaps y y' → SameCalls (of_cov x y) (of_cov x' y')
-  two_pearson : {x y x' y' : Trace} → SameMaps x x' → SameMaps y y' → SameCalls (of_pearson x y) (of_pearson x' y')
-  two_skew_range : {t t' : Trace} {start len : ℕ} → SameMaps t t' → SameCalls (of_skew_range t start len) (of_skew_range t' start len)
-  two_kurtosis_range : {t t' : Trace} {start len : ℕ} → SameMaps t t'
-      → SameCalls (of_kurtosis_range t start len) (of_kurtosis_range t' start len)
+pub data SameArrays : ArrayCall → ArrayCall → Type 0 where
+  same_var : {t t' : Trace} → SameMaps t t' → SameArrays (of_var t) (of_var t')
+  same_skew : {t t' : Trace} → SameMaps t t' → SameArrays (of_skew t) (of_skew t')
+  same_kurtosis : {t t' : Trace} → SameMaps t t' → SameArrays (of_kurtosis t) (of_kurtosis t')
+  same_cov : {x y x' y' : Trace} → SameMaps x x' → SameMaps y y' → SameArrays (of_cov x y) (of_cov x' y')
+  same_pearson : {x y x' y' : Trace} → SameMaps x x' → SameMaps y y' → SameArrays (of_pearson x y) (of_pearson x' y')
+  same_skew_range : {t t' : Trace} {start len : ℕ} → SameMaps t t' → SameArrays (of_skew_range t start len) (of_skew_range t' start len)
+  same_kurtosis_range : {t t' : Trace} {start len : ℕ} → SameMaps t t'
+      → SameArrays (of_kurtosis_range t start len) (of_kurtosis_range t' start len)
 
 -- .. of a trace as bytes ..
 abbrev pub SameBytes : ByteTrace → ByteTrace → Type 0
@@ -90,7 +90,7 @@ pub record MapLaw : Type 0 where
   -- bytes behind a map leave it the same
   pub behind : (t : Trace) (bytes : List ℕ) → LongEnough t → SameMaps t (padded t bytes)
   -- whole arrays, pairs and ranges: the number and the state, whatever the lent state held before
-  pub arrays : {a a' : ArrayCall} → SameCalls a a' → (before after before' after' : List Float) (r r' : ℕ) → CallsArray a before after r
+  pub arrays : {a a' : ArrayCall} → SameArrays a a' → (before after before' after' : List Float) (r r' : ℕ) → CallsArray a before after r
       → CallsArray a' before' after' r' → SameAnswer r r' (after ≡ after')
   -- plans, the trace or the two traces as doubles
   pub plans : (q : Query) (t t' : GivenTo q) → SameGiven (kind_of q.statistic) t t' → (l₀ l l₀' l' : Lent) → SameRoom l₀ l₀' → (r r' : ℕ)
