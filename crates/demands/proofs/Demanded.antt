@@ -41,8 +41,7 @@ use Rattle.weighted.specs.Weights.{CalledWeights}
 use Rattle.moments.specs.HostCall.{Host, decoded_of, ReadingLists, CalledBytes}
 use Rattle.moments.specs.Results.{FigureResult}
 use Rattle.promises.specs.DemandThree.{Alike, SameAnswers, IsSetting}
-use Rattle.promises.specs.Calls.{CallsVar, CallsSkew, CallsKurtosis, CallsCov, CallsPearson, CallsSkewRange, CallsKurtosisRange}
-use Rattle.promises.specs.Calls.{OfOneTrace, OfTwoTraces, AcceptedCall, plan_call, host_call, fixed_call}
+use Rattle.promises.specs.Calls.{ArrayCall, CallsArray, OfOneTrace, OfTwoTraces, AcceptedCall, plan_call, host_call, fixed_call}
 use Rattle.promises.proofs.DemandOne.{demand_one}
 use Rattle.promises.proofs.DemandTwo.{demand_two}
 use Rattle.promises.proofs.DemandThree.{demand_three}
@@ -53,9 +52,8 @@ use Rattle.promises.proofs.SkewInKurtosis.{skew_in_kurtosis}
 use Rattle.promises.specs.KeptBounds.{left_window, RaisesEach}
 use Rattle.promises.proofs.KeptBounds.{left_is, kept_bounds}
 use Rattle.demands.specs.Meets.{MeetsHost, MeetTwoHosts, MeetsPlan, MeetTwoPlans, MeetsFixed, MeetTwoFixed, MeetsWeights}
-use Rattle.demands.specs.Meets.{MeetTwoWeights, MeetsStep, MeetsState, MeetsFigure, MeetsRoot, MeetTwoMaps, MeetTwoPairs}
-use Rattle.demands.specs.Meets.{MadeBy}
-use Rattle.demands.specs.Meets.{MeetsArray, of_var, of_skew, of_kurtosis, of_cov, of_pearson, of_skew_range, of_kurtosis_range}
+use Rattle.demands.specs.Meets.{MeetTwoWeights, MeetsStep, MeetsState, MeetsFigure, MeetsRoot, MadeBy, MeetsArray}
+use Rattle.demands.specs.Meets.{MeetTwoArrays}
 
 -- ---- two calls
 -- a figure is of one trace or of two
@@ -194,117 +192,22 @@ two_weights_meet {center} {size} {min_periods} {weights} {t} {t'} {c₀} {c} {c�
     }
 
 -- ---- whole arrays, pairs and ranges
-pub var_meets : {t : Trace} {before after : List Float} {r : ℕ} → CallsVar t before after r → MeetsArray (of_var t) before after r
-var_meets {t} {before} {after} {r} c =
+pub array_meets : {a : ArrayCall} {before after : List Float} {r : ℕ} → CallsArray a before after r → MeetsArray a before after r
+array_meets {a} {before} {after} {r} c =
     record {
-      one = demand_one.var t before after r c;
-      two = λ e rust. demand_two.arrays.var rust t before after (subst (CallsVar t before after) e c);
-    }
-
-pub skew_meets : {t : Trace} {before after : List Float} {r : ℕ} → CallsSkew t before after r → MeetsArray (of_skew t) before after r
-skew_meets {t} {before} {after} {r} c =
-    record {
-      one = demand_one.skew t before after r c;
-      two = λ e rust. demand_two.arrays.skew rust t before after (subst (CallsSkew t before after) e c);
-    }
-
-pub kurtosis_meets : {t : Trace} {before after : List Float} {r : ℕ} → CallsKurtosis t before after r
-    → MeetsArray (of_kurtosis t) before after r
-kurtosis_meets {t} {before} {after} {r} c =
-    record {
-      one = demand_one.kurtosis t before after r c;
-      two = λ e rust. demand_two.arrays.kurtosis rust t before after (subst (CallsKurtosis t before after) e c);
-    }
-
-pub cov_meets : {x y : Trace} {before after : List Float} {r : ℕ} → CallsCov x y before after r → MeetsArray (of_cov x y) before after r
-cov_meets {x} {y} {before} {after} {r} c =
-    record {
-      one = demand_one.cov x y before after r c;
-      two = λ e rust. demand_two.arrays.cov rust x y before after (subst (CallsCov x y before after) e c);
-    }
-
-pub pearson_meets : {x y : Trace} {before after : List Float} {r : ℕ} → CallsPearson x y before after r
-    → MeetsArray (of_pearson x y) before after r
-pearson_meets {x} {y} {before} {after} {r} c =
-    record {
-      one = demand_one.pearson x y before after r c;
-      two = λ e rust. demand_two.arrays.pearson rust x y before after (subst (CallsPearson x y before after) e c);
-    }
-
-pub skew_range_meets : {t : Trace} {start len : ℕ} {before after : List Float} {r : ℕ} → CallsSkewRange t start len before after r
-    → MeetsArray (of_skew_range t start len) before after r
-skew_range_meets {t} {start} {len} {before} {after} {r} c =
-    record {
-      one = demand_one.skew_range t start len before after r c;
-      two = λ e rust. demand_two.ranges.skew rust t start len before after (subst (CallsSkewRange t start len before after) e c);
-    }
-
-pub kurtosis_range_meets : {t : Trace} {start len : ℕ} {before after : List Float} {r : ℕ}
-    → CallsKurtosisRange t start len before after r → MeetsArray (of_kurtosis_range t start len) before after r
-kurtosis_range_meets {t} {start} {len} {before} {after} {r} c =
-    record {
-      one = demand_one.kurtosis_range t start len before after r c;
-      two = λ e rust. demand_two.ranges.kurtosis rust t start len before after (subst (CallsKurtosisRange t start len before after) e c);
+      one = demand_one.arrays a before after r c;
+      two = λ e rust. demand_two.arrays rust a before after (subst (CallsArray a before after) e c);
     }
 
 -- two calls, of which the law of maps speaks
-module _ {t t' : Trace} {before after before' after' : List Float} {r r' : ℕ} where
-  pub two-var-meet : CallsVar t before after r → CallsVar t' before' after' r'
-      → MeetTwoMaps of_var t t' (before, after) (before', after') r r'
-  two-var-meet c c' =
-      record { first = var_meets c; second = var_meets c'; maps = λ s. map_law.var t t' s before after before' after' r r' c c' }
-
-  pub two-skew-meet : CallsSkew t before after r → CallsSkew t' before' after' r'
-      → MeetTwoMaps of_skew t t' (before, after) (before', after') r r'
-  two-skew-meet c c' =
-      record { first = skew_meets c; second = skew_meets c'; maps = λ s. map_law.skew t t' s before after before' after' r r' c c' }
-
-  pub two-kurtosis-meet : CallsKurtosis t before after r → CallsKurtosis t' before' after' r'
-      → MeetTwoMaps of_kurtosis t t' (before, after) (before', after') r r'
-  two-kurtosis-meet c c' =
-      record {
-        first = kurtosis_meets c;
-        second = kurtosis_meets c';
-        maps = λ s. map_law.kurtosis t t' s before after before' after' r r' c c';
-      }
-
-  module _ {start len : ℕ} where
-    pub two-skew-ranges-meet : CallsSkewRange t start len before after r → CallsSkewRange t' start len before' after' r'
-        → MeetTwoMaps (λ u. of_skew_range u start len) t t' (before, after) (before', after') r r'
-    two-skew-ranges-meet c c' =
-        record {
-          first = skew_range_meets c;
-          second = skew_range_meets c';
-          maps = λ s. map_law.skew_range start len t t' s before after before' after' r r' c c';
-        }
-
-    pub two-kurtosis-ranges-meet : CallsKurtosisRange t start len before after r → CallsKurtosisRange t' start len before' after' r'
-        → MeetTwoMaps (λ u. of_kurtosis_range u start len) t t' (before, after) (before', after') r r'
-    two-kurtosis-ranges-meet c c' =
-        record {
-          first = kurtosis_range_meets c;
-          second = kurtosis_range_meets c';
-          maps = λ s. map_law.kurtosis_range start len t t' s before after before' after' r r' c c';
-        }
-
-module _ {x y x' y' : Trace} {before after before' after' : List Float} {r r' : ℕ} where
-  pub two-cov-meet : CallsCov x y before after r → CallsCov x' y' before' after' r'
-      → MeetTwoPairs of_cov x y x' y' (before, after) (before', after') r r'
-  two-cov-meet c c' =
-      record {
-        first = cov_meets c;
-        second = cov_meets c';
-        maps = λ s. map_law.cov x y x' y' s.0 s.1 before after before' after' r r' c c';
-      }
-
-  pub two-pearson-meet : CallsPearson x y before after r → CallsPearson x' y' before' after' r'
-      → MeetTwoPairs of_pearson x y x' y' (before, after) (before', after') r r'
-  two-pearson-meet c c' =
-      record {
-        first = pearson_meets c;
-        second = pearson_meets c';
-        maps = λ s. map_law.pearson x y x' y' s.0 s.1 before after before' after' r r' c c';
-      }
+pub two_arrays_meet : {a a' : ArrayCall} {before after before' after' : List Float} {r r' : ℕ} → CallsArray a before after r
+    → CallsArray a' before' after' r' → MeetTwoArrays a a' (before, after) (before', after') r r'
+two_arrays_meet {a} {a'} {before} {after} {before'} {after'} {r} {r'} c c' =
+    record {
+      first = array_meets {a = a} c;
+      second = array_meets {a = a'} c';
+      maps = λ s. map_law.arrays s before after before' after' r r' c c';
+    }
 
 -- ---- states: r is what our definition gives, which is what the source gives
 pub state_meets : {A : Type 0} {definition source r : A} → r ≡ definition → definition ≡ source → MeetsState definition source r

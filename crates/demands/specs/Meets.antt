@@ -10,11 +10,9 @@ use Rattle.root.specs.Root.{root}
 use Rattle.trace.specs.Slices.{MutSlice, entering_mut, leaving}
 use Rattle.trace.specs.Trace.{Trace}
 use Rattle.moment.specs.declared.Figure.{Figure}
-use Rattle.moment.specs.Skew.{skew_new}
-use Rattle.moment.specs.Kurtosis.{kurtosis_new, skew_part}
+use Rattle.moment.specs.Kurtosis.{skew_part}
 use Rattle.moment.specs.declared.skew_state.SkewState.{SkewState}
 use Rattle.moment.specs.declared.kurtosis_state.KurtosisState.{KurtosisState}
-use Rattle.moment.specs.Arrays.{var_whole, cov_whole, pearson_whole, skew_whole, kurtosis_whole}
 use Rattle.plan.specs.Plan.{rows}
 use Rattle.plan.specs.Bounds.{bounds_at, offsets_at, next_offsets}
 use Rattle.plan.specs.Code.Reaching.{StepsTo}
@@ -30,18 +28,15 @@ use Rattle.moments.specs.HostCall.{Host, decoded_of, ReadingLists}
 use Rattle.moments.specs.Results.{FigureResult}
 use Rattle.demands.specs.declared.states.Both.{Both}
 use Rattle.promises.specs.Rust.{Rust}
-use Rattle.moment.specs.Arrays.{var_list, skew_list, kurtosis_list, cov_list, pearson_list}
-use Rattle.promises.specs.Calls.{readings_of, readings_in, pairs_of}
-use Rattle.promises.specs.Calls.{OfOneTrace, OfTwoTraces}
-use Rattle.promises.specs.DemandOne.{Check, trace_checks, pair_checks, range_checks, plan_checks, host_checks, fixed_checks, weights_checks}
+use Rattle.promises.specs.Calls.{ArrayCall, members_of, OfOneTrace, OfTwoTraces}
+use Rattle.promises.specs.DemandOne.{checks_of, plan_checks, host_checks, fixed_checks, weights_checks}
 use Rattle.promises.specs.DemandOne.{Answered, HostLeft}
-use Rattle.promises.specs.DemandTwo.{source_var, source_skew, source_kurtosis, source_cov, source_pearson, source_skew_range, source_kurtosis_range}
-use Rattle.promises.specs.DemandTwo.{RowsEqual, FixedRowsEqual, WeightedRowsEqual, CorrectRoot}
+use Rattle.promises.specs.DemandTwo.{source_of, RowsEqual, FixedRowsEqual, WeightedRowsEqual, CorrectRoot}
 use Rattle.promises.specs.DemandThree.{Alike, SameAnswers, Yielded}
 use Rattle.promises.specs.LowestHighest.{WhereExtremes, SameExtremes}
 use Rattle.promises.specs.TwoTraces.{PairYielded}
 use Rattle.promises.specs.KeptBounds.{left_window, RaisesEach}
-use Rattle.promises.specs.Maps.{SameMaps, SameGiven, SameHost, SameRoom, SameReadingRoom, SameColumnRoom, SameAnswer, SameColumns, SameRows}
+use Rattle.promises.specs.Maps.{SameMaps, SameArrays, SameGiven, SameHost, SameRoom, SameReadingRoom, SameColumnRoom, SameAnswer, SameColumns, SameRows}
 
 -- ---- host calls
 -- one
@@ -146,46 +141,6 @@ pub record MeetsStep (center : Bool) (window_size n i : ℕ) (at next : Offsets)
   pub shown : i + 1 < n → ToNextRow center window_size n i (at.start, at.end) (next.start, next.end)
 
 -- ---- whole arrays, pairs and ranges
--- the calls that hand out a state, each named as the entry is
-pub data ArrayCall : Type 0 where
-  of_var : Trace → ArrayCall
-  of_skew : Trace → ArrayCall
-  of_kurtosis : Trace → ArrayCall
-  of_cov : Trace → Trace → ArrayCall
-  of_pearson : Trace → Trace → ArrayCall
-  of_skew_range : Trace → ℕ → ℕ → ArrayCall
-  of_kurtosis_range : Trace → ℕ → ℕ → ArrayCall
-
--- the checks of each
-abbrev pub checks_of : ArrayCall → List Check
-checks_of (of_var t) = trace_checks t
-checks_of (of_skew t) = trace_checks t
-checks_of (of_kurtosis t) = trace_checks t
-checks_of (of_cov x y) = pair_checks x y
-checks_of (of_pearson x y) = pair_checks x y
-checks_of (of_skew_range t start len) = range_checks t start len
-checks_of (of_kurtosis_range t start len) = range_checks t start len
-
--- the members of its state, by document 01
-abbrev pub members_of : ArrayCall → List Float
-members_of (of_var t) = var_list (var_whole (readings_of t))
-members_of (of_skew t) = skew_list (skew_whole (readings_of t))
-members_of (of_kurtosis t) = kurtosis_list (kurtosis_whole (readings_of t))
-members_of (of_cov x y) = cov_list (cov_whole (pairs_of x y))
-members_of (of_pearson x y) = pearson_list (pearson_whole (pairs_of x y))
-members_of (of_skew_range t start len) = skew_list (skew_new (readings_in t start len))
-members_of (of_kurtosis_range t start len) = kurtosis_list (kurtosis_new (readings_in t start len))
-
--- and by the Rust
-abbrev pub source_of : Rust → ArrayCall → List Float
-source_of rust (of_var t) = source_var rust t
-source_of rust (of_skew t) = source_skew rust t
-source_of rust (of_kurtosis t) = source_kurtosis rust t
-source_of rust (of_cov x y) = source_cov rust x y
-source_of rust (of_pearson x y) = source_pearson rust x y
-source_of rust (of_skew_range t start len) = source_skew_range rust t start len
-source_of rust (of_kurtosis_range t start len) = source_kurtosis_range rust t start len
-
 pub record MeetsArray (a : ArrayCall) (before after : List Float) (number : ℕ) : Type 0 where
   pub one : Answered (checks_of a) number before after (after ≡ members_of a)
   pub two : number ≡ 0 → (rust : Rust) → after ≡ source_of rust a
@@ -194,19 +149,11 @@ pub record MeetsArray (a : ArrayCall) (before after : List Float) (number : ℕ)
 abbrev pub holding : MutSlice Float → List Float × List Float
 holding state = (entering_mut state, leaving state)
 
--- two, where Same says that their maps say the same
-pub record MeetTwoArrays (a a' : ArrayCall) (Same : Type 0) (state state' : List Float × List Float) (number number' : ℕ) : Type 0 where
+-- two
+pub record MeetTwoArrays (a a' : ArrayCall) (state state' : List Float × List Float) (number number' : ℕ) : Type 0 where
   pub first : MeetsArray a state.0 state.1 number
   pub second : MeetsArray a' state'.0 state'.1 number'
-  pub maps : Same → SameAnswer number number' (state.1 ≡ state'.1)
-
--- of a trace with either of two maps
-abbrev pub MeetTwoMaps : (Trace → ArrayCall) → (t t' : Trace) → (state state' : List Float × List Float) → ℕ → ℕ → Type 0
-MeetTwoMaps call t t' = MeetTwoArrays (call t) (call t') (SameMaps t t')
-
--- of a pair of traces, each with either of two maps
-abbrev pub MeetTwoPairs : (Trace → Trace → ArrayCall) → (x y x' y' : Trace) → (state state' : List Float × List Float) → ℕ → ℕ → Type 0
-MeetTwoPairs call x y x' y' = MeetTwoArrays (call x y) (call x' y') (SameMaps x x' × SameMaps y y')
+  pub maps : SameArrays a a' → SameAnswer number number' (state.1 ≡ state'.1)
 
 -- ---- states: what is answered, by document 01 and by the Rust
 pub record MeetsState {A : Type 0} (definition source r : A) : Type 0 where

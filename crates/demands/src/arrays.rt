@@ -1,7 +1,7 @@
 // Whole arrays, pairs and ranges, of which demands 1 and 2 speak; and two calls with either of two maps, of which the law of maps does.
 ghost use Rattle.trace.specs.Trace.{tracing};
-ghost use Rattle.demands.specs.Meets.{of_var, of_skew, of_kurtosis, of_cov, of_pearson, of_skew_range, of_kurtosis_range, MeetsArray};
-ghost use Rattle.demands.specs.Meets.{MeetTwoMaps, MeetTwoPairs, holding};
+ghost use Rattle.promises.specs.Calls.{of_var, of_skew, of_kurtosis, of_cov, of_pearson, of_skew_range, of_kurtosis_range};
+ghost use Rattle.demands.specs.Meets.{MeetsArray, MeetTwoArrays, holding};
 
 use crate::Numbers;
 
@@ -87,7 +87,7 @@ pub fn two_var(
     state: &mut [f64; 3],
     other_state: &mut [f64; 3],
 ) -> Numbers
-    ensures { MeetTwoMaps of_var (tracing trace has_map map) (tracing trace has_map other_map)
+    ensures { MeetTwoArrays (of_var (tracing trace has_map map)) (of_var (tracing trace has_map other_map))
         (holding state) (holding other_state) result.first result.second }
 {
     let first = moments::moments_var(trace, has_map, map, state);
@@ -103,7 +103,7 @@ pub fn two_skew(
     state: &mut [f64; 4],
     other_state: &mut [f64; 4],
 ) -> Numbers
-    ensures { MeetTwoMaps of_skew (tracing trace has_map map) (tracing trace has_map other_map)
+    ensures { MeetTwoArrays (of_skew (tracing trace has_map map)) (of_skew (tracing trace has_map other_map))
         (holding state) (holding other_state) result.first result.second }
 {
     let first = moments::moments_skew(trace, has_map, map, state);
@@ -119,7 +119,7 @@ pub fn two_kurtosis(
     state: &mut [f64; 5],
     other_state: &mut [f64; 5],
 ) -> Numbers
-    ensures { MeetTwoMaps of_kurtosis (tracing trace has_map map) (tracing trace has_map other_map)
+    ensures { MeetTwoArrays (of_kurtosis (tracing trace has_map map)) (of_kurtosis (tracing trace has_map other_map))
         (holding state) (holding other_state) result.first result.second }
 {
     let first = moments::moments_kurtosis(trace, has_map, map, state);
@@ -139,8 +139,8 @@ pub fn two_cov(
     state: &mut [f64; 4],
     other_state: &mut [f64; 4],
 ) -> Numbers
-    ensures { MeetTwoPairs of_cov (tracing x x_has_map x_map) (tracing y y_has_map y_map)
-        (tracing x x_has_map x_other_map) (tracing y y_has_map y_other_map)
+    ensures { MeetTwoArrays (of_cov (tracing x x_has_map x_map) (tracing y y_has_map y_map))
+        (of_cov (tracing x x_has_map x_other_map) (tracing y y_has_map y_other_map))
         (holding state) (holding other_state) result.first result.second }
 {
     let first = moments::moments_cov(x, x_has_map, x_map, y, y_has_map, y_map, state);
@@ -168,8 +168,8 @@ pub fn two_pearson_corr(
     state: &mut [f64; 6],
     other_state: &mut [f64; 6],
 ) -> Numbers
-    ensures { MeetTwoPairs of_pearson (tracing x x_has_map x_map) (tracing y y_has_map y_map)
-        (tracing x x_has_map x_other_map) (tracing y y_has_map y_other_map)
+    ensures { MeetTwoArrays (of_pearson (tracing x x_has_map x_map) (tracing y y_has_map y_map))
+        (of_pearson (tracing x x_has_map x_other_map) (tracing y y_has_map y_other_map))
         (holding state) (holding other_state) result.first result.second }
 {
     let first = moments::moments_pearson_corr(x, x_has_map, x_map, y, y_has_map, y_map, state);
@@ -195,7 +195,8 @@ pub fn two_skew_range(
     state: &mut [f64; 4],
     other_state: &mut [f64; 4],
 ) -> Numbers
-    ensures { MeetTwoMaps (λ t. of_skew_range t start length) (tracing trace has_map map) (tracing trace has_map other_map)
+    ensures { MeetTwoArrays (of_skew_range (tracing trace has_map map) start length)
+        (of_skew_range (tracing trace has_map other_map) start length)
         (holding state) (holding other_state) result.first result.second }
 {
     let first = moments::moments_skew_range(trace, has_map, map, start, length, state);
@@ -213,7 +214,8 @@ pub fn two_kurtosis_range(
     state: &mut [f64; 5],
     other_state: &mut [f64; 5],
 ) -> Numbers
-    ensures { MeetTwoMaps (λ t. of_kurtosis_range t start length) (tracing trace has_map map) (tracing trace has_map other_map)
+    ensures { MeetTwoArrays (of_kurtosis_range (tracing trace has_map map) start length)
+        (of_kurtosis_range (tracing trace has_map other_map) start length)
         (holding state) (holding other_state) result.first result.second }
 {
     let first = moments::moments_kurtosis_range(trace, has_map, map, start, length, state);

@@ -29,7 +29,9 @@ use Rattle.weighted.specs.Weights.{weighted_at, weights_refusal, CalledWeights}
 use Rattle.moments.specs.HostCall.{ByteTrace, reading_count, Host, decoded_of, odd_bytes, ReadingLists, short_lists, decoded_list}
 use Rattle.moments.specs.HostCall.{decoded_lists, CalledBytes}
 use Rattle.moments.specs.Results.{StateResult}
-use Rattle.promises.specs.DemandOne.{MapOfWrongLength, WrongLists, BelowRowBefore, SomeShorter, OutputShorter, Check, ◌when◌}
+use Rattle.promises.specs.Calls.{ArrayCall, of_var, of_skew, of_kurtosis, of_cov, of_pearson, of_skew_range, of_kurtosis_range}
+use Rattle.promises.specs.Calls.{CallsArray, members_of}
+use Rattle.promises.specs.DemandOne.{checks_of, MapOfWrongLength, WrongLists, BelowRowBefore, SomeShorter, OutputShorter, Check, ◌when◌}
 use Rattle.promises.specs.DemandOne.{trace_checks, pair_checks, range_checks, given_checks, row_checks, rows_checks, planned_checks}
 use Rattle.promises.specs.DemandOne.{row_numbers, InOrder}
 use Rattle.promises.specs.DemandOne.{NoWholeReadings, ReadingsShorter, plan_checks, host_checks, fixed_checks, weights_checks, HostLeft}
@@ -318,6 +320,16 @@ module _ {S : Type 0} {list : S → List Float} (number : ℕ) (s : S) {before a
       → Answered checks r before after (after ≡ list s)
   handed {checks} says c = answered (subst (Says checks) (sym (number_of_lem c)) says) (λ z. (taken z c).1) (λ h. left-before h c)
 
+arrays : (a : ArrayCall) (before after : List Float) (r : ℕ) → CallsArray a before after r
+    → Answered (checks_of a) r before after (after ≡ members_of a)
+arrays (of_var t) before after r c = handed _ _ (trace_says t) c
+arrays (of_skew t) before after r c = handed _ _ (trace_says t) c
+arrays (of_kurtosis t) before after r c = handed _ _ (trace_says t) c
+arrays (of_cov x y) before after r c = handed _ _ (pair_says x y) c
+arrays (of_pearson x y) before after r c = handed _ _ (pair_says x y) c
+arrays (of_skew_range t start len) before after r c = handed _ _ (range_says t start len) c
+arrays (of_kurtosis_range t start len) before after r c = handed _ _ (range_says t start len) c
+
 -- ---- windows
 plans : (q : Query) (t : GivenTo q) (l₀ l : Lent) (r : ℕ) → Called q t l₀ l r → Answered (plan_checks q t l₀) r l₀ l (Left q t l₀ l 0)
 plans q t l₀ l r c =
@@ -405,13 +417,7 @@ pub demand_one : DemandOne
 unfolding row_numbers
 demand_one =
     record {
-      var = λ t b a r c. handed _ _ (trace_says t) c;
-      skew = λ t b a r c. handed _ _ (trace_says t) c;
-      kurtosis = λ t b a r c. handed _ _ (trace_says t) c;
-      cov = λ x y b a r c. handed _ _ (pair_says x y) c;
-      pearson = λ x y b a r c. handed _ _ (pair_says x y) c;
-      skew_range = λ t s n b a r c. handed _ _ (range_says t s n) c;
-      kurtosis_range = λ t s n b a r c. handed _ _ (range_says t s n) c;
+      arrays = arrays;
       plans = plans;
       hosts = hosts;
       fixed = fixed;

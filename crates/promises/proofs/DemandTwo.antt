@@ -1,6 +1,6 @@
 -- Demand 2 for windows: an accepted call's answers are what the split account yields, and so are the source's rows; those of fixed
 -- windows are the rows of a plan; a weighted call's answers are row by row the source's. Assumes nothing.
-use Prim.Native.Nat.{ℕ, zero, suc, ◌^◌, ◌≤◌, ◌<◌, min}
+use Prim.Native.Nat.{ℕ, zero, suc, ◌^◌, ◌<◌, min}
 use mathlib.Core.Path.{◌≡◌, refl, sym, ap, ◌∙◌, subst}
 use mathlib.Core.Bool.{Bool, true, false}
 use mathlib.Core.List.{List, [], ◌∷◌}
@@ -17,8 +17,10 @@ use Rattle.trace.specs.Trace.{Trace}
 use Rattle.trace.specs.Refusals.{trace_refusal}
 use Rattle.moment.specs.Var.{var_clear, var_combine, var_finalize}
 use Rattle.moment.specs.Skew.{skew_clear, skew_combine, skew_biased, skew_finalize}
-use Rattle.moment.specs.Kurtosis.{kurtosis_clear, kurtosis_combine}
-use Rattle.moment.specs.Arrays.{var_list, cov_list, pearson_list, skew_list, kurtosis_list}
+use Rattle.moment.specs.Cov.{cov_combine, cov_finalize}
+use Rattle.moment.specs.Pearson.{pearson_combine, pearson_finalize}
+use Rattle.moment.specs.Kurtosis.{kurtosis_clear, kurtosis_combine, kurtosis_finalize}
+use Rattle.moment.specs.Arrays.{answer}
 use Rattle.moment.specs.declared.Figure.{Figure}
 use Rattle.moment.proofs.Weights.{at_zero}
 use Rattle.plan.specs.Plan.{Plan, rows}
@@ -27,7 +29,7 @@ use Rattle.plan.specs.Code.Accepted.{Planned}
 use Rattle.plan.proofs.FixedWindows.{bounds-rows}
 use Rattle.window.specs.Window.{Moment}
 use Rattle.window.specs.Given.{Readings, Given, series_of, places_of, given_refusal}
-use Rattle.window.specs.Outputs.{Column, Lent, Answer, of_figure, answers_in, answers_at}
+use Rattle.window.specs.Outputs.{Column, Lent, of_figure, answers_in, answers_at}
 use Rattle.window.proofs.Outputs.{◌then◌}
 use Rattle.rolling.specs.Moments.{Statistic, Variance, Skewness, Kurtosis, Covariance, Correlation, variance, skewness, kurtosis}
 use Rattle.rolling.specs.Moments.{kind_of, moment_of, finals_of}
@@ -36,7 +38,12 @@ use Rattle.rolling.specs.Fixed.{fixed_query, CalledFixed}
 use Rattle.rolling.proofs.Calls.{few_places}
 use Rattle.weighted.specs.Weights.{total_of, CalledWeights}
 use Rattle.weighted.proofs.WeightedRows.{weights-accepted}
+use Rattle.moments.specs.Results.{StateResult}
+use Rattle.promises.specs.SourceStates.{VarState-default, CovState-default, CovState-new, PearsonState-default, PearsonState-new}
+use Rattle.promises.specs.SourceStates.{SkewState-default, SkewState-from_iter, KurtosisState-default, KurtosisState-from_iter}
 use Rattle.promises.specs.SourceStates.{VarState-clear_zero_weight_nan, VarState-insert_one, VarState-combine, VarState-finalize}
+use Rattle.promises.specs.SourceStates.{CovState-insert_one, CovState-combine, CovState-finalize}
+use Rattle.promises.specs.SourceStates.{PearsonState-insert_one, PearsonState-combine, PearsonState-finalize}
 use Rattle.promises.specs.SourceStates.{SkewState-clear_zero_weight_nan, SkewState-insert_one, SkewState-combine, SkewState-finalize}
 use Rattle.promises.specs.SourceStates.{KurtosisState-clear_zero_weight_nan, KurtosisState-insert_one, KurtosisState-combine}
 use Rattle.promises.specs.SourceStates.{KurtosisState-finalize}
@@ -44,13 +51,13 @@ use Rattle.promises.specs.Rust.{Rust}
 use Rattle.promises.specs.SourceRows.{plan_row, row_of}
 use Rattle.promises.specs.SourceFixed.{fixed_row}
 use Rattle.promises.specs.SourceWeights.{rolling_var_weights}
-use Rattle.promises.specs.Calls.{OfOneTrace, AcceptedCall, fixed_call}
-use Rattle.promises.specs.DemandTwo.{StatesEqual, ArraysEqual, RangesEqual, variance_moment, skew_moment, kurtosis_moment, source_rows}
+use Rattle.promises.specs.Calls.{ArrayCall, of_var, of_skew, of_kurtosis, of_cov, of_pearson, of_skew_range, of_kurtosis_range}
+use Rattle.promises.specs.Calls.{CallsArray, OfOneTrace, AcceptedCall, fixed_call}
+use Rattle.promises.specs.DemandTwo.{StatesEqual, source_of, variance_moment, skew_moment, kurtosis_moment, source_rows}
 use Rattle.promises.specs.DemandTwo.{source_fixed_rows, RowsEqual, FixedRowsEqual, CorrectRoot, DemandTwo}
-use Rattle.promises.proofs.SourceStates.{var_insert_lem, var_combine_lem, var_finalize_lem, cov_insert_lem, cov_combine_lem, cov_finalize_lem}
-use Rattle.promises.proofs.SourceStates.{pearson_insert_lem, pearson_combine_lem, pearson_finalize_lem, skew_insert_lem, skew_combine_lem, skew_finalize_lem}
-use Rattle.promises.proofs.SourceStates.{kurtosis_insert_lem, kurtosis_combine_lem, kurtosis_finalize_lem}
-use Rattle.promises.proofs.SourceArrays.{var_array, skew_array, kurtosis_array, cov_array, pearson_array, skew_range_lem, kurtosis_range_lem}
+use Rattle.promises.proofs.SourceStates.{var_new_lem, var_combine_lem, cov_new_lem, cov_combine_lem, pearson_new_lem, pearson_combine_lem}
+use Rattle.promises.proofs.SourceStates.{skew_new_lem, skew_combine_lem, kurtosis_new_lem, kurtosis_combine_lem, kurtosis_finalize_lem}
+use Rattle.promises.proofs.SourceArrays.{whole_array_lem, pair_arrays_lem, range_array}
 use Rattle.promises.proofs.SourceRows.{Neutral, plan_row_lem}
 use Rattle.promises.proofs.SourceFixed.{fixed_row_lem}
 use Rattle.promises.proofs.SourceWeights.{weighted-row, weights_many}
@@ -75,124 +82,70 @@ kurtosis_neutral s = rw zero-zero
 
 -- ---- states
 states : StatesEqual
+unfolding VarState-insert_one VarState-combine VarState-clear_zero_weight_nan VarState-finalize var_clear var_combine var_finalize
+    CovState-insert_one CovState-combine CovState-finalize cov_combine cov_finalize PearsonState-insert_one PearsonState-combine
+    PearsonState-finalize pearson_combine pearson_finalize SkewState-insert_one SkewState-combine SkewState-clear_zero_weight_nan
+    SkewState-finalize skew_clear skew_combine skew_biased skew_finalize KurtosisState-insert_one KurtosisState-combine
+    KurtosisState-clear_zero_weight_nan kurtosis_clear kurtosis_combine
 states =
     record {
-      var = λ s o x d. (ap (λ f. f s x) (sym var_insert_lem), ap (λ f. f s o) (sym var_combine_lem), ap (λ f. f s d) (sym var_finalize_lem));
-      cov = λ s o x y d. (ap (λ f. f s x y) (sym cov_insert_lem), ap (λ f. f s o) (sym cov_combine_lem), ap (λ f. f s d) (sym cov_finalize_lem));
-      pearson = λ s o x y.
-          (ap (λ f. f s x y) (sym pearson_insert_lem), ap (λ f. f s o) (sym pearson_combine_lem), ap (λ f. f s) (sym pearson_finalize_lem));
-      skew = λ s o x b. (ap (λ f. f s x) (sym skew_insert_lem), ap (λ f. f s o) (sym skew_combine_lem), ap (λ f. f s b) (sym skew_finalize_lem));
-      kurtosis = λ s o x f b.
-          (ap (λ g. g s x) (sym kurtosis_insert_lem), ap (λ g. g s o) (sym kurtosis_combine_lem), sym (kurtosis_finalize_lem s f b));
+      var = λ s o x d. (refl, refl, refl);
+      cov = λ s o x y d. (refl, refl, refl);
+      pearson = λ s o x y. (refl, refl, refl);
+      skew = λ s o x b. (refl, refl, refl);
+      kurtosis = λ s o x f b. (refl, refl, sym (kurtosis_finalize_lem s f b));
     }
 
--- ---- whole arrays and ranges: an accepted call is refused by nothing and leaves the state of our definition, which is the source's
-arrays : ArraysEqual
-arrays =
-    record {
-      var = λ rust t b a c. let k = taken _ _ refl c in k.1 ∙ ap var_list (sym (var_array rust t k.0));
-      skew = λ rust t b a c. let k = taken _ _ refl c in k.1 ∙ ap skew_list (sym (skew_array rust t k.0));
-      kurtosis = λ rust t b a c. let k = taken _ _ refl c in k.1 ∙ ap kurtosis_list (sym (kurtosis_array rust t k.0));
-      cov = λ rust x y b a c. let k = taken _ _ refl c in k.1 ∙ ap cov_list (sym (cov_array rust x y k.0));
-      pearson = λ rust x y b a c. let k = taken _ _ refl c in k.1 ∙ ap pearson_list (sym (pearson_array rust x y k.0));
-    }
+-- ---- whole arrays, pairs and ranges: an accepted call is refused by nothing and leaves the state of our definition, which is the source's
+sourced-state : {S : Type 0} {list : S → List Float} {number : ℕ} {source s : S} {before after : List Float} → (number ≡ 0 → source ≡ s)
+    → StateResult list (answer number s) before 0 after → after ≡ list source
+sourced-state {list = list} same c = let k = taken _ _ refl c in k.1 ∙ ap list (sym (same k.0))
 
-ranges : RangesEqual
-ranges =
-    record {
-      skew = λ rust t s n b a c. let k = taken _ _ refl c in k.1 ∙ ap skew_list (sym (skew_range_lem rust t s n k.0));
-      kurtosis = λ rust t s n b a c. let k = taken _ _ refl c in k.1 ∙ ap kurtosis_list (sym (kurtosis_range_lem rust t s n k.0));
-    }
+arrays : (rust : Rust) (a : ArrayCall) (before after : List Float) → CallsArray a before after 0 → after ≡ source_of rust a
+arrays rust (of_var t) before after c = sourced-state (whole_array_lem VarState-default var_new_lem var_combine_lem rust t) c
+arrays rust (of_skew t) before after c = sourced-state (whole_array_lem SkewState-default skew_new_lem skew_combine_lem rust t) c
+arrays rust (of_kurtosis t) before after c = sourced-state (whole_array_lem KurtosisState-default kurtosis_new_lem kurtosis_combine_lem rust t) c
+arrays rust (of_cov x y) before after c = sourced-state (pair_arrays_lem CovState-default CovState-new cov_new_lem cov_combine_lem rust x y) c
+arrays rust (of_pearson x y) before after c = sourced-state (pair_arrays_lem PearsonState-default PearsonState-new pearson_new_lem pearson_combine_lem rust x y) c
+arrays rust (of_skew_range t start len) before after c = sourced-state (range_array SkewState-from_iter skew_new_lem rust t start len) c
+arrays rust (of_kurtosis_range t start len) before after c = sourced-state (range_array KurtosisState-from_iter kurtosis_new_lem rust t start len) c
 
--- ---- the rows of a driver over our moments
--- one for each figure
-abbrev rows_by : (M : Moment Float) → ((M.State → Figure) → ℕ → Figure) → List (M.State → Figure) → List (ℕ → Figure)
-rows_by M row [] = []
-rows_by M row (final ∷ finals) = row final ∷ rows_by M row finals
+-- ---- rows, by what is asked: the source's moments are ours
+planned_row : (rust : Rust) (M : Moment Float) → Neutral M → (final : M.State → Figure) (t : Trace) → trace_refusal t ≡ 0
+    → (min_periods widest : ℕ) (p : Plan) → Planned (length t.readings) widest p → (k : ℕ) → k < rows p
+    → answers_at (figures_by M (final ∷ []) (series_of Readings t) min_periods p) k ≡ answers_at (plan_row M rust final t min_periods p ∷ []) k
+planned_row rust M neutral final t g m w p o k h =
+    ap of_figure (sym (plan_row_lem M rust neutral final t m w p o (few_places Readings t g) (map_long t g) k h)) then refl
 
-module _ (rust : Rust) (M : Moment Float) (neutral : Neutral M) (t : Trace) (accepted : trace_refusal t ≡ 0) (min_periods : ℕ) where
-  few : length t.readings ≤ 16777216
-  few = few_places Readings t accepted
-
-  -- of a plan that is in order
-  module _ (widest : ℕ) (p : Plan) (plan : Planned (length t.readings) widest p) (k : ℕ) (h : k < rows p) where
-    rows_same : (finals : List (M.State → Figure)) →
-        answers_at (figures_by M finals (series_of Readings t) min_periods p) k ≡ answers_at
-        (rows_by M (λ f. plan_row M rust f t min_periods p) finals) k
-    rows_same [] = refl
-    rows_same (final ∷ finals) =
-        ap of_figure (sym (plan_row_lem M rust neutral final t min_periods widest p plan few (map_long t accepted) k h)) then rows_same finals
-
-  -- of fixed windows
-  fixed_same : (center : Bool) (size : ℕ) → size < 2 ^ 64 → (k : ℕ) → k < length t.readings → (finals : List (M.State → Figure)) →
-      answers_at (rows_by M (λ f. plan_row M rust f t min_periods (bounds center size (length t.readings))) finals) k
-      ≡ answers_at (rows_by M (λ f. fixed_row M rust f t min_periods center size) finals) k
-  fixed_same center size fits k h [] = refl
-  fixed_same center size fits k h (final ∷ finals) =
-      ap of_figure (fixed_row_lem M rust final t min_periods center size k fits few h) then fixed_same center size fits k h finals
-
--- ---- the source's moments are ours, so a driver gives the same rows over both
-module _ (row : (M : Moment Float) → (M.State → Figure) → ℕ → Figure) where
-  variance-rows : (ddof : ℕ) → (row variance_moment (λ s. VarState-finalize s ddof) ∷ [])
-      ≡ rows_by variance (row variance) (finals_of (Variance ddof))
-  unfolding VarState-insert_one VarState-combine VarState-clear_zero_weight_nan VarState-finalize var_clear var_combine var_finalize
-  variance-rows ddof = refl
-
-  skewness-rows : (bias : Bool) → (row skew_moment (λ s. SkewState-finalize s bias) ∷ [])
-      ≡ rows_by skewness (row skewness) (finals_of (Skewness bias))
-  unfolding SkewState-insert_one SkewState-combine SkewState-clear_zero_weight_nan SkewState-finalize skew_clear skew_combine skew_biased
-      skew_finalize
-  skewness-rows bias = refl
-
-  kurtosis-rows : (fisher bias : Bool)
-      → (row kurtosis_moment (λ s. KurtosisState-finalize s fisher bias) ∷ []) ≡ rows_by kurtosis (row kurtosis)
-      (finals_of (Kurtosis fisher bias))
-  unfolding KurtosisState-insert_one KurtosisState-combine KurtosisState-clear_zero_weight_nan kurtosis_clear kurtosis_combine
-  kurtosis-rows fisher bias = λ i. row kurtosis (λ s. kurtosis_finalize_lem s fisher bias i) ∷ []
-
--- ---- by what is asked
 sourced : (rust : Rust) (a : Statistic) (one : OfOneTrace a) (t : Given (kind_of a)) → given_refusal (kind_of a) t ≡ 0
     → (min_periods widest : ℕ) (p : Plan) → Planned (places_of (kind_of a) t) widest p
     → (k : ℕ) → k < rows p → answers_at (figures_by (moment_of a) (finals_of a) (series_of (kind_of a) t) min_periods p) k
     ≡ answers_at (source_rows rust a one t min_periods p) k
-sourced rust (Variance ddof) one t g m w p o k h =
-    rows_same rust variance var_neutral t g m w p o k h (finals_of (Variance ddof))
-    ∙ ap (λ (l : List (ℕ → Figure)). answers_at l k) (sym (variance-rows (λ M f. plan_row M rust f t m p) ddof))
-sourced rust (Skewness bias) one t g m w p o k h =
-    rows_same rust skewness skew_neutral t g m w p o k h (finals_of (Skewness bias))
-    ∙ ap (λ (l : List (ℕ → Figure)). answers_at l k) (sym (skewness-rows (λ M f. plan_row M rust f t m p) bias))
+unfolding VarState-insert_one VarState-combine VarState-clear_zero_weight_nan VarState-finalize var_clear var_combine var_finalize
+    SkewState-insert_one SkewState-combine SkewState-clear_zero_weight_nan SkewState-finalize skew_clear skew_combine skew_biased
+    skew_finalize KurtosisState-insert_one KurtosisState-combine KurtosisState-clear_zero_weight_nan kurtosis_clear kurtosis_combine
+sourced rust (Variance ddof) one t g m w p o k h = planned_row rust variance var_neutral (λ s. var_finalize s ddof) t g m w p o k h
+sourced rust (Skewness bias) one t g m w p o k h = planned_row rust skewness skew_neutral (λ s. skew_finalize s bias) t g m w p o k h
 sourced rust (Kurtosis fisher bias) one t g m w p o k h =
-    rows_same rust kurtosis kurtosis_neutral t g m w p o k h (finals_of (Kurtosis fisher bias))
-    ∙ ap (λ (l : List (ℕ → Figure)). answers_at l k) (sym (kurtosis-rows (λ M f. plan_row M rust f t m p) fisher bias))
+    planned_row rust kurtosis kurtosis_neutral (λ s. kurtosis_finalize s fisher bias) t g m w p o k h
+    ∙ sym (λ i. answers_at (plan_row kurtosis rust (λ s. kurtosis_finalize_lem s fisher bias i) t m p ∷ []) k)
 sourced rust (Covariance ddof) one t g m w p o k h = absurd one
 sourced rust Correlation one t g m w p o k h = absurd one
 
--- a fixed row is the plan's row of the bounds
+-- a fixed row is the plan's row of the bounds, over any moment
 module _ (rust : Rust) (min_periods : ℕ) (center : Bool) (size : ℕ) (fits : size < 2 ^ 64) where
-  abbrev by_plan : Trace → (M : Moment Float) → (M.State → Figure) → ℕ → Figure
-  by_plan t M final = plan_row M rust final t min_periods (bounds center size (length t.readings))
-
-  abbrev by_size : Trace → (M : Moment Float) → (M.State → Figure) → ℕ → Figure
-  by_size t M final = fixed_row M rust final t min_periods center size
-
-  abbrev at : ℕ → List (ℕ → Figure) → List Answer
-  at k l = answers_at l k
+  fixed-same : (M : Moment Float) (final : M.State → Figure) (t : Trace) → trace_refusal t ≡ 0 → (k : ℕ) → k < length t.readings
+      → answers_at (plan_row M rust final t min_periods (bounds center size (length t.readings)) ∷ []) k
+      ≡ answers_at (fixed_row M rust final t min_periods center size ∷ []) k
+  fixed-same M final t g k h =
+      ap of_figure (fixed_row_lem M rust final t min_periods center size k fits (few_places Readings t g) h) then refl
 
   fixed-sourced : (a : Statistic) (one : OfOneTrace a) (t : Given (kind_of a)) → given_refusal (kind_of a) t ≡ 0 → (k : ℕ)
       → k < places_of (kind_of a) t → answers_at (source_rows rust a one t min_periods (bounds center size (places_of (kind_of a) t))) k
       ≡ answers_at (source_fixed_rows rust a one t min_periods center size) k
-  fixed-sourced (Variance ddof) one t g k h =
-      ap (at k) (variance-rows (by_plan t) ddof)
-      ∙ fixed_same rust variance var_neutral t g min_periods center size fits k h (finals_of (Variance ddof))
-      ∙ sym (ap (at k) (variance-rows (by_size t) ddof))
-  fixed-sourced (Skewness bias) one t g k h =
-      ap (at k) (skewness-rows (by_plan t) bias)
-      ∙ fixed_same rust skewness skew_neutral t g min_periods center size fits k h (finals_of (Skewness bias))
-      ∙ sym (ap (at k) (skewness-rows (by_size t) bias))
-  fixed-sourced (Kurtosis fisher bias) one t g k h =
-      ap (at k) (kurtosis-rows (by_plan t) fisher bias)
-      ∙ fixed_same rust kurtosis kurtosis_neutral t g min_periods center size fits k h (finals_of (Kurtosis fisher bias))
-      ∙ sym (ap (at k) (kurtosis-rows (by_size t) fisher bias))
+  fixed-sourced (Variance ddof) one t g k h = fixed-same variance_moment (λ s. VarState-finalize s ddof) t g k h
+  fixed-sourced (Skewness bias) one t g k h = fixed-same skew_moment (λ s. SkewState-finalize s bias) t g k h
+  fixed-sourced (Kurtosis fisher bias) one t g k h = fixed-same kurtosis_moment (λ s. KurtosisState-finalize s fisher bias) t g k h
   fixed-sourced (Covariance ddof) one t g k h = absurd one
   fixed-sourced Correlation one t g k h = absurd one
 
@@ -239,7 +192,6 @@ demand_two =
     record {
       states = states;
       arrays = arrays;
-      ranges = ranges;
       plans = plans;
       fixed = fixed;
       weights = weighted;

@@ -38,7 +38,8 @@ use Rattle.promises.specs.SourceWindow.{update_no_nulls, new_no_nulls, update_nu
 use Rattle.promises.specs.SourceRows.{Array, head_set, tail_set, create_validity, plan_row, offsets, rolling_no_nulls, rolling_nulls}
 use Rattle.promises.specs.SourceFixed.{offset_fn, fixed_row}
 use Rattle.promises.specs.SourceWeights.{weights_start, compute_var_weights, weighted_row, rolling_var_weights}
-use Rattle.promises.specs.DemandTwo.{source_var, source_cov, source_skew_range, source_kurtosis_range, variance_moment}
+use Rattle.promises.specs.Calls.{of_var, of_cov, of_skew_range, of_kurtosis_range}
+use Rattle.promises.specs.DemandTwo.{source_of, variance_moment}
 use Rattle.promises.specs.Table.{every, same, gives, infinite_mean}
 
 -- ---- comparisons
@@ -315,19 +316,25 @@ filter_examples = tt
 -- `var`, with a missing place and without a map
 pub array_examples :
     Hold
-    (wholes (source_var some_rust missing) (2 ∷ 3 ∷ 2 ∷ [])
-    ∷ wholes (source_var some_rust (whole (2 ∷ 4 ∷ 9 ∷ []))) (3 ∷ 5 ∷ 26 ∷ [])
+    (wholes (source_of some_rust (of_var missing)) (2 ∷ 3 ∷ 2 ∷ [])
+    ∷ wholes (source_of some_rust (of_var (whole (2 ∷ 4 ∷ 9 ∷ [])))) (3 ∷ 5 ∷ 26 ∷ [])
     ∷ [])
 unfolding every table valid_at zip zip_with filter_map unset_bits of_bits to_bits of_int add sub mul div eq lt le whole_array
     VarState-clear_zero_weight_nan VarState-new VarState-combine
 array_examples = tt
 
+abbrev left_missing : Trace
+left_missing = trace_of (reals (1 ∷ 8 ∷ 8 ∷ 3 ∷ [])) true (13 ∷ [])
+
+abbrev right_missing : Trace
+right_missing = trace_of (reals (2 ∷ 8 ∷ 8 ∷ 6 ∷ [])) true (11 ∷ [])
+
 -- `cov`: a pair whose left place is missing, and one whose right place is, are left out
 pub pair_examples :
     Hold
-    (wholes (source_cov some_rust (trace_of (reals (1 ∷ 8 ∷ 8 ∷ 3 ∷ [])) true (13 ∷ [])) (trace_of (reals (2 ∷ 8 ∷ 8 ∷ 6 ∷ [])) true (11 ∷ [])))
+    (wholes (source_of some_rust (of_cov left_missing right_missing))
     (2 ∷ 2 ∷ 4 ∷ 4 ∷ [])
-    ∷ wholes (source_cov some_rust (whole (1 ∷ 3 ∷ [])) (whole (2 ∷ 6 ∷ []))) (2 ∷ 2 ∷ 4 ∷ 4 ∷ [])
+    ∷ wholes (source_of some_rust (of_cov (whole (1 ∷ 3 ∷ [])) (whole (2 ∷ 6 ∷ [])))) (2 ∷ 2 ∷ 4 ∷ 4 ∷ [])
     ∷ [])
 unfolding every table valid_at zip zip_with filter_map unset_bits of_bits to_bits of_int add sub mul div eq lt le pair_arrays CovState-new
     CovState-combine
@@ -336,9 +343,9 @@ pair_examples = tt
 -- `from_array` of places 1 up to 4, of which the second is missing; of a range in which no place is; and without a map
 pub range_examples :
     Hold
-    (wholes (source_skew_range some_rust (trace_of (reals (9 ∷ 2 ∷ 7 ∷ 4 ∷ 9 ∷ [])) true (27 ∷ [])) 1 3) (2 ∷ 3 ∷ 2 ∷ 0 ∷ [])
-    ∷ wholes (source_skew_range some_rust (trace_of (reals (9 ∷ 2 ∷ 4 ∷ 7 ∷ 9 ∷ [])) true (23 ∷ [])) 1 2) (2 ∷ 3 ∷ 2 ∷ 0 ∷ [])
-    ∷ wholes (source_kurtosis_range some_rust (whole (9 ∷ 2 ∷ 4 ∷ 9 ∷ [])) 1 2) (2 ∷ 3 ∷ 2 ∷ 0 ∷ 2 ∷ [])
+    (wholes (source_of some_rust (of_skew_range (trace_of (reals (9 ∷ 2 ∷ 7 ∷ 4 ∷ 9 ∷ [])) true (27 ∷ [])) 1 3)) (2 ∷ 3 ∷ 2 ∷ 0 ∷ [])
+    ∷ wholes (source_of some_rust (of_skew_range (trace_of (reals (9 ∷ 2 ∷ 4 ∷ 7 ∷ 9 ∷ [])) true (23 ∷ [])) 1 2)) (2 ∷ 3 ∷ 2 ∷ 0 ∷ [])
+    ∷ wholes (source_of some_rust (of_kurtosis_range (whole (9 ∷ 2 ∷ 4 ∷ 9 ∷ [])) 1 2)) (2 ∷ 3 ∷ 2 ∷ 0 ∷ 2 ∷ [])
     ∷ [])
 unfolding every table valid_at zip zip_with filter_map unset_bits of_bits to_bits of_int add sub mul div eq lt le from_array SkewState-from_iter
     KurtosisState-from_iter

@@ -21,9 +21,9 @@ use Rattle.window.specs.Readings.{nonfinite_at}
 use Rattle.window.specs.Pairs.{nonfinite_pair}
 use Rattle.window.specs.Given.{Kind, Readings, Pairs, Entry, Given, series_of, places_of}
 use Rattle.window.specs.Rows.{account_at, counted, answer_of, answer_at}
-use Rattle.window.specs.Outputs.{of_figure}
+use Rattle.window.specs.Outputs.{Lent, Answer, of_figure, answers_in}
 use Rattle.window.proofs.Places.{entries-split, entries-cons, many-chosen, count-le, two-counts}
-use Rattle.promises.specs.DemandThree.{NotFiniteAt, SomeNotFinite, FigureRow}
+use Rattle.promises.specs.DemandThree.{TooFew, NotFiniteAt, SomeNotFinite, FigureRow, FirstAnswer}
 use Rattle.promises.proofs.Accounts.{lies, row-account}
 use Rattle.promises.proofs.RowsSame.{counted_is}
 
@@ -38,6 +38,16 @@ pub record ByWeight {A : Type 0} (M : Moment A) (final : M.State → Figure) (fe
 not_few : {n few min_periods : ℕ} → min_periods ≤ n → few < n → (n ≤ few) ⊎ (n < min_periods) → ◌≡◌ {A = ℕ} 1 0
 not_few h g (inl p) = absurd (omega arith)
 not_few h g (inr p) = absurd (omega arith)
+
+-- where too few are valid the row is one that is missing
+pub missing_row : {kind : Kind} {t : Given kind} {s e min_periods few : ℕ} → TooFew kind t s e min_periods few
+    → FigureRow kind t s e min_periods few (of_figure Missing)
+missing_row less = record { byte-is = inl refl; missing = (λ _. less, λ _. refl); not_finite = λ x. absurd (omega arith) }
+
+-- a row's first answer, of what stands in the lists and what is said of it
+pub first_answer : {Said : Answer → Type 0} {k : ℕ} {l : Lent} (answer : Answer) (others : List Answer)
+    → answers_in l.outputs.answers k ≡ answer ∷ others → Said answer → FirstAnswer Said k l
+first_answer answer others stands said = record { answer = answer; others = others; stands = stands; row = said }
 
 -- a valid place that holds what is not finite counts as such, by the kind of entry
 not_both_lem : (a b : Bool) → (a ≡ false) ⊎ (b ≡ false) → not (a && b) ≡ true
@@ -123,14 +133,11 @@ module _ (kind : Kind) (M : Moment (Entry kind)) (final : M.State → Figure) (f
   unfolding or_nan
   figure-row = rw shape (go (leb min_periods N) (leb N few) (eqb (nonfinite_count w.places s e) 0) refl refl refl)
     where
-      missing-row : (N ≤ few) ⊎ (N < min_periods) → FigureRow kind t s e min_periods few (of_figure Missing)
-      missing-row less = record { byte-is = inl refl; missing = (λ _. less, λ _. refl); not_finite = λ x. absurd (omega arith) }
-
       go : (a b z : Bool) → leb min_periods N ≡ a → leb N few ≡ b → eqb (nonfinite_count w.places s e) 0 ≡ z
           → FigureRow kind t s e min_periods few (of_figure (Told a b z))
-      go false b z x y n = missing-row (inr (leb-false _ _ x))
-      go true true true x y n = missing-row (inl (leb-true _ _ y))
-      go true true false x y n = missing-row (inl (leb-true _ _ y))
+      go false b z x y n = missing_row (inr (leb-false _ _ x))
+      go true true true x y n = missing_row (inl (leb-true _ _ y))
+      go true true false x y n = missing_row (inl (leb-true _ _ y))
       go true false true x y n =
           record {
             byte-is = inr refl;

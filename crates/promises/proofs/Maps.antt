@@ -14,7 +14,7 @@ use Rattle.trace.proofs.Accepted.{pair_fits}
 use Rattle.moment.proofs.Pairs.{length-zip}
 use Rattle.moment.specs.Skew.{skew_new}
 use Rattle.moment.specs.Kurtosis.{kurtosis_new}
-use Rattle.moment.specs.Arrays.{answer, var_list, cov_list, pearson_list, skew_list, kurtosis_list}
+use Rattle.moment.specs.Arrays.{answer}
 use Rattle.moment.specs.Arrays.{var_whole, cov_whole, pearson_whole, skew_whole, kurtosis_whole}
 use Rattle.plan.specs.Plan.{rows, row_start, row_end}
 use Rattle.plan.specs.Bounds.{bounds}
@@ -28,10 +28,11 @@ use Rattle.rolling.specs.Fixed.{fixed_query, CalledFixed}
 use Rattle.weighted.specs.Weights.{total_of, weighted_at, weights_refusal, CalledWeights}
 use Rattle.moments.specs.HostCall.{Host, decoded_of, odd_bytes, ReadingLists, short_lists, CalledBytes}
 use Rattle.moments.specs.Results.{StateResult}
-use Rattle.promises.specs.Calls.{readings_of, readings_in, pairs_of, AcceptedCall, plan_call, host_call, fixed_call}
+use Rattle.promises.specs.Calls.{ArrayCall, CallsArray, readings_of, readings_in, pairs_of, AcceptedCall, plan_call, host_call, fixed_call}
 use Rattle.promises.specs.DemandThree.{Alike, Agree}
 use Rattle.promises.specs.Maps.{LongEnough, SameMaps, padded, SameGiven, SameHost, SameRoom, SameReadingRoom, SameAnswer}
-use Rattle.promises.specs.Maps.{SameColumns, OfTrace, OfPair, MapLaw}
+use Rattle.promises.specs.Maps.{SameColumns, SameArrays, same_var, same_skew, same_kurtosis, same_cov, same_pearson, same_skew_range}
+use Rattle.promises.specs.Maps.{same_kurtosis_range, MapLaw}
 use Rattle.promises.proofs.Accepted.{known, weights_row}
 use Rattle.promises.proofs.TwoCalls.{alike_answers}
 use Rattle.promises.proofs.DemandOne.{map_wrong, number_of_lem, taken}
@@ -97,38 +98,32 @@ module _ {x y x' y' : Trace} (s : SameMaps x x') (u : SameMaps y y') where
       (λ i k h. rw (s.bits i (omega arith), u.bits i (omega arith)))
       ∙ rw (s.readings, u.readings)
 
+-- ---- two calls
+-- of the same number, which the first answers, and the second
+same_answer : {n n' r r' : ℕ} {Same : Type 0} → r ≡ n → n ≡ n' → r' ≡ n' → (r ≡ 0 → r' ≡ 0 → Same) → SameAnswer r r' Same
+same_answer a e b f = let same = a ∙ e ∙ sym b in record { number = same; answer = λ z. f z (sym same ∙ z) }
+
 -- ---- calls that hand out a state
-module _ {S : Type 0} (list : S → List Float) where
-  -- a call that answers r, of a number and a state
-  abbrev Gives : ℕ → S → List Float → ℕ → List Float → Type 0
-  Gives number s before r after = StateResult list (answer number s) before r after
-
+module _ (before after before' after' : List Float) (r r' : ℕ) where
   -- two calls of the same number and, if that is 0, of the same state
-  handed-same : {number number' : ℕ} {s s' : S} {before after before' after' : List Float} {r r' : ℕ}
-      → number ≡ number' → (number ≡ 0 → s ≡ s') → Gives number s before r after → Gives number' s' before' r' after'
+  handed-same : {S : Type 0} {list : S → List Float} {number number' : ℕ} {s s' : S} → number ≡ number' → (number ≡ 0 → s ≡ s')
+      → StateResult list (answer number s) before r after → StateResult list (answer number' s') before' r' after'
       → SameAnswer r r' (after ≡ after')
-  handed-same e f c c' =
-      let same = number_of_lem _ _ c ∙ e ∙ sym (number_of_lem _ _ c') in
-      record {
-        number = same;
-        answer = λ z.
-            let a = taken _ _ z c in
-            let a' = taken _ _ (sym same ∙ z) c' in
-            a.1 ∙ ap list (f a.0) ∙ sym a'.1;
-      }
+  handed-same {list = list} e f c c' =
+      same_answer (number_of_lem _ _ c) e (number_of_lem _ _ c')
+      (λ z z'. let a = taken _ _ z c in a.1 ∙ ap list (f a.0) ∙ sym (taken _ _ z' c').1)
 
-  of-trace : (new : List Float → S) → OfTrace (λ t before after r. Gives (trace_refusal t) (new (readings_of t)) before r after)
-  of-trace new t t' s before after before' after' r r' c c' = handed-same (trace-number s) (λ e. ap new (same-readings s)) c c'
-
-  of_range : (new : List Float → S) (start len : ℕ)
-      → OfTrace (λ t before after r. Gives (range_number t start len) (new (readings_in t start len)) before r after)
-  of_range new start len t t' s before after before' after' r r' c c' =
-      handed-same (range-number s start len) (λ e. ap new (same-range s start len)) c c'
-
-  of_pair : (new : List (Float × Float) → S)
-      → OfPair (λ x y before after r. Gives (paired_refusal x y) (new (pairs_of x y)) before r after)
-  of_pair new x y x' y' s u before after before' after' r r' c c' =
-      handed-same (pair-number s u) (λ e. ap new (same-pairs s u e)) c c'
+  same-state : {a a' : ArrayCall} → SameArrays a a' → CallsArray a before after r → CallsArray a' before' after' r'
+      → SameAnswer r r' (after ≡ after')
+  same-state (same_var s) c c' = handed-same (trace-number s) (λ e. ap var_whole (same-readings s)) c c'
+  same-state (same_skew s) c c' = handed-same (trace-number s) (λ e. ap skew_whole (same-readings s)) c c'
+  same-state (same_kurtosis s) c c' = handed-same (trace-number s) (λ e. ap kurtosis_whole (same-readings s)) c c'
+  same-state (same_cov s u) c c' = handed-same (pair-number s u) (λ e. ap cov_whole (same-pairs s u e)) c c'
+  same-state (same_pearson s u) c c' = handed-same (pair-number s u) (λ e. ap pearson_whole (same-pairs s u e)) c c'
+  same-state (same_skew_range {start = start} {len = len} s) c c' =
+      handed-same (range-number s start len) (λ e. ap skew_new (same-range s start len)) c c'
+  same-state (same_kurtosis_range {start = start} {len = len} s) c c' =
+      handed-same (range-number s start len) (λ e. ap kurtosis_new (same-range s start len)) c c'
 
 -- ---- windows
 -- by the kind of entry
@@ -222,54 +217,30 @@ pub map_law : MapLaw
 map_law =
     record {
       behind = behind;
-      var = of-trace var_list var_whole;
-      skew = of-trace skew_list skew_whole;
-      kurtosis = of-trace kurtosis_list kurtosis_whole;
-      cov = of_pair cov_list cov_whole;
-      pearson = of_pair pearson_list pearson_whole;
-      skew_range = of_range skew_list skew_new;
-      kurtosis_range = of_range kurtosis_list kurtosis_new;
+      arrays = λ s before after before' after' r r'. same-state before after before' after' r r' s;
       plans = λ q t t' s l₀ l l₀' l' room r r' c c'.
-          let e : r ≡ r' = c.number_is ∙ planned_number q t t' s false false refl l₀ l₀' room ∙ sym c'.number_is in
-          record {
-            number = e;
-            answer = λ z.
-                rows_alike q t t' s l l' (plan_call {l₀ = l₀} (subst (λ (n : ℕ). Called q t l₀ l n) z c))
-                (plan_call {l₀ = l₀'} (subst (λ (n : ℕ). Called q t' l₀' l' n) (sym e ∙ z) c'));
-          };
+          same_answer c.number_is (planned_number q t t' s false false refl l₀ l₀' room) c'.number_is
+          (λ z z'. rows_alike q t t' s l l' (plan_call {l₀ = l₀} (subst (λ (n : ℕ). Called q t l₀ l n) z c))
+          (plan_call {l₀ = l₀'} (subst (λ (n : ℕ). Called q t' l₀' l' n) z' c')));
       hosts = λ q h h' s r₀ r r₀' r' short l₀ l l₀' l' room number number' c c'.
-          let e : number ≡ number' = c.number_is ∙ host_number_lem q h h' s r₀ r₀' short l₀ l₀' room ∙ sym c'.number_is in
-          record {
-            number = e;
-            answer = λ z.
-                rows_alike q (decoded_of (kind_of q.statistic) h) (decoded_of (kind_of q.statistic) h')
-                (given_decoded (kind_of q.statistic) h h' s) l l'
-                (host_call {r₀ = r₀} {r = r} {l₀ = l₀} (subst (λ (n : ℕ). CalledBytes q h r₀ r l₀ l n) z c))
-                (host_call {r₀ = r₀'} {r = r'} {l₀ = l₀'} (subst (λ (n : ℕ). CalledBytes q h' r₀' r' l₀' l' n) (sym e ∙ z) c'));
-          };
+          same_answer c.number_is (host_number_lem q h h' s r₀ r₀' short l₀ l₀' room) c'.number_is
+          (λ z z'. rows_alike q (decoded_of (kind_of q.statistic) h) (decoded_of (kind_of q.statistic) h')
+          (given_decoded (kind_of q.statistic) h h' s) l l'
+          (host_call {r₀ = r₀} {r = r} {l₀ = l₀} (subst (λ (n : ℕ). CalledBytes q h r₀ r l₀ l n) z c))
+          (host_call {r₀ = r₀'} {r = r'} {l₀ = l₀'} (subst (λ (n : ℕ). CalledBytes q h' r₀' r' l₀' l' n) z' c')));
       -- traces of equal length have the same bounds
       fixed = λ center window_size min_periods a t t' s l₀ l l₀' l' room r r' c c'.
-          let e : r ≡ r' = c.number_is ∙ fixed_number_lem window_size a t t' s l₀ l₀' room ∙ sym c'.number_is in
-          record {
-            number = e;
-            answer = λ z.
-                rows_alike (fixed_query center window_size min_periods a t) t t' s l l'
-                (fixed_call {l₀ = l₀} (subst (λ (n : ℕ). CalledFixed center window_size min_periods a t l₀ l n) z c))
-                (subst (λ (n : ℕ). AcceptedCall (query (bounds center window_size n) min_periods a) t' l')
-                (sym (given_long (kind_of a) t t' s))
-                (fixed_call {l₀ = l₀'} (subst (λ (n : ℕ). CalledFixed center window_size min_periods a t' l₀' l' n) (sym e ∙ z) c')));
-          };
+          same_answer c.number_is (fixed_number_lem window_size a t t' s l₀ l₀' room) c'.number_is
+          (λ z z'. rows_alike (fixed_query center window_size min_periods a t) t t' s l l'
+          (fixed_call {l₀ = l₀} (subst (λ (n : ℕ). CalledFixed center window_size min_periods a t l₀ l n) z c))
+          (subst (λ (n : ℕ). AcceptedCall (query (bounds center window_size n) min_periods a) t' l') (sym (given_long (kind_of a) t t' s))
+          (fixed_call {l₀ = l₀'} (subst (λ (n : ℕ). CalledFixed center window_size min_periods a t' l₀' l' n) z' c'))));
       weights = λ center window_size min_periods weights t t' s c₀ c c₀' c' room r r' d d'.
-          let same = weights-number window_size weights t t' s _ _ room in
-          let e : r ≡ r' = d.number_is ∙ same ∙ sym d'.number_is in
-          record {
-            number = e;
-            answer = λ z k h.
-                weights_row center window_size min_periods weights t c₀ c
-                (subst (λ (n : ℕ). CalledWeights center window_size min_periods weights t c₀ c n) z d) k h
-                ∙ ap (λ (xs : List Float). answers_at (weighted_at center window_size min_periods weights xs ∷ []) k) s.readings
-                ∙ sym (weights_row center window_size min_periods weights t' c₀' c'
-                (subst (λ (n : ℕ). CalledWeights center window_size min_periods weights t' c₀' c' n) (sym e ∙ z) d') k
-                (subst (λ (xs : List Float). k < length xs) s.readings h));
-          };
+          same_answer d.number_is (weights-number window_size weights t t' s _ _ room) d'.number_is
+          (λ z z' k h. weights_row center window_size min_periods weights t c₀ c
+          (subst (λ (n : ℕ). CalledWeights center window_size min_periods weights t c₀ c n) z d) k h
+          ∙ ap (λ (xs : List Float). answers_at (weighted_at center window_size min_periods weights xs ∷ []) k) s.readings
+          ∙ sym (weights_row center window_size min_periods weights t' c₀' c'
+          (subst (λ (n : ℕ). CalledWeights center window_size min_periods weights t' c₀' c' n) z' d') k
+          (subst (λ (xs : List Float). k < length xs) s.readings h)));
     }

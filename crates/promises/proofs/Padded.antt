@@ -1,6 +1,6 @@
 -- Each hypothesis of the law of maps is met, by computation: two maps, one with other spare bits and bytes behind, in calls of every kind;
 -- the paper's example of nine places; and what would be said too much: of maps that are too short. Assumes nothing.
-use Prim.Native.Nat.{ℕ, zero, suc, ◌<◌}
+use Prim.Native.Nat.{ℕ, ◌<◌}
 use mathlib.Core.Path.{◌≡◌, refl}
 use mathlib.Core.Bool.{true, false}
 use mathlib.Core.List.{List, [], ◌∷◌, zip, zip_with}
@@ -31,10 +31,11 @@ use Rattle.rolling.specs.Calls.{Called}
 use Rattle.rolling.specs.Fixed.{CalledFixed}
 use Rattle.weighted.specs.Weights.{weights_refusal, CalledWeights}
 use Rattle.moments.specs.HostCall.{Host, CalledBytes}
-use Rattle.promises.specs.Calls.{CallsVar, CallsCov, CallsSkewRange}
-use Rattle.promises.specs.Maps.{SameMaps, padded, SameHost, SameRoom, SameAnswer, SameColumns, SameRows}
+use Rattle.promises.specs.Calls.{of_var, of_cov, of_skew_range, CallsArray}
+use Rattle.promises.specs.Maps.{SameMaps, padded, same_var, same_cov, same_skew_range, SameHost, SameRoom, SameAnswer, SameColumns, SameRows}
 use Rattle.promises.specs.Table.{variance_by, p9, trace9}
 use Rattle.promises.proofs.Maps.{map_law}
+use Rattle.promises.proofs.Spans.{each_place}
 use Rattle.promises.proofs.Examples.{reals, whole}
 use Rattle.promises.proofs.Witnesses.{four_column, var_lent_of, var_lent, var_left_of, leaves, trace13, p9_left, p9_accepted}
 
@@ -66,11 +67,8 @@ abbrev behind9 : Trace
 behind9 = trace_of trace9.readings true (253 ∷ 0 ∷ 255 ∷ [])
 
 bits9 : (i : ℕ) → i < 3 → valid_at true (5 ∷ []) i ≡ valid_at true (253 ∷ 0 ∷ 255 ∷ []) i
-unfolding valid_at
-bits9 zero h = refl
-bits9 (suc zero) h = refl
-bits9 (suc (suc zero)) h = refl
-bits9 (suc (suc (suc i))) h = absurd (omega arith)
+unfolding table valid_at
+bits9 = each_place _ _ 3 refl
 
 pub same9 : SameMaps trace9 behind9
 same9 =
@@ -194,49 +192,48 @@ sevens = reals (7 ∷ 7 ∷ 7 ∷ 7 ∷ [])
 abbrev eights : List Float
 eights = reals (8 ∷ 8 ∷ 8 ∷ 8 ∷ [])
 
-pub var9 : CallsVar trace9 sevens (reals (2 ∷ 3 ∷ 2 ∷ [])) 0
+pub var9 : CallsArray (of_var trace9) sevens (reals (2 ∷ 3 ∷ 2 ∷ [])) 0
 unfolding answer refusal ◌or_else◌ wrong_map valid_from chunks chunks_of in_chunks valid_at of_bits of_int add sub mul div eq var_new var_clear
     var_combine
 var9 = record { number = refl; state = refl }
 
-pub behind_var9 : CallsVar behind9 eights (reals (2 ∷ 3 ∷ 2 ∷ [])) 0
+pub behind_var9 : CallsArray (of_var behind9) eights (reals (2 ∷ 3 ∷ 2 ∷ [])) 0
 unfolding answer refusal ◌or_else◌ wrong_map valid_from chunks chunks_of in_chunks valid_at of_bits of_int add sub mul div eq var_new var_clear
     var_combine
 behind_var9 = record { number = refl; state = refl }
 
 pub vars9 : SameAnswer 0 0 (reals (2 ∷ 3 ∷ 2 ∷ []) ≡ reals (2 ∷ 3 ∷ 2 ∷ []))
-vars9 = map_law.var trace9 behind9 same9 sevens _ eights _ 0 0 var9 behind_var9
+vars9 = map_law.arrays (same_var same9) sevens _ eights _ 0 0 var9 behind_var9
 
 -- a range: its last two places, of which one is valid
-pub range9 : CallsSkewRange trace9 1 2 sevens (reals (1 ∷ 4 ∷ 0 ∷ 0 ∷ [])) 0
+pub range9 : CallsArray (of_skew_range trace9 1 2) sevens (reals (1 ∷ 4 ∷ 0 ∷ 0 ∷ [])) 0
 unfolding answer refusal ◌or_else◌ wrong_map valid_from valid_at of_bits of_int add sub mul div eq skew_new
 range9 = record { number = refl; state = refl }
 
-pub behind_range9 : CallsSkewRange behind9 1 2 eights (reals (1 ∷ 4 ∷ 0 ∷ 0 ∷ [])) 0
+pub behind_range9 : CallsArray (of_skew_range behind9 1 2) eights (reals (1 ∷ 4 ∷ 0 ∷ 0 ∷ [])) 0
 unfolding answer refusal ◌or_else◌ wrong_map valid_from valid_at of_bits of_int add sub mul div eq skew_new
 behind_range9 = record { number = refl; state = refl }
 
 pub ranges9 : SameAnswer 0 0 (reals (1 ∷ 4 ∷ 0 ∷ 0 ∷ []) ≡ reals (1 ∷ 4 ∷ 0 ∷ 0 ∷ []))
-ranges9 = map_law.skew_range 1 2 trace9 behind9 same9 sevens _ eights _ 0 0 range9 behind_range9
+ranges9 = map_law.arrays (same_skew_range {start = 1} {len = 2} same9) sevens _ eights _ 0 0 range9 behind_range9
 
 -- a pair, of which the second trace has no map
 abbrev second : Trace
 second = whole (2 ∷ 5 ∷ 6 ∷ [])
 
-pub cov9 : CallsCov trace9 second sevens (reals (2 ∷ 3 ∷ 4 ∷ 4 ∷ [])) 0
+pub cov9 : CallsArray (of_cov trace9 second) sevens (reals (2 ∷ 3 ∷ 4 ∷ 4 ∷ [])) 0
 unfolding answer refusal ◌or_else◌ wrong_map valid_from chunks chunks_of in_chunks valid_at both_at of_bits of_int add sub mul div eq zip zip_with
     cov_new cov_combine
 cov9 = record { number = refl; state = refl }
 
-pub behind_cov9 : CallsCov behind9 (padded second (255 ∷ [])) eights (reals (2 ∷ 3 ∷ 4 ∷ 4 ∷ [])) 0
+pub behind_cov9 : CallsArray (of_cov behind9 (padded second (255 ∷ []))) eights (reals (2 ∷ 3 ∷ 4 ∷ 4 ∷ [])) 0
 unfolding answer refusal ◌or_else◌ wrong_map valid_from chunks chunks_of in_chunks valid_at both_at of_bits of_int add sub mul div eq zip zip_with
     cov_new cov_combine
 behind_cov9 = record { number = refl; state = refl }
 
 pub covs9 : SameAnswer 0 0 (reals (2 ∷ 3 ∷ 4 ∷ 4 ∷ []) ≡ reals (2 ∷ 3 ∷ 4 ∷ 4 ∷ []))
 covs9 =
-    map_law.cov trace9 second behind9 (padded second (255 ∷ [])) same9 (map_law.behind second (255 ∷ []) (λ w. apart w.0)) sevens _
-    eights _ 0 0 cov9 behind_cov9
+    map_law.arrays (same_cov same9 (map_law.behind second (255 ∷ []) (λ w. apart w.0))) sevens _ eights _ 0 0 cov9 behind_cov9
 
 -- ---- what would be said too much: maps that are too short may have the same bits, as a place past a map's end reads as missing, and
 -- give another number
@@ -245,13 +242,8 @@ pub length_counts :
     → ((i : ℕ) → i < length t.readings → valid_at t.mapped t.map i ≡ valid_at t'.mapped t'.map i)
     → trace_refusal t ≡ trace_refusal t')
     → ⊥
-unfolding refusal ◌or_else◌ wrong_map valid_at
+unfolding table refusal ◌or_else◌ wrong_map valid_at
 length_counts all =
     let numbers : ◌≡◌ {A = ℕ} 3 0 = all (trace_of trace13.readings true []) (trace_of trace13.readings true (0 ∷ [])) refl refl
-    no_bits in
+    (each_place _ _ 2 refl) in
     omega arith
-  where
-    no_bits : (i : ℕ) → i < 2 → valid_at true [] i ≡ valid_at true (0 ∷ []) i
-    no_bits zero h = refl
-    no_bits (suc zero) h = refl
-    no_bits (suc (suc i)) h = absurd (omega arith)

@@ -26,7 +26,7 @@ use Rattle.window.specs.Places.{valid_count, entries_from}
 use Rattle.window.specs.Window.{split_after, figure_of}
 use Rattle.window.specs.Readings.{reading_of}
 use Rattle.window.specs.Pairs.{TracePair, inserted_pair, nonfinite_pair}
-use Rattle.window.specs.Given.{Pairs, series_of}
+use Rattle.window.specs.Given.{Pairs, Given, series_of}
 use Rattle.window.specs.Rows.{answer_at}
 use Rattle.window.specs.Outputs.{Lent, filled, kept, answers_in}
 use Rattle.rolling.specs.Moments.{Covariance, Correlation, covariance, correlation}
@@ -35,13 +35,15 @@ use Rattle.rolling.specs.Fixed.{CalledFixed}
 use Rattle.moments.specs.HostCall.{Host, CalledBytes}
 use Rattle.promises.specs.Calls.{figures_in, AcceptedCall, plan_call, host_call, fixed_call}
 use Rattle.promises.specs.DemandOne.{plan_checks, host_checks, fixed_checks, rows_checks, FirstApplies, Answered, HostLeft}
-use Rattle.promises.specs.DemandThree.{Alike, Agree, SomeNotFinite}
+use Rattle.promises.specs.DemandThree.{Alike, Agree, TooFew, SomeNotFinite, FigureRow}
 use Rattle.promises.specs.TwoTraces.{PairFigureIn, PairYielded}
 use Rattle.promises.specs.Maps.{padded, SameGiven, SameHost, SameRows}
 use Rattle.promises.specs.Table.{p7}
+use Rattle.promises.proofs.Spans.{each_place}
 use Rattle.promises.proofs.DemandOne.{demand_one}
 use Rattle.promises.proofs.TwoTraces.{pair_statement}
 use Rattle.promises.proofs.Maps.{map_law}
+use Rattle.promises.proofs.FigureRows.{missing_row}
 use Rattle.promises.proofs.Examples.{reals, whole}
 use Rattle.promises.proofs.Witnesses.{four_lent, four_left, leaves, first_bits, answer}
 
@@ -353,12 +355,8 @@ unfolding table refusal ◌or_else◌ wrong_map plan_refusal filled kept of_bits
 no_maps_accepted = record { number_is = refl; left = leaves refl refl refl refl refl }
 
 ones_places : (i : ℕ) → i < 4 → (series_of Pairs ones).places.valid i ≡ (series_of Pairs no_maps).places.valid i
-unfolding valid_at both_at
-ones_places zero h = refl
-ones_places (suc zero) h = refl
-ones_places (suc (suc zero)) h = refl
-ones_places (suc (suc (suc zero))) h = refl
-ones_places (suc (suc (suc (suc i)))) h = absurd (omega arith)
+unfolding table valid_at both_at
+ones_places = each_place _ _ 4 refl
 
 -- without 'both by the rule for a map or both not': the traces hold the same readings and miss no place
 pub either_map_counts :
@@ -382,12 +380,8 @@ abbrev second_mapped : TracePair
 second_mapped = both (whole (0 ∷ 0 ∷ 0 ∷ 1 ∷ [])) (mapped (0 ∷ 0 ∷ 1 ∷ 0 ∷ []) 13)
 
 either_places : (i : ℕ) → i < 4 → (series_of Pairs first_mapped).places.valid i ≡ (series_of Pairs second_mapped).places.valid i
-unfolding valid_at both_at
-either_places zero h = refl
-either_places (suc zero) h = refl
-either_places (suc (suc zero)) h = refl
-either_places (suc (suc (suc zero))) h = refl
-either_places (suc (suc (suc (suc i)))) h = absurd (omega arith)
+unfolding table valid_at both_at
+either_places = each_place _ _ 4 refl
 
 pub alike_either_map : Alike Pairs first_mapped second_mapped
 alike_either_map = record { long = refl; places = either_places; mapped = refl }
@@ -417,6 +411,12 @@ finite_members (suc zero, s, e, v, f) = ⊎_elim (λ g. apart (sym g)) (λ g. ap
 finite_members (suc (suc zero), s, e, v, f) = ⊎_elim (λ g. apart (sym g)) (λ g. apart (sym g)) f
 finite_members (suc (suc (suc i)), s, e, v, f) = absurd (omega arith)
 
+-- a row whose figure is NaN
+nan_figure : {t : Given Pairs} {s e min_periods few : ℕ} → ¬ TooFew Pairs t s e min_periods few
+    → FigureRow Pairs t s e min_periods few (answer nan 1)
+nan_figure enough =
+    record { byte-is = inr refl; missing = (λ z. absurd (omega arith), λ less. absurd (enough less)); not_finite = λ b f. refl }
+
 -- `PairYielded`, computed: a covariance that is missing since the count is ddof ..
 pub ddof_yielded : PairYielded (covariance_by p7 1 1) pair7 cov7_left 2
 unfolding of_bits of_int add sub mul div eq le cov_new cov_combine cov_finalize entries_from split_after figure_of inserted_pair nonfinite_pair
@@ -428,11 +428,7 @@ ddof_yielded =
         answer = answer zero64 0;
         others = [];
         stands = refl;
-        row = record {
-          byte-is = inl refl;
-          missing = (λ z. inl (omega arith), λ few. refl);
-          not_finite = λ b. absurd (omega arith);
-        };
+        row = missing_row (inl (omega arith));
       };
     }
 
@@ -466,11 +462,7 @@ minimum_yielded =
         answer = answer zero64 0;
         others = [];
         stands = refl;
-        row = record {
-          byte-is = inl refl;
-          missing = (λ z. inr (omega arith), λ few. refl);
-          not_finite = λ b. absurd (omega arith);
-        };
+        row = missing_row (inr (omega arith));
       };
     }
 
@@ -581,11 +573,8 @@ abbrev behind_second : TracePair
 behind_second = both (padded second_map.x (255 ∷ [])) (trace_of (reals (2 ∷ 6 ∷ 4 ∷ [])) true (254 ∷ 0 ∷ 255 ∷ []))
 
 bits6 : (i : ℕ) → i < 3 → valid_at true (6 ∷ []) i ≡ valid_at true (254 ∷ 0 ∷ 255 ∷ []) i
-unfolding valid_at
-bits6 zero h = refl
-bits6 (suc zero) h = refl
-bits6 (suc (suc zero)) h = refl
-bits6 (suc (suc (suc i))) h = absurd (omega arith)
+unfolding table valid_at
+bits6 = each_place _ _ 3 refl
 
 pub same_second : SameGiven Pairs second_map behind_second
 same_second = (
@@ -609,11 +598,8 @@ abbrev host_map : List ℕ → Host Pairs
 host_map map = record { x = nan_bytes.x; y = record { bytes = nan_bytes.y.bytes; mapped = true; map = map } }
 
 bits7 : (i : ℕ) → i < 3 → valid_at true (7 ∷ []) i ≡ valid_at true (255 ∷ 9 ∷ []) i
-unfolding valid_at
-bits7 zero h = refl
-bits7 (suc zero) h = refl
-bits7 (suc (suc zero)) h = refl
-bits7 (suc (suc (suc i))) h = absurd (omega arith)
+unfolding table valid_at
+bits7 = each_place _ _ 3 refl
 
 pub same_hosts : SameHost Pairs (host_map (7 ∷ [])) (host_map (255 ∷ 9 ∷ []))
 unfolding table

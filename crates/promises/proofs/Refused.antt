@@ -20,7 +20,7 @@ use Rattle.moment.specs.Pearson.{pearson_new, pearson_combine}
 use Rattle.moment.specs.Skew.{skew_new, skew_combine}
 use Rattle.moment.specs.Kurtosis.{kurtosis_new, kurtosis_combine}
 use Rattle.moment.specs.Chunks.{chunks, chunks_of, in_chunks}
-use Rattle.moment.specs.Arrays.{answer}
+use Rattle.moment.specs.Arrays.{Answer, answer, answer_number, answer_members}
 use Rattle.plan.specs.Plan.{Plan, plan_of}
 use Rattle.plan.specs.Bounds.{bounds}
 use Rattle.plan.specs.Refusals.{plan_refusal, fixed_refusal, widest}
@@ -31,12 +31,12 @@ use Rattle.rolling.specs.Fixed.{CalledFixed}
 use Rattle.weighted.specs.Weights.{weights_refusal, CalledWeights}
 use Rattle.moments.specs.HostCall.{Host, CalledBytes}
 use Rattle.window.specs.Given.{Readings}
-use Rattle.moments.specs.Results.{FigureResult}
-use Rattle.promises.specs.Calls.{CallsVar, CallsSkew, CallsKurtosis, CallsCov, CallsPearson, CallsSkewRange, CallsKurtosisRange}
+use Rattle.moments.specs.Results.{StateResult, FigureResult}
+use Rattle.promises.specs.Calls.{of_var, of_skew, of_kurtosis, of_cov, of_pearson, of_skew_range, of_kurtosis_range, CallsArray}
 use Rattle.promises.specs.DemandOne.{Check, trace_checks, pair_checks, range_checks, plan_checks, host_checks, fixed_checks, weights_checks}
 use Rattle.promises.specs.DemandOne.{OutputShorter, rows_checks, NoneApplies, FirstApplies, Answered}
 use Rattle.promises.specs.Rust.{some_rust}
-use Rattle.promises.specs.DemandTwo.{source_var, source_cov, source_skew_range}
+use Rattle.promises.specs.DemandTwo.{source_of}
 use Rattle.promises.specs.Table.{variance_by, p7, trace7, p9, trace9}
 use Rattle.promises.proofs.DemandOne.{demand_one}
 use Rattle.promises.proofs.DemandTwo.{demand_two}
@@ -52,78 +52,45 @@ no_bytes = trace_of (reals (1 ∷ 3 ∷ [])) true []
 abbrev before : List Float
 before = reals (7 ∷ 7 ∷ 7 ∷ [])
 
--- ---- `CallsVar` to `CallsKurtosisRange`: accepted
-pub var_accepted : CallsVar trace13 before (reals (2 ∷ 2 ∷ 2 ∷ [])) 0
-unfolding answer refusal ◌or_else◌ wrong_map valid_from chunks chunks_of in_chunks valid_at of_bits of_int add sub mul div eq var_new var_clear
-    var_combine
-var_accepted = record { number = refl; state = refl }
+-- ---- `CallsArray`
+-- what a call does, of what it answers
+does : {S : Type 0} {list : S → List Float} {a : Answer S} → StateResult list a before (answer_number a) (answer_members list a before)
+does = record { number = refl; state = refl }
 
-pub skew_accepted : CallsSkew (whole (0 ∷ 0 ∷ 0 ∷ 0 ∷ 5 ∷ [])) before (reals (5 ∷ 1 ∷ 20 ∷ 60 ∷ [])) 0
-unfolding answer refusal ◌or_else◌ wrong_map valid_from chunks chunks_of in_chunks valid_at of_bits of_int add sub mul div eq skew_new
-    skew_combine
-skew_accepted = record { number = refl; state = refl }
-
-pub kurtosis_accepted : CallsKurtosis (whole (0 ∷ 0 ∷ 0 ∷ 0 ∷ 5 ∷ [])) before (reals (5 ∷ 1 ∷ 20 ∷ 60 ∷ 260 ∷ [])) 0
-unfolding answer refusal ◌or_else◌ wrong_map valid_from chunks chunks_of in_chunks valid_at of_bits of_int add sub mul div eq kurtosis_new
-    kurtosis_combine
-kurtosis_accepted = record { number = refl; state = refl }
-
-pub cov_accepted : CallsCov (whole (1 ∷ 3 ∷ [])) (whole (2 ∷ 6 ∷ [])) before (reals (2 ∷ 2 ∷ 4 ∷ 4 ∷ [])) 0
-unfolding answer refusal ◌or_else◌ wrong_map valid_from chunks chunks_of in_chunks valid_at of_bits of_int add sub mul div eq zip zip_with both_at
-    cov_new cov_combine
-cov_accepted = record { number = refl; state = refl }
-
-pub pearson_accepted : CallsPearson (whole (1 ∷ 3 ∷ [])) (whole (2 ∷ 6 ∷ [])) before (reals (2 ∷ 2 ∷ 4 ∷ 2 ∷ 4 ∷ 8 ∷ [])) 0
-unfolding answer refusal ◌or_else◌ wrong_map valid_from chunks chunks_of in_chunks valid_at of_bits of_int add sub mul div eq zip zip_with both_at
-    pearson_new pearson_combine
-pearson_accepted = record { number = refl; state = refl }
-
-pub skew_range_accepted : CallsSkewRange (whole (9 ∷ 2 ∷ 4 ∷ 9 ∷ [])) 1 2 before (reals (2 ∷ 3 ∷ 2 ∷ 0 ∷ [])) 0
-unfolding answer refusal ◌or_else◌ wrong_map valid_from chunks chunks_of in_chunks valid_at of_bits of_int add sub mul div eq skew_new
-skew_range_accepted = record { number = refl; state = refl }
-
-pub kurtosis_range_accepted : CallsKurtosisRange (whole (9 ∷ 2 ∷ 4 ∷ 9 ∷ [])) 1 2 before (reals (2 ∷ 3 ∷ 2 ∷ 0 ∷ 2 ∷ [])) 0
-unfolding answer refusal ◌or_else◌ wrong_map valid_from chunks chunks_of in_chunks valid_at of_bits of_int add sub mul div eq kurtosis_new
-kurtosis_range_accepted = record { number = refl; state = refl }
+-- accepted
+pub arrays_accepted :
+    CallsArray (of_var trace13) before (reals (2 ∷ 2 ∷ 2 ∷ [])) 0
+    × CallsArray (of_skew (whole (0 ∷ 0 ∷ 0 ∷ 0 ∷ 5 ∷ []))) before (reals (5 ∷ 1 ∷ 20 ∷ 60 ∷ [])) 0
+    × CallsArray (of_kurtosis (whole (0 ∷ 0 ∷ 0 ∷ 0 ∷ 5 ∷ []))) before (reals (5 ∷ 1 ∷ 20 ∷ 60 ∷ 260 ∷ [])) 0
+    × CallsArray (of_cov (whole (1 ∷ 3 ∷ [])) (whole (2 ∷ 6 ∷ []))) before (reals (2 ∷ 2 ∷ 4 ∷ 4 ∷ [])) 0
+    × CallsArray (of_pearson (whole (1 ∷ 3 ∷ [])) (whole (2 ∷ 6 ∷ []))) before (reals (2 ∷ 2 ∷ 4 ∷ 2 ∷ 4 ∷ 8 ∷ [])) 0
+    × CallsArray (of_skew_range (whole (9 ∷ 2 ∷ 4 ∷ 9 ∷ [])) 1 2) before (reals (2 ∷ 3 ∷ 2 ∷ 0 ∷ [])) 0
+    × CallsArray (of_kurtosis_range (whole (9 ∷ 2 ∷ 4 ∷ 9 ∷ [])) 1 2) before (reals (2 ∷ 3 ∷ 2 ∷ 0 ∷ 2 ∷ [])) 0
+unfolding answer refusal ◌or_else◌ wrong_map valid_from chunks chunks_of in_chunks valid_at both_at zip zip_with of_bits of_int add sub mul
+    div eq var_new var_clear var_combine skew_new skew_combine kurtosis_new kurtosis_combine cov_new cov_combine pearson_new pearson_combine
+arrays_accepted = (does, does, does, does, does, does, does)
 
 -- demand 2 said of an array, a pair and a range
-pub var_sourced : reals (2 ∷ 2 ∷ 2 ∷ []) ≡ source_var some_rust trace13
-var_sourced = demand_two.arrays.var some_rust trace13 before _ var_accepted
+pub var_sourced : reals (2 ∷ 2 ∷ 2 ∷ []) ≡ source_of some_rust (of_var trace13)
+var_sourced = demand_two.arrays some_rust (of_var trace13) before _ arrays_accepted.0
 
-pub cov_sourced : reals (2 ∷ 2 ∷ 4 ∷ 4 ∷ []) ≡ source_cov some_rust (whole (1 ∷ 3 ∷ [])) (whole (2 ∷ 6 ∷ []))
-cov_sourced = demand_two.arrays.cov some_rust (whole (1 ∷ 3 ∷ [])) (whole (2 ∷ 6 ∷ [])) before _ cov_accepted
+pub cov_sourced : reals (2 ∷ 2 ∷ 4 ∷ 4 ∷ []) ≡ source_of some_rust (of_cov (whole (1 ∷ 3 ∷ [])) (whole (2 ∷ 6 ∷ [])))
+cov_sourced = demand_two.arrays some_rust (of_cov (whole (1 ∷ 3 ∷ [])) (whole (2 ∷ 6 ∷ []))) before _ arrays_accepted.3
 
-pub skew_range_sourced : reals (2 ∷ 3 ∷ 2 ∷ 0 ∷ []) ≡ source_skew_range some_rust (whole (9 ∷ 2 ∷ 4 ∷ 9 ∷ [])) 1 2
-skew_range_sourced = demand_two.ranges.skew some_rust (whole (9 ∷ 2 ∷ 4 ∷ 9 ∷ [])) 1 2 before _ skew_range_accepted
+pub skew_range_sourced : reals (2 ∷ 3 ∷ 2 ∷ 0 ∷ []) ≡ source_of some_rust (of_skew_range (whole (9 ∷ 2 ∷ 4 ∷ 9 ∷ [])) 1 2)
+skew_range_sourced = demand_two.arrays some_rust (of_skew_range (whole (9 ∷ 2 ∷ 4 ∷ 9 ∷ [])) 1 2) before _ arrays_accepted.5
 
--- ---- and refused: by 3, by 2, by 11
-pub var_refused : CallsVar no_bytes before before 3
+-- and refused: by 3, by 2, by 11
+pub arrays_refused :
+    CallsArray (of_var no_bytes) before before 3
+    × CallsArray (of_skew no_bytes) before before 3
+    × CallsArray (of_kurtosis no_bytes) before before 3
+    × CallsArray (of_cov trace13 (whole (1 ∷ []))) before before 2
+    × CallsArray (of_pearson trace13 (whole (1 ∷ []))) before before 2
+    × CallsArray (of_skew_range trace13 1 2) before before 11
+    × CallsArray (of_kurtosis_range trace13 1 2) before before 11
 unfolding answer refusal ◌or_else◌ wrong_map
-var_refused = record { number = refl; state = refl }
-
-pub skew_refused : CallsSkew no_bytes before before 3
-unfolding answer refusal ◌or_else◌ wrong_map
-skew_refused = record { number = refl; state = refl }
-
-pub kurtosis_refused : CallsKurtosis no_bytes before before 3
-unfolding answer refusal ◌or_else◌ wrong_map
-kurtosis_refused = record { number = refl; state = refl }
-
-pub cov_refused : CallsCov trace13 (whole (1 ∷ [])) before before 2
-unfolding answer refusal ◌or_else◌ wrong_map
-cov_refused = record { number = refl; state = refl }
-
-pub pearson_refused : CallsPearson trace13 (whole (1 ∷ [])) before before 2
-unfolding answer refusal ◌or_else◌ wrong_map
-pearson_refused = record { number = refl; state = refl }
-
-pub skew_range_refused : CallsSkewRange trace13 1 2 before before 11
-unfolding answer refusal ◌or_else◌ wrong_map
-skew_range_refused = record { number = refl; state = refl }
-
-pub kurtosis_range_refused : CallsKurtosisRange trace13 1 2 before before 11
-unfolding answer refusal ◌or_else◌ wrong_map
-kurtosis_range_refused = record { number = refl; state = refl }
+arrays_refused = (does, does, does, does, does, does, does)
 
 -- `FigureResult`: a figure that is there, and one that is not
 pub figure_present : FigureResult (Present one64) 1 one64

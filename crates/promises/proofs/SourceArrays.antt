@@ -15,36 +15,25 @@ use lib.Dec.{T, leb, ltb, leb→le, nleb→lt, lit≤}
 use lib.ListN.{length, take, drop, length-append, length-map, drop_of_length-le, length-drop}
 use lib.Seq.{take_at, drop_at, take_all, take-length, length-take-le}
 use lib.Ieee.{Float}
+use Rattle.float.specs.Tables.{table}
 use Rattle.float.proofs.Tables.{table_same}
 use Rattle.float.proofs.Cases.{Or, here, there, order}
-use Rattle.trace.specs.Trace.{Trace, bytes_for, valid_at, both_at, valid_from, valid_readings, valid_pairs}
+use Rattle.trace.specs.Trace.{Trace, bytes_for, valid_at, both_at, valid_from}
 use Rattle.trace.specs.Refusals.{refusal, ◌or_else◌, too_many, wrong_map, trace_refusal, paired_refusal, range_refusal}
 use Rattle.trace.proofs.Accepted.{none_of, not_refused_lem, range_fits_lem, pair_fits}
 use Rattle.trace.proofs.Maps.{none_missing_lem}
 use Rattle.moment.specs.Sums.{first_of, second_of}
 use Rattle.moment.specs.Chunks.{chunks, chunks_of, fold_chunks, in_chunks}
-use Rattle.moment.specs.Var.{var_empty, var_new, var_combine}
-use Rattle.moment.specs.Cov.{cov_empty, cov_new, cov_combine}
-use Rattle.moment.specs.Pearson.{pearson_empty, pearson_new, pearson_combine}
-use Rattle.moment.specs.Skew.{skew_empty, skew_new, skew_combine}
-use Rattle.moment.specs.Kurtosis.{kurtosis_empty, kurtosis_new, kurtosis_combine}
-use Rattle.moment.specs.Arrays.{var_whole, skew_whole, kurtosis_whole, cov_whole, pearson_whole, range_readings}
 use Rattle.moment.proofs.Chunked.{chunks_cons}
 use Rattle.moment.proofs.Pairs.{length-zip}
 use Rattle.plan.proofs.Plans.{neither}
 use Rattle.promises.specs.Rust.{Rust, bitmap_of}
-use Rattle.promises.specs.SourceStates.{VarState-default, VarState-new, VarState-combine}
-use Rattle.promises.specs.SourceStates.{CovState-default, CovState-new, CovState-combine}
-use Rattle.promises.specs.SourceStates.{PearsonState-default, PearsonState-new, PearsonState-combine}
-use Rattle.promises.specs.SourceStates.{SkewState-default, SkewState-from_iter, SkewState-new, SkewState-combine}
-use Rattle.promises.specs.SourceStates.{KurtosisState-default, KurtosisState-from_iter, KurtosisState-new, KurtosisState-combine}
+use Rattle.promises.specs.Calls.{readings_of, readings_in, pairs_of}
 use Rattle.promises.specs.SourceArrays.{bits_of, array_of, unset_bits, has_nulls, then_some, values_where}
 use Rattle.promises.specs.SourceArrays.{options_where, both_some, stored, flushed, chunk_as_float, combine_new, whole_array}
 use Rattle.promises.specs.SourceArrays.{stored_binary, flushed_binary, chunk_as_float_binary, combine_new_binary, pair_arrays, options_of}
 use Rattle.promises.specs.SourceArrays.{non_null_values, with_unset, sliced, set_bits, range_of, from_range, from_array}
-use Rattle.promises.proofs.SourceStates.{var_new_lem, var_combine_lem, cov_new_lem, cov_combine_lem, pearson_new_lem, pearson_combine_lem}
-use Rattle.promises.proofs.SourceStates.{skew_new_lem, skew_combine_lem, kurtosis_new_lem, kurtosis_combine_lem}
-use Rattle.promises.proofs.Spans.{span, span_table, span_length, span_part}
+use Rattle.promises.proofs.Spans.{each_place, span, span_table, span_length, span_part}
 use Rattle.promises.proofs.Accepted.{map_long}
 
 -- ---- chunks
@@ -148,12 +137,8 @@ no_nulls valid xs h = none_missing_lem valid 0 xs (λ i k l. h i (omega arith))
 
 -- a map of ones, whose bits past the trace are 0
 pub ones_none_missing : NoneMissing 4 (valid_at true (15 ∷ []))
-unfolding valid_at
-ones_none_missing zero h = refl
-ones_none_missing (suc zero) h = refl
-ones_none_missing (suc (suc zero)) h = refl
-ones_none_missing (suc (suc (suc zero))) h = refl
-ones_none_missing (suc (suc (suc (suc i)))) h = absurd (omega arith)
+unfolding table valid_at
+ones_none_missing = each_place _ _ 4 refl
 
 -- ---- bits
 -- no bit is 0 where no place is missing, and the other way round
@@ -298,10 +283,13 @@ chunks_same {A} {S} new new' combine combine' empty n c xs =
     ap (λ (f : List A → S). in_chunks f combine empty xs) (fun_ext n) ∙ ap (λ (f : S → S → S). in_chunks new' f empty xs) c
 
 -- one array, of any state
-whole_array_lem : {S : Type 0} (new : List Float → S) (combine : S → S → S) (empty : S) (rust : Rust) (t : Trace) → trace_refusal t ≡ 0
-    → whole_array new combine empty (array_of rust t) ≡ in_chunks new combine empty (valid_readings t.mapped t.map t.readings)
+pub whole_array_lem : {S : Type 0} (empty : S) {new new' : List Float → S} {combine combine' : S → S → S}
+    → ((l : List Float) → new l ≡ new' l) → combine ≡ combine' → (rust : Rust) (t : Trace) → trace_refusal t ≡ 0
+    → whole_array new combine empty (array_of rust t) ≡ in_chunks new' combine' empty (readings_of t)
 unfolding whole_array
-whole_array_lem {S} new combine empty rust t e = by (has_nulls (array_of rust t)) (has_nulls_lem rust t e).0
+whole_array_lem {S} empty {new} {new'} {combine} {combine'} n c rust t e =
+    by (has_nulls (array_of rust t)) (has_nulls_lem rust t e).0
+    ∙ chunks_same new new' combine combine' empty n c (readings_of t)
   where
     valid : ℕ → Bool
     valid = valid_at t.mapped t.map
@@ -319,27 +307,6 @@ whole_array_lem {S} new combine empty rust t e = by (has_nulls (array_of rust t)
         source-in-chunks new combine empty t.readings
         ∙ ap (in_chunks new combine empty) (sym (no_nulls valid t.readings (m refl)))
 
-pub var_array : (rust : Rust) (t : Trace) → trace_refusal t ≡ 0
-    → whole_array VarState-new VarState-combine VarState-default (array_of rust t)
-    ≡ var_whole (valid_readings t.mapped t.map t.readings)
-var_array rust t e =
-    whole_array_lem VarState-new VarState-combine VarState-default rust t e
-    ∙ chunks_same VarState-new var_new VarState-combine var_combine var_empty var_new_lem var_combine_lem _
-
-pub skew_array : (rust : Rust) (t : Trace) → trace_refusal t ≡ 0
-    → whole_array SkewState-new SkewState-combine SkewState-default (array_of rust t)
-    ≡ skew_whole (valid_readings t.mapped t.map t.readings)
-skew_array rust t e =
-    whole_array_lem SkewState-new SkewState-combine SkewState-default rust t e
-    ∙ chunks_same SkewState-new skew_new SkewState-combine skew_combine skew_empty skew_new_lem skew_combine_lem _
-
-pub kurtosis_array : (rust : Rust) (t : Trace) → trace_refusal t ≡ 0
-    → whole_array KurtosisState-new KurtosisState-combine KurtosisState-default (array_of rust t)
-    ≡ kurtosis_whole (valid_readings t.mapped t.map t.readings)
-kurtosis_array rust t e =
-    whole_array_lem KurtosisState-new KurtosisState-combine KurtosisState-default rust t e
-    ∙ chunks_same KurtosisState-new kurtosis_new KurtosisState-combine kurtosis_combine kurtosis_empty kurtosis_new_lem kurtosis_combine_lem _
-
 -- ---- two arrays
 -- a trace that neither number fits is accepted
 accepted : (t : Trace) → too_many (length t.readings) ≡ false → wrong_map (length t.readings) t.mapped t.map ≡ false
@@ -356,12 +323,8 @@ pair_accepted x y e =
     let maps = neither _ _ (not_refused_lem 3 _ (lit≤ tt) a.1) in
     (accepted x many.0 maps.0, accepted y many.1 maps.1)
 
--- the valid readings of both
-abbrev both_of : Trace → Trace → List (Float × Float)
-both_of x y = valid_pairs x.mapped x.map x.readings y.mapped y.map y.readings
-
 pairs_kept_lem : (rust : Rust) (x y : Trace) → trace_refusal x ≡ 0 → trace_refusal y ≡ 0
-    → filter_map both_some (zip (options_of (array_of rust x)) (options_of (array_of rust y))) ≡ both_of x y
+    → filter_map both_some (zip (options_of (array_of rust x)) (options_of (array_of rust y))) ≡ pairs_of x y
 unfolding both_at
 pairs_kept_lem rust x y e g =
     let v = valid_at x.mapped x.map in
@@ -374,7 +337,7 @@ pairs_kept_lem rust x y e g =
 
 pairs_all : (x y : Trace) → length x.readings ≡ length y.readings
     → NoneMissing (length x.readings) (valid_at x.mapped x.map) → NoneMissing (length y.readings) (valid_at y.mapped y.map)
-    → both_of x y ≡ zip x.readings y.readings
+    → pairs_of x y ≡ zip x.readings y.readings
 unfolding both_at
 pairs_all x y l m n =
     let z = length-zip x.readings y.readings l in
@@ -382,13 +345,14 @@ pairs_all x y l m n =
     (λ i h. rw (m i (omega arith), n i (omega arith)))
 
 -- of any state
-pair_arrays_lem : {S : Type 0} (new : List Float → List Float → S) (combine : S → S → S) (empty : S) (rust : Rust) (x y : Trace)
-    → paired_refusal x y ≡ 0
-    → pair_arrays new combine empty (array_of rust x) (array_of rust y) ≡ in_chunks (of_pairs new) combine empty (both_of x y)
+pub pair_arrays_lem : {S : Type 0} (empty : S) (new : List Float → List Float → S) {new' : List (Float × Float) → S} {combine combine' : S → S → S}
+    → ((ps : List (Float × Float)) → of_pairs new ps ≡ new' ps) → combine ≡ combine' → (rust : Rust) (x y : Trace) → paired_refusal x y ≡ 0
+    → pair_arrays new combine empty (array_of rust x) (array_of rust y) ≡ in_chunks new' combine' empty (pairs_of x y)
 unfolding pair_arrays
-pair_arrays_lem {S} new combine empty rust x y e =
+pair_arrays_lem {S} empty new {new'} {combine} {combine'} n c rust x y e =
     by (has_nulls (array_of rust x) || has_nulls (array_of rust y)) (neither (has_nulls (array_of rust x)) (has_nulls (array_of rust y)))
     (pair_accepted x y e)
+    ∙ chunks_same (of_pairs new) new' combine combine' empty n c (pairs_of x y)
   where
     driven : List (Float × Float) → S
     driven = chunk_as_float_binary (combine_new_binary new combine) empty
@@ -397,7 +361,7 @@ pair_arrays_lem {S} new combine empty rust x y e =
         → (trace_refusal x ≡ 0) × (trace_refusal y ≡ 0)
         → cond b (driven (filter_map both_some (zip (options_of (array_of rust x)) (options_of (array_of rust y)))))
         (driven (zip x.readings y.readings))
-        ≡ in_chunks (of_pairs new) combine empty (both_of x y)
+        ≡ in_chunks (of_pairs new) combine empty (pairs_of x y)
     by true f a = source-in-pairs new combine empty _ ∙ ap (in_chunks (of_pairs new) combine empty) (pairs_kept_lem rust x y a.0 a.1)
     by false f a =
         let n = f refl in
@@ -405,22 +369,6 @@ pair_arrays_lem {S} new combine empty rust x y e =
         source-in-pairs new combine empty _
         ∙ ap (in_chunks (of_pairs new) combine empty)
         (sym (pairs_all x y l ((has_nulls_lem rust x a.0).0 n.0) ((has_nulls_lem rust y a.1).0 n.1)))
-
-pub cov_array : (rust : Rust) (x y : Trace)
-    → paired_refusal x y ≡ 0
-    → pair_arrays CovState-new CovState-combine CovState-default (array_of rust x) (array_of rust y)
-    ≡ cov_whole (valid_pairs x.mapped x.map x.readings y.mapped y.map y.readings)
-cov_array rust x y e =
-    pair_arrays_lem CovState-new CovState-combine CovState-default rust x y e
-    ∙ chunks_same (of_pairs CovState-new) cov_new CovState-combine cov_combine cov_empty cov_new_lem cov_combine_lem _
-
-pub pearson_array : (rust : Rust) (x y : Trace)
-    → paired_refusal x y ≡ 0
-    → pair_arrays PearsonState-new PearsonState-combine PearsonState-default (array_of rust x) (array_of rust y)
-    ≡ pearson_whole (valid_pairs x.mapped x.map x.readings y.mapped y.map y.readings)
-pearson_array rust x y e =
-    pair_arrays_lem PearsonState-new PearsonState-combine PearsonState-default rust x y e
-    ∙ chunks_same (of_pairs PearsonState-new) pearson_new PearsonState-combine pearson_combine pearson_empty pearson_new_lem pearson_combine_lem _
 
 -- ---- ranges
 -- a range inside the trace
@@ -472,24 +420,15 @@ module _ {S : Type 0} (from_iter : List Float → ℕ → S) (rust : Rust) (vali
       ∙ by_bits start (take len (drop start values))
 
 -- of any state
-range_array : {S : Type 0} (from_iter : List Float → ℕ → S) (rust : Rust) (t : Trace) (start len : ℕ)
+pub range_array : {S : Type 0} (from_iter : List Float → ℕ → S) {new : List Float → S}
+    → ((l : List Float) → from_iter l (length l) ≡ new l) → (rust : Rust) (t : Trace) (start len : ℕ)
     → range_refusal (length t.readings) t.mapped t.map start len ≡ 0
-    → from_array from_iter rust (array_of rust t) start len
-    ≡ from_iter (range_readings t.mapped t.map t.readings start len)
-    (length (range_readings t.mapped t.map t.readings start len))
+    → from_array from_iter rust (array_of rust t) start len ≡ new (readings_in t start len)
 unfolding from_array
-range_array from_iter rust t start len e =
+range_array from_iter n rust t start len e =
     let h = range_fits_lem (length t.readings) t.mapped t.map start len _ refl e in
     let v = validity_of rust t (none_of _ _ e).0 in
     let o = with_unset (Option.map (sliced start len) (array_of rust t).validity) in
     ap (λ (l : List Float). from_range from_iter rust l o) (part_is_lem rust t.readings start len h)
     ∙ by-validity from_iter rust (valid_at t.mapped t.map) start len t.readings (array_of rust t).validity v h
-
-pub skew_range_lem : (rust : Rust) (t : Trace) (start len : ℕ) → range_refusal (length t.readings) t.mapped t.map start len ≡ 0
-    → from_array SkewState-from_iter rust (array_of rust t) start len ≡ skew_new (range_readings t.mapped t.map t.readings start len)
-skew_range_lem rust t start len e = range_array SkewState-from_iter rust t start len e ∙ skew_new_lem _
-
-pub kurtosis_range_lem : (rust : Rust) (t : Trace) (start len : ℕ) → range_refusal (length t.readings) t.mapped t.map start len ≡ 0
-    → from_array KurtosisState-from_iter rust (array_of rust t) start len
-    ≡ kurtosis_new (range_readings t.mapped t.map t.readings start len)
-kurtosis_range_lem rust t start len e = range_array KurtosisState-from_iter rust t start len e ∙ kurtosis_new_lem _
+    ∙ n (readings_in t start len)

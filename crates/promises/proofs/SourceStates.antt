@@ -8,26 +8,25 @@ use lib.Dec.{eqb-suc-zero}
 use lib.ListN.{length, length-map}
 use lib.Ieee.{Float}
 use Rattle.float.specs.Operators.{◌⊕◌, ◌⊗◌, ◌⊘◌, zero64, one64, of_nat64}
-use Rattle.moment.specs.declared.Figure.{Figure}
 use Rattle.moment.specs.declared.var_state.VarState.{VarState}
 use Rattle.moment.specs.declared.cov_state.CovState.{CovState}
 use Rattle.moment.specs.declared.pearson_state.PearsonState.{PearsonState}
 use Rattle.moment.specs.declared.skew_state.SkewState.{SkewState}
 use Rattle.moment.specs.declared.kurtosis_state.KurtosisState.{KurtosisState}
 use Rattle.moment.specs.Sums.{sum_of, first_of, second_of, square, cube, fourth, deviation_product}
-use Rattle.moment.specs.Var.{mean_of, var_new, var_clear, var_insert, var_combine, var_finalize}
-use Rattle.moment.specs.Cov.{cov_empty, cov_new, cov_insert, cov_combine, cov_finalize}
-use Rattle.moment.specs.Pearson.{square_x, square_y, pearson_empty, pearson_about, pearson_new, pearson_insert, pearson_combine, pearson_finalize}
-use Rattle.moment.specs.Skew.{skew_new, skew_clear, skew_insert, skew_combine, skew_biased, skew_finalize}
-use Rattle.moment.specs.Kurtosis.{kurtosis_new, kurtosis_clear, kurtosis_insert, kurtosis_combine, kurtosis_biased, kurtosis_finalize}
+use Rattle.moment.specs.Var.{mean_of, var_new, var_clear, var_combine}
+use Rattle.moment.specs.Cov.{cov_empty, cov_new, cov_combine}
+use Rattle.moment.specs.Pearson.{square_x, square_y, pearson_empty, pearson_about, pearson_new, pearson_combine}
+use Rattle.moment.specs.Skew.{skew_new, skew_clear, skew_combine}
+use Rattle.moment.specs.Kurtosis.{kurtosis_new, kurtosis_clear, kurtosis_combine, kurtosis_biased, kurtosis_finalize}
 use Rattle.promises.specs.SourceStates.{is_empty, alg_add, alg_sum, add_products, add_cubes, add_fourths, squared_from, product_from}
-use Rattle.promises.specs.SourceStates.{VarState-new, VarState-clear_zero_weight_nan, VarState-insert_one}
-use Rattle.promises.specs.SourceStates.{VarState-combine, VarState-finalize}
-use Rattle.promises.specs.SourceStates.{CovState-new, CovState-insert_one, CovState-combine, CovState-finalize}
-use Rattle.promises.specs.SourceStates.{PearsonState-new, PearsonState-insert_one, PearsonState-combine, PearsonState-finalize}
-use Rattle.promises.specs.SourceStates.{SkewState-from_iter, SkewState-clear_zero_weight_nan, SkewState-insert_one}
-use Rattle.promises.specs.SourceStates.{SkewState-combine, SkewState-finalize}
-use Rattle.promises.specs.SourceStates.{KurtosisState-from_iter, KurtosisState-clear_zero_weight_nan, KurtosisState-insert_one}
+use Rattle.promises.specs.SourceStates.{VarState-new, VarState-clear_zero_weight_nan}
+use Rattle.promises.specs.SourceStates.{VarState-combine}
+use Rattle.promises.specs.SourceStates.{CovState-new, CovState-combine}
+use Rattle.promises.specs.SourceStates.{PearsonState-new, PearsonState-combine}
+use Rattle.promises.specs.SourceStates.{SkewState-from_iter, SkewState-clear_zero_weight_nan}
+use Rattle.promises.specs.SourceStates.{SkewState-combine}
+use Rattle.promises.specs.SourceStates.{KurtosisState-from_iter, KurtosisState-clear_zero_weight_nan}
 use Rattle.promises.specs.SourceStates.{KurtosisState-combine, KurtosisState-finalize}
 
 -- ---- loops
@@ -48,23 +47,34 @@ unfolding zip zip_with
 zip_members [] = refl
 zip_members (p ∷ ps) = ap (λ (l : List (Float × Float)). p ∷ l) (zip_members ps)
 
+-- a state that both make of how many pairs there are, the sums of their members, and the pairs
+module _ {S : Type 0} (of : ℕ → Float → Float → List (Float × Float) → S) (empty : S) where
+  alike : (n n' : ℕ) (x x' y y' : Float) (ps ps' : List (Float × Float)) → n ≡ n' → x ≡ x' → y ≡ y' → ps ≡ ps'
+      → of n x y ps ≡ of n' x' y' ps'
+  alike n n' x x' y y' ps ps' e f g h = cc
+
+  pair-new : (source : List Float → List Float → S) (new : List (Float × Float) → S)
+      → ((x y : List Float) → source x y ≡ cond (is_empty x) empty (of (length x) (alg_sum x) (alg_sum y) (zip x y)))
+      → empty ≡ new []
+      → ((p : Float × Float) (ps : List (Float × Float)) →
+      let all = p ∷ ps in of (length all) (sum_of first_of all) (sum_of second_of all) all ≡ new all)
+      → (ps : List (Float × Float)) → source (map first_of ps) (map second_of ps) ≡ new ps
+  pair-new source new source_is none ours [] = source_is [] [] ∙ none
+  pair-new source new source_is none ours (p ∷ ps) =
+      let all = p ∷ ps in
+      source_is (map first_of all) (map second_of all)
+      ∙ alike _ _ _ _ _ _ _ _ (length-map all first_of) (sum-map first_of all) (sum-map second_of all) (zip_members all)
+      ∙ ours p ps
+
 -- ---- `VarState`
 pub var_new_lem : (x : List Float) → VarState-new x ≡ var_new x
 unfolding VarState-new var_new
 var_new_lem [] = refl
 var_new_lem (x ∷ xs) = rw (eqb-suc-zero (length xs), sum-map (squared_from (mean_of (x ∷ xs))) (x ∷ xs))
 
-pub var_insert_lem : ◌≡◌ {A = VarState → Float → VarState} VarState-insert_one var_insert
-unfolding VarState-insert_one VarState-clear_zero_weight_nan var_clear
-var_insert_lem = refl
-
 pub var_combine_lem : ◌≡◌ {A = VarState → VarState → VarState} VarState-combine var_combine
 unfolding VarState-combine VarState-clear_zero_weight_nan var_combine var_clear
 var_combine_lem = refl
-
-pub var_finalize_lem : ◌≡◌ {A = VarState → ℕ → Figure} VarState-finalize var_finalize
-unfolding VarState-finalize var_finalize
-var_finalize_lem = refl
 
 -- ---- `CovState`
 -- a state from how many pairs there are, the sums of their members, and the pairs
@@ -83,31 +93,13 @@ cov_ours : (p : Float × Float) (ps : List (Float × Float)) →
 unfolding cov_new cov_of
 cov_ours p ps = rw (eqb-suc-zero (length ps))
 
-cov_alike : (n n' : ℕ) (x x' y y' : Float) (ps ps' : List (Float × Float)) → n ≡ n' → x ≡ x' → y ≡ y' → ps ≡ ps' → cov_of n x y ps ≡ cov_of n' x' y' ps'
-cov_alike n n' x x' y y' ps ps' e f g h = cc
-
 pub cov_new_lem : (ps : List (Float × Float)) → CovState-new (map first_of ps) (map second_of ps) ≡ cov_new ps
-unfolding CovState-new cov_new zip zip_with
-cov_new_lem [] = refl
-cov_new_lem (p ∷ ps) =
-    let all = p ∷ ps in
-    let x = map first_of all in
-    let y = map second_of all in
-    cov_source x y
-    ∙ cov_alike (length x) (length all) (alg_sum x) (sum_of first_of all) (alg_sum y) (sum_of second_of all) (zip x y) all (length-map all first_of) (sum-map first_of all) (sum-map second_of all) (zip_members all)
-    ∙ cov_ours p ps
-
-pub cov_insert_lem : ◌≡◌ {A = CovState → Float → Float → CovState} CovState-insert_one cov_insert
-unfolding CovState-insert_one
-cov_insert_lem = refl
+unfolding cov_new
+cov_new_lem = pair-new cov_of cov_empty CovState-new cov_new cov_source refl cov_ours
 
 pub cov_combine_lem : ◌≡◌ {A = CovState → CovState → CovState} CovState-combine cov_combine
 unfolding CovState-combine cov_combine
 cov_combine_lem = refl
-
-pub cov_finalize_lem : ◌≡◌ {A = CovState → ℕ → Figure} CovState-finalize cov_finalize
-unfolding CovState-finalize cov_finalize
-cov_finalize_lem = refl
 
 -- ---- `PearsonState`
 -- a state from how many pairs there are, the sums of their members, and the pairs
@@ -131,31 +123,13 @@ pearson_ours : (p : Float × Float) (ps : List (Float × Float)) →
 unfolding pearson_new pearson_of
 pearson_ours p ps = rw (eqb-suc-zero (length ps))
 
-pearson_alike : (n n' : ℕ) (x x' y y' : Float) (ps ps' : List (Float × Float)) → n ≡ n' → x ≡ x' → y ≡ y' → ps ≡ ps' → pearson_of n x y ps ≡ pearson_of n' x' y' ps'
-pearson_alike n n' x x' y y' ps ps' e f g h = cc
-
 pub pearson_new_lem : (ps : List (Float × Float)) → PearsonState-new (map first_of ps) (map second_of ps) ≡ pearson_new ps
-unfolding PearsonState-new pearson_new zip zip_with
-pearson_new_lem [] = refl
-pearson_new_lem (p ∷ ps) =
-    let all = p ∷ ps in
-    let x = map first_of all in
-    let y = map second_of all in
-    pearson_source x y
-    ∙ pearson_alike (length x) (length all) (alg_sum x) (sum_of first_of all) (alg_sum y) (sum_of second_of all) (zip x y) all (length-map all first_of) (sum-map first_of all) (sum-map second_of all) (zip_members all)
-    ∙ pearson_ours p ps
-
-pub pearson_insert_lem : ◌≡◌ {A = PearsonState → Float → Float → PearsonState} PearsonState-insert_one pearson_insert
-unfolding PearsonState-insert_one
-pearson_insert_lem = refl
+unfolding pearson_new
+pearson_new_lem = pair-new pearson_of pearson_empty PearsonState-new pearson_new pearson_source refl pearson_ours
 
 pub pearson_combine_lem : ◌≡◌ {A = PearsonState → PearsonState → PearsonState} PearsonState-combine pearson_combine
 unfolding PearsonState-combine pearson_combine
 pearson_combine_lem = refl
-
-pub pearson_finalize_lem : ◌≡◌ {A = PearsonState → Float} PearsonState-finalize pearson_finalize
-unfolding PearsonState-finalize pearson_finalize
-pearson_finalize_lem = refl
 
 -- ---- `SkewState`
 pub skew_new_lem : (xs : List Float) → SkewState-from_iter xs (length xs) ≡ skew_new xs
@@ -168,17 +142,9 @@ skew_new_lem xs =
       kept_sum (λ s. s.1) (add_cubes mean) (cube mean) (λ s x. refl) none xs,
     )
 
-pub skew_insert_lem : ◌≡◌ {A = SkewState → Float → SkewState} SkewState-insert_one skew_insert
-unfolding SkewState-insert_one SkewState-clear_zero_weight_nan skew_clear
-skew_insert_lem = refl
-
 pub skew_combine_lem : ◌≡◌ {A = SkewState → SkewState → SkewState} SkewState-combine skew_combine
 unfolding SkewState-combine SkewState-clear_zero_weight_nan skew_combine skew_clear
 skew_combine_lem = refl
-
-pub skew_finalize_lem : ◌≡◌ {A = SkewState → Bool → Figure} SkewState-finalize skew_finalize
-unfolding SkewState-finalize skew_finalize skew_biased
-skew_finalize_lem = refl
 
 -- ---- `KurtosisState`
 pub kurtosis_new_lem : (xs : List Float) → KurtosisState-from_iter xs (length xs) ≡ kurtosis_new xs
@@ -191,10 +157,6 @@ kurtosis_new_lem xs =
       kept_sum (λ s. s.1) (add_fourths mean) (cube mean) (λ s x. refl) none xs,
       kept_sum (λ s. s.2) (add_fourths mean) (fourth mean) (λ s x. refl) none xs,
     )
-
-pub kurtosis_insert_lem : ◌≡◌ {A = KurtosisState → Float → KurtosisState} KurtosisState-insert_one kurtosis_insert
-unfolding KurtosisState-insert_one KurtosisState-clear_zero_weight_nan kurtosis_clear
-kurtosis_insert_lem = refl
 
 pub kurtosis_combine_lem : ◌≡◌ {A = KurtosisState → KurtosisState → KurtosisState} KurtosisState-combine kurtosis_combine
 unfolding KurtosisState-combine KurtosisState-clear_zero_weight_nan kurtosis_combine kurtosis_clear

@@ -1,11 +1,12 @@
--- A list by its values from a place on: its length, its parts, and that from place 0 it is a table. Assumes nothing.
-use Prim.Native.Nat.{ℕ, zero, suc, ◌+◌, ◌-◌, ◌≤◌}
-use mathlib.Core.Path.{◌≡◌, refl, ap, ◌∙◌}
+-- A list by its values from a place on: its length, its parts, that from place 0 it is a table, and that a table has every place. Assumes nothing.
+use Prim.Native.Nat.{ℕ, zero, suc, ◌+◌, ◌-◌, ◌≤◌, ◌<◌}
+use mathlib.Core.Path.{◌≡◌, refl, sym, ap, ◌∙◌}
 use mathlib.Core.List.{List, [], ◌∷◌, ◌++◌}
 use native.Mathlib.Nat.{add-zero, zero-add, sub-zero}
 use native.Mathlib.Omega.{arith}
-use lib.ListN.{length, take, drop}
+use lib.ListN.{length, take, drop, get_or}
 use Rattle.float.specs.Tables.{table}
+use Rattle.float.proofs.Tables.{table-place}
 
 -- the k values of f from i on
 unfoldable pub span : {A : Type 0} → (ℕ → A) → ℕ → ℕ → List A
@@ -45,3 +46,8 @@ span_drop f (suc a) (suc k) i h =
 -- a part of the values from place 0 on
 pub span_part : {A : Type 0} (f : ℕ → A) (n a k : ℕ) → a + k ≤ n → take k (drop a (span f n 0)) ≡ span f k a
 span_part f n a k h = rw (span_drop f a n 0 (omega arith), zero-add) (span_take f k (n - a) a (omega arith))
+
+-- what two tables have alike their functions have at each place
+pub each_place : {A : Type 0} (f g : ℕ → A) (n : ℕ) → table f n ≡ table g n → (i : ℕ) → i < n → f i ≡ g i
+each_place f g n e i h =
+    sym (table-place f n i (f i) h) ∙ ap (λ (l : List _). get_or l i (f i)) e ∙ table-place g n i (f i) h

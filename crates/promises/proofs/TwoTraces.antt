@@ -32,7 +32,7 @@ use Rattle.promises.specs.DemandThree.{IsSetting}
 use Rattle.promises.specs.TwoTraces.{PairFigureIn, WherePairs, PairStatement}
 use Rattle.promises.proofs.Accepted.{known}
 use Rattle.promises.proofs.TwoCalls.{alike_same}
-use Rattle.promises.proofs.FigureRows.{ByWeight, figure-row}
+use Rattle.promises.proofs.FigureRows.{first_answer, ByWeight, figure-row}
 
 -- ---- a state's weight counts pairs
 module _ {S : Type 0} (weight : S → Float) (empty : S) (new : List (Float × Float) → S) (combine : S → S → S)
@@ -82,12 +82,7 @@ figure_in : (M : Moment (Float × Float)) (final : M.State → Figure) (few : �
     → answers_in l.outputs.answers k ≡ answers_at (figures_by M (final ∷ []) (series_of Pairs t) min_periods p) k
     → PairFigureIn t p min_periods few k l
 figure_in M final few by t g p min_periods widest plan l k h stands =
-    record {
-      answer = _;
-      others = [];
-      stands = stands;
-      row = figure-row Pairs M final few by t p min_periods widest plan (few_places Pairs t g) k h;
-    }
+    first_answer _ [] stands (figure-row Pairs M final few by t p min_periods widest plan (few_places Pairs t g) k h)
 
 where_pairs : (a : Statistic) → IsSetting a → (t : Given (kind_of a)) (p : Plan) (min_periods : ℕ) (l : Lent)
     → AcceptedCall (query p min_periods a) t l

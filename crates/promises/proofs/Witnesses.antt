@@ -40,6 +40,8 @@ use Rattle.promises.specs.Calls.{figures_in, AcceptedCall, plan_call, host_call,
 use Rattle.promises.specs.DemandTwo.{RowsEqual, FixedRowsEqual, WeightedRowsEqual, CorrectRoot}
 use Rattle.promises.specs.DemandThree.{Alike, Agree, TooFew, SomeNotFinite, VarianceRow, VarianceIn, Yielded}
 use Rattle.promises.specs.Table.{variance_by, p7, trace7, p8, trace8, p9, trace9}
+use Rattle.promises.proofs.FigureRows.{missing_row}
+use Rattle.promises.proofs.Spans.{each_place}
 use Rattle.promises.proofs.DemandTwo.{demand_two}
 use Rattle.promises.proofs.TwoCalls.{SameMoves, both_or_neither, none_shorter, SameRow, same_moves_same_row}
 use Rattle.promises.proofs.DemandThree.{demand_three}
@@ -345,12 +347,8 @@ unfolding table refusal ◌or_else◌ wrong_map plan_refusal filled kept of_bits
 other_mapped_accepted = record { number_is = refl; left = leaves refl refl refl refl refl }
 
 places_alike : (i : ℕ) → i < 4 → valid_at true (13 ∷ []) i ≡ valid_at true (253 ∷ 0 ∷ 255 ∷ []) i
-unfolding valid_at
-places_alike zero h = refl
-places_alike (suc zero) h = refl
-places_alike (suc (suc zero)) h = refl
-places_alike (suc (suc (suc zero))) h = refl
-places_alike (suc (suc (suc (suc i)))) h = absurd (omega arith)
+unfolding table valid_at
+places_alike = each_place _ _ 4 refl
 
 -- `Alike`, with maps of different length
 pub alike_mapped : Alike Readings mapped other_mapped
@@ -472,12 +470,8 @@ no_map_accepted = record { number_is = refl; left = leaves refl refl refl refl r
 
 -- they miss the same places, namely none
 ones_places : (i : ℕ) → i < 4 → valid_at true (15 ∷ []) i ≡ valid_at false [] i
-unfolding valid_at
-ones_places zero h = refl
-ones_places (suc zero) h = refl
-ones_places (suc (suc zero)) h = refl
-ones_places (suc (suc (suc zero))) h = refl
-ones_places (suc (suc (suc (suc i)))) h = absurd (omega arith)
+unfolding table valid_at
+ones_places = each_place _ _ 4 refl
 
 -- without "both by a map or both without one": the traces hold the same readings and miss no place, and row 2's answers have other bits
 pub ones_are_a_map :
@@ -577,11 +571,7 @@ pub ddof_row : VarianceRow trace7 3 4 1 1 (answer zero64 0)
 unfolding entries_from valid_at
 ddof_row =
     record {
-      figure = record {
-        byte-is = inl refl;
-        missing = (λ z. inl (omega arith), λ few. refl);
-        not_finite = λ b. absurd (omega arith);
-      };
+      figure = missing_row (inl (omega arith));
       not-below = λ b. absurd (omega arith);
     }
 
@@ -590,11 +580,7 @@ pub minimum_row : VarianceRow trace9 0 3 3 1 (answer zero64 0)
 unfolding entries_from valid_at
 minimum_row =
     record {
-      figure = record {
-        byte-is = inl refl;
-        missing = (λ z. inr (omega arith), λ few. refl);
-        not_finite = λ b. absurd (omega arith);
-      };
+      figure = missing_row (inr (omega arith));
       not-below = λ b. absurd (omega arith);
     }
 

@@ -2,7 +2,10 @@
 -- A contract is on all inputs; a call is accepted where its number is 0. Assumes nothing.
 use Rattle.std.specs.Prelude.{ℕ, Bool, List, Float, length, take, drop}
 use Rattle.trace.specs.Trace.{Trace, valid_readings, valid_pairs}
+use Rattle.moment.specs.Skew.{skew_new}
+use Rattle.moment.specs.Kurtosis.{kurtosis_new}
 use Rattle.moment.specs.Arrays.{var_list, cov_list, pearson_list, skew_list, kurtosis_list, range_readings}
+use Rattle.moment.specs.Arrays.{var_whole, cov_whole, pearson_whole, skew_whole, kurtosis_whole}
 use Rattle.moment.specs.Arrays.{var_answer, cov_answer, pearson_answer, skew_answer, skew_range, kurtosis_answer, kurtosis_range}
 use Rattle.window.specs.Given.{Given}
 use Rattle.window.specs.Outputs.{Lent, Answer, answers_in}
@@ -12,34 +15,26 @@ use Rattle.rolling.specs.Fixed.{fixed_query, CalledFixed}
 use Rattle.moments.specs.HostCall.{Host, decoded_of, ReadingLists, CalledBytes}
 use Rattle.moments.specs.Results.{StateResult}
 
--- ---- whole arrays and ranges: `before` and `after` are the members that the lent state holds, r is what the call answers
--- `moments_var`
-abbrev pub CallsVar : Trace → List Float → List Float → ℕ → Type 0
-CallsVar t before after r = StateResult var_list (var_answer t) before r after
+-- ---- whole arrays, pairs and ranges
+-- the calls that hand out a state, each named as the entry is
+pub data ArrayCall : Type 0 where
+  of_var : Trace → ArrayCall
+  of_skew : Trace → ArrayCall
+  of_kurtosis : Trace → ArrayCall
+  of_cov : Trace → Trace → ArrayCall
+  of_pearson : Trace → Trace → ArrayCall
+  of_skew_range : Trace → ℕ → ℕ → ArrayCall
+  of_kurtosis_range : Trace → ℕ → ℕ → ArrayCall
 
--- `moments_skew`
-abbrev pub CallsSkew : Trace → List Float → List Float → ℕ → Type 0
-CallsSkew t before after r = StateResult skew_list (skew_answer t) before r after
-
--- `moments_kurtosis`
-abbrev pub CallsKurtosis : Trace → List Float → List Float → ℕ → Type 0
-CallsKurtosis t before after r = StateResult kurtosis_list (kurtosis_answer t) before r after
-
--- `moments_cov`
-abbrev pub CallsCov : Trace → Trace → List Float → List Float → ℕ → Type 0
-CallsCov x y before after r = StateResult cov_list (cov_answer x y) before r after
-
--- `moments_pearson_corr`
-abbrev pub CallsPearson : Trace → Trace → List Float → List Float → ℕ → Type 0
-CallsPearson x y before after r = StateResult pearson_list (pearson_answer x y) before r after
-
--- `moments_skew_range`
-abbrev pub CallsSkewRange : Trace → ℕ → ℕ → List Float → List Float → ℕ → Type 0
-CallsSkewRange t start len before after r = StateResult skew_list (skew_range t start len) before r after
-
--- `moments_kurtosis_range`
-abbrev pub CallsKurtosisRange : Trace → ℕ → ℕ → List Float → List Float → ℕ → Type 0
-CallsKurtosisRange t start len before after r = StateResult kurtosis_list (kurtosis_range t start len) before r after
+-- what each does: `before` and `after` are the members that the lent state holds, r is what the call answers
+abbrev pub CallsArray : ArrayCall → List Float → List Float → ℕ → Type 0
+CallsArray (of_var t) before after r = StateResult var_list (var_answer t) before r after
+CallsArray (of_skew t) before after r = StateResult skew_list (skew_answer t) before r after
+CallsArray (of_kurtosis t) before after r = StateResult kurtosis_list (kurtosis_answer t) before r after
+CallsArray (of_cov x y) before after r = StateResult cov_list (cov_answer x y) before r after
+CallsArray (of_pearson x y) before after r = StateResult pearson_list (pearson_answer x y) before r after
+CallsArray (of_skew_range t start len) before after r = StateResult skew_list (skew_range t start len) before r after
+CallsArray (of_kurtosis_range t start len) before after r = StateResult kurtosis_list (kurtosis_range t start len) before r after
 
 -- the valid readings of a trace and of a range of it, and the valid pairs of two traces
 abbrev pub readings_of : Trace → List Float
@@ -50,6 +45,16 @@ readings_in t start len = range_readings t.mapped t.map t.readings start len
 
 abbrev pub pairs_of : Trace → Trace → List (Float × Float)
 pairs_of x y = valid_pairs x.mapped x.map x.readings y.mapped y.map y.readings
+
+-- the members of the state that an accepted one hands out, by document 01
+abbrev pub members_of : ArrayCall → List Float
+members_of (of_var t) = var_list (var_whole (readings_of t))
+members_of (of_skew t) = skew_list (skew_whole (readings_of t))
+members_of (of_kurtosis t) = kurtosis_list (kurtosis_whole (readings_of t))
+members_of (of_cov x y) = cov_list (cov_whole (pairs_of x y))
+members_of (of_pearson x y) = pearson_list (pearson_whole (pairs_of x y))
+members_of (of_skew_range t start len) = skew_list (skew_new (readings_in t start len))
+members_of (of_kurtosis_range t start len) = kurtosis_list (kurtosis_new (readings_in t start len))
 
 -- ---- windows
 -- "be it variance, skewness or kurtosis": the figures of one trace, of which document 01 speaks, and whose rows the Rust has

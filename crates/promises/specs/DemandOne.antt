@@ -6,10 +6,6 @@ use Rattle.std.specs.Float.Ieee.{eq}
 use Rattle.float.specs.Operators.{zero64}
 use Rattle.trace.specs.Trace.{Trace, bytes_for}
 use Rattle.moment.specs.declared.Figure.{Figure}
-use Rattle.moment.specs.Skew.{skew_new}
-use Rattle.moment.specs.Kurtosis.{kurtosis_new}
-use Rattle.moment.specs.Arrays.{var_list, cov_list, pearson_list, skew_list, kurtosis_list}
-use Rattle.moment.specs.Arrays.{var_whole, cov_whole, pearson_whole, skew_whole, kurtosis_whole}
 use Rattle.plan.specs.Plan.{Plan, rows, row_start, row_end}
 use Rattle.plan.specs.Refusals.{needed}
 use Rattle.window.specs.Given.{Kind, Readings, Pairs, Given, places_of}
@@ -20,8 +16,8 @@ use Rattle.rolling.specs.Fixed.{fixed_query, CalledFixed}
 use Rattle.weighted.specs.Weights.{total_of, weighted_at, CalledWeights}
 use Rattle.moments.specs.HostCall.{ByteTrace, reading_count, Host, decoded_of, ReadingLists, decoded_lists, CalledBytes}
 use Rattle.moments.specs.Results.{FigureResult}
-use Rattle.promises.specs.Calls.{CallsVar, CallsSkew, CallsKurtosis, CallsCov, CallsPearson, CallsSkewRange, CallsKurtosisRange}
-use Rattle.promises.specs.Calls.{readings_of, pairs_of, readings_in}
+use Rattle.promises.specs.Calls.{ArrayCall, of_var, of_skew, of_kurtosis, of_cov, of_pearson, of_skew_range, of_kurtosis_range}
+use Rattle.promises.specs.Calls.{CallsArray, members_of}
 
 -- ---- when a number applies
 -- "The sender of a trace: 1 more than 16,777,216 readings"
@@ -138,6 +134,16 @@ range_checks t start len =
     ∷ 11 when RangePastTrace (length t.readings) start len
     ∷ []
 
+-- of each call that hands out a state
+abbrev pub checks_of : ArrayCall → List Check
+checks_of (of_var t) = trace_checks t
+checks_of (of_skew t) = trace_checks t
+checks_of (of_kurtosis t) = trace_checks t
+checks_of (of_cov x y) = pair_checks x y
+checks_of (of_pearson x y) = pair_checks x y
+checks_of (of_skew_range t start len) = range_checks t start len
+checks_of (of_kurtosis_range t start len) = range_checks t start len
+
 -- what a window is given, by the kind of its entries
 abbrev pub given_checks : (kind : Kind) → Given kind → List Check
 given_checks Readings t = trace_checks t
@@ -238,23 +244,9 @@ pub record HostLeft (q : Query) (h : Host (kind_of q.statistic)) (r₀ r : Readi
 
 -- Demand 1, for every entry: of a call of each kind, whatever it is given and lent
 pub record DemandOne : Type 1 where
-  -- whole arrays
-  pub var : (t : Trace) (before after : List Float) (r : ℕ) → CallsVar t before after r
-      → Answered (trace_checks t) r before after (after ≡ var_list (var_whole (readings_of t)))
-  pub skew : (t : Trace) (before after : List Float) (r : ℕ) → CallsSkew t before after r
-      → Answered (trace_checks t) r before after (after ≡ skew_list (skew_whole (readings_of t)))
-  pub kurtosis : (t : Trace) (before after : List Float) (r : ℕ) → CallsKurtosis t before after r
-      → Answered (trace_checks t) r before after (after ≡ kurtosis_list (kurtosis_whole (readings_of t)))
-  -- pairs
-  pub cov : (x y : Trace) (before after : List Float) (r : ℕ) → CallsCov x y before after r
-      → Answered (pair_checks x y) r before after (after ≡ cov_list (cov_whole (pairs_of x y)))
-  pub pearson : (x y : Trace) (before after : List Float) (r : ℕ) → CallsPearson x y before after r
-      → Answered (pair_checks x y) r before after (after ≡ pearson_list (pearson_whole (pairs_of x y)))
-  -- ranges
-  pub skew_range : (t : Trace) (start len : ℕ) (before after : List Float) (r : ℕ) → CallsSkewRange t start len before after r
-      → Answered (range_checks t start len) r before after (after ≡ skew_list (skew_new (readings_in t start len)))
-  pub kurtosis_range : (t : Trace) (start len : ℕ) (before after : List Float) (r : ℕ) → CallsKurtosisRange t start len before after r
-      → Answered (range_checks t start len) r before after (after ≡ kurtosis_list (kurtosis_new (readings_in t start len)))
+  -- whole arrays, pairs and ranges
+  pub arrays : (a : ArrayCall) (before after : List Float) (r : ℕ) → CallsArray a before after r
+      → Answered (checks_of a) r before after (after ≡ members_of a)
   -- plans, the trace or the two traces as doubles
   pub plans : (q : Query) (t : GivenTo q) (l₀ l : Lent) (r : ℕ) → Called q t l₀ l r → Answered (plan_checks q t l₀) r l₀ l (Left q t l₀ l 0)
   -- host calls, the trace or the two traces as bytes

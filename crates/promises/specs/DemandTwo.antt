@@ -41,7 +41,8 @@ use Rattle.promises.specs.SourceArrays.{array_of, whole_array, pair_arrays, from
 use Rattle.promises.specs.SourceRows.{plan_row, row_of}
 use Rattle.promises.specs.SourceFixed.{fixed_row}
 use Rattle.promises.specs.SourceWeights.{rolling_var_weights}
-use Rattle.promises.specs.Calls.{CallsVar, CallsSkew, CallsKurtosis, CallsCov, CallsPearson, CallsSkewRange, CallsKurtosisRange}
+use Rattle.promises.specs.Calls.{ArrayCall, of_var, of_skew, of_kurtosis, of_cov, of_pearson, of_skew_range, of_kurtosis_range}
+use Rattle.promises.specs.Calls.{CallsArray}
 use Rattle.promises.specs.Calls.{OfOneTrace, figures_in, AcceptedCall}
 
 -- ---- states
@@ -68,46 +69,17 @@ pub record StatesEqual : Type 0 where
       × (kurtosis_combine s o ≡ KurtosisState-combine s o)
       × (kurtosis_finalize s fisher bias ≡ KurtosisState-finalize s fisher bias)
 
--- ---- whole arrays and ranges: the members of the Rust's state
--- `var`, `skew` and `kurtosis` of a trace
-abbrev pub source_var : Rust → Trace → List Float
-source_var rust t = var_list (whole_array VarState-new VarState-combine VarState-default (array_of rust t))
-
-abbrev pub source_skew : Rust → Trace → List Float
-source_skew rust t = skew_list (whole_array SkewState-new SkewState-combine SkewState-default (array_of rust t))
-
-abbrev pub source_kurtosis : Rust → Trace → List Float
-source_kurtosis rust t = kurtosis_list (whole_array KurtosisState-new KurtosisState-combine KurtosisState-default (array_of rust t))
-
--- `cov` and `pearson_corr` of two
-abbrev pub source_cov : Rust → Trace → Trace → List Float
-source_cov rust x y = cov_list (pair_arrays CovState-new CovState-combine CovState-default (array_of rust x) (array_of rust y))
-
-abbrev pub source_pearson : Rust → Trace → Trace → List Float
-source_pearson rust x y =
+-- ---- whole arrays, pairs and ranges: the members of the Rust's state
+-- `var`, `skew`, `kurtosis`, `cov`, `pearson_corr`, `SkewState::from_array` and `KurtosisState::from_array`
+abbrev pub source_of : Rust → ArrayCall → List Float
+source_of rust (of_var t) = var_list (whole_array VarState-new VarState-combine VarState-default (array_of rust t))
+source_of rust (of_skew t) = skew_list (whole_array SkewState-new SkewState-combine SkewState-default (array_of rust t))
+source_of rust (of_kurtosis t) = kurtosis_list (whole_array KurtosisState-new KurtosisState-combine KurtosisState-default (array_of rust t))
+source_of rust (of_cov x y) = cov_list (pair_arrays CovState-new CovState-combine CovState-default (array_of rust x) (array_of rust y))
+source_of rust (of_pearson x y) =
     pearson_list (pair_arrays PearsonState-new PearsonState-combine PearsonState-default (array_of rust x) (array_of rust y))
-
--- `SkewState::from_array` and `KurtosisState::from_array`
-abbrev pub source_skew_range : Rust → Trace → ℕ → ℕ → List Float
-source_skew_range rust t start len = skew_list (from_array SkewState-from_iter rust (array_of rust t) start len)
-
-abbrev pub source_kurtosis_range : Rust → Trace → ℕ → ℕ → List Float
-source_kurtosis_range rust t start len = kurtosis_list (from_array KurtosisState-from_iter rust (array_of rust t) start len)
-
--- "every state .. equals the Rust's": what an accepted call leaves
-pub record ArraysEqual : Type 0 where
-  pub var : (rust : Rust) (t : Trace) (before after : List Float) → CallsVar t before after 0 → after ≡ source_var rust t
-  pub skew : (rust : Rust) (t : Trace) (before after : List Float) → CallsSkew t before after 0 → after ≡ source_skew rust t
-  pub kurtosis : (rust : Rust) (t : Trace) (before after : List Float) → CallsKurtosis t before after 0 → after ≡ source_kurtosis rust t
-  pub cov : (rust : Rust) (x y : Trace) (before after : List Float) → CallsCov x y before after 0 → after ≡ source_cov rust x y
-  pub pearson : (rust : Rust) (x y : Trace) (before after : List Float) → CallsPearson x y before after 0 → after ≡ source_pearson rust x y
-
--- the same of ranges
-pub record RangesEqual : Type 0 where
-  pub skew : (rust : Rust) (t : Trace) (start len : ℕ) (before after : List Float) → CallsSkewRange t start len before after 0
-      → after ≡ source_skew_range rust t start len
-  pub kurtosis : (rust : Rust) (t : Trace) (start len : ℕ) (before after : List Float) → CallsKurtosisRange t start len before after 0
-      → after ≡ source_kurtosis_range rust t start len
+source_of rust (of_skew_range t start len) = skew_list (from_array SkewState-from_iter rust (array_of rust t) start len)
+source_of rust (of_kurtosis_range t start len) = kurtosis_list (from_array KurtosisState-from_iter rust (array_of rust t) start len)
 
 -- ---- windows
 -- 001, `VarianceMoment`, `SkewMoment` and `KurtosisMoment`, which forward to the states' own
@@ -121,26 +93,22 @@ abbrev pub kurtosis_moment : Moment Float
 kurtosis_moment =
     record { State = KurtosisState; empty = KurtosisState-default; insert = KurtosisState-insert_one; combine = KurtosisState-combine }
 
--- The rows of the Rust's `rolling_apply_agg_window`, driven with the plan's rows: 003 with a map, 002 without one. It has no window of two
--- traces, so there are no rows of one here.
+-- what a driver gives over the moment of the figure that is asked; of two traces the Rust has no window, so there are no rows here
+abbrev pub driven : ((M : Moment Float) → (M.State → Figure) → Trace → ℕ → Figure) → (a : Statistic) → OfOneTrace a → Given (kind_of a)
+    → List (ℕ → Figure)
+driven row (Variance ddof) one t = row variance_moment (λ s. VarState-finalize s ddof) t ∷ []
+driven row (Skewness bias) one t = row skew_moment (λ s. SkewState-finalize s bias) t ∷ []
+driven row (Kurtosis fisher bias) one t = row kurtosis_moment (λ s. KurtosisState-finalize s fisher bias) t ∷ []
+driven row (Covariance ddof) one t = absurd one
+driven row Correlation one t = absurd one
+
+-- the rows of the Rust's `rolling_apply_agg_window`, driven with the plan's rows: 003 with a map, 002 without one
 abbrev pub source_rows : Rust → (a : Statistic) → OfOneTrace a → Given (kind_of a) → ℕ → Plan → List (ℕ → Figure)
-source_rows rust (Variance ddof) one t min_periods p = plan_row variance_moment rust (λ s. VarState-finalize s ddof) t min_periods p ∷ []
-source_rows rust (Skewness bias) one t min_periods p = plan_row skew_moment rust (λ s. SkewState-finalize s bias) t min_periods p ∷ []
-source_rows rust (Kurtosis fisher bias) one t min_periods p =
-    plan_row kurtosis_moment rust (λ s. KurtosisState-finalize s fisher bias) t min_periods p ∷ []
-source_rows rust (Covariance ddof) one t min_periods p = absurd one
-source_rows rust Correlation one t min_periods p = absurd one
+source_rows rust a one t min_periods p = driven (λ M final x. plan_row M rust final x min_periods p) a one t
 
 -- the rows of the Rust's `rolling_var`, `rolling_skew` or `rolling_kurtosis`: "005 with a map, 004 without"
 abbrev pub source_fixed_rows : Rust → (a : Statistic) → OfOneTrace a → Given (kind_of a) → ℕ → Bool → ℕ → List (ℕ → Figure)
-source_fixed_rows rust (Variance ddof) one t min_periods center size =
-    fixed_row variance_moment rust (λ s. VarState-finalize s ddof) t min_periods center size ∷ []
-source_fixed_rows rust (Skewness bias) one t min_periods center size =
-    fixed_row skew_moment rust (λ s. SkewState-finalize s bias) t min_periods center size ∷ []
-source_fixed_rows rust (Kurtosis fisher bias) one t min_periods center size =
-    fixed_row kurtosis_moment rust (λ s. KurtosisState-finalize s fisher bias) t min_periods center size ∷ []
-source_fixed_rows rust (Covariance ddof) one t min_periods center size = absurd one
-source_fixed_rows rust Correlation one t min_periods center size = absurd one
+source_fixed_rows rust a one t min_periods center size = driven (λ M final x. fixed_row M rust final x min_periods center size) a one t
 
 -- "every .. figure equals the Rust's": of a call that leaves l, every row's answers
 abbrev pub RowsEqual : Rust → (q : Query) → OfOneTrace q.statistic → GivenTo q → Lent → Type 0
@@ -176,8 +144,8 @@ CorrectRoot nan r = r ≡ nan
 -- ---- the demand
 pub record DemandTwo : Type 0 where
   pub states : StatesEqual
-  pub arrays : ArraysEqual
-  pub ranges : RangesEqual
+  -- "every state .. equals the Rust's": what an accepted call leaves
+  pub arrays : (rust : Rust) (a : ArrayCall) (before after : List Float) → CallsArray a before after 0 → after ≡ source_of rust a
   -- plan calls and host calls, and fixed windows as the plan of their bounds: "The oracle drives the Rust window with the plan's rows"
   pub plans : (rust : Rust) (q : Query) (one : OfOneTrace q.statistic) (t : GivenTo q) (l : Lent) → AcceptedCall q t l
       → RowsEqual rust q one t l

@@ -11,7 +11,8 @@ use Rattle.rolling.specs.Calls.{Query, GivenTo, Called}
 use Rattle.rolling.specs.Fixed.{fixed_query, CalledFixed}
 use Rattle.weighted.specs.Weights.{CalledWeights}
 use Rattle.moments.specs.HostCall.{ByteTrace, decoded, Host, ReadingLists, short_lists, CalledBytes}
-use Rattle.promises.specs.Calls.{CallsVar, CallsSkew, CallsKurtosis, CallsCov, CallsPearson, CallsSkewRange, CallsKurtosisRange}
+use Rattle.promises.specs.Calls.{ArrayCall, of_var, of_skew, of_kurtosis, of_cov, of_pearson, of_skew_range, of_kurtosis_range}
+use Rattle.promises.specs.Calls.{CallsArray}
 use Rattle.promises.specs.DemandOne.{MapOfWrongLength}
 
 -- ---- maps that say the same
@@ -31,6 +32,17 @@ pub record SameMaps (t t' : Trace) : Type 0 where
 abbrev pub SameGiven : (kind : Kind) → Given kind → Given kind → Type 0
 SameGiven Readings t t' = SameMaps t t'
 SameGiven Pairs t t' = SameMaps t.x t'.x × SameMaps t.y t'.y
+
+-- .. of a call that hands out a state ..
+pub data SameArrays : ArrayCall → ArrayCall → Type 0 where
+  same_var : {t t' : Trace} → SameMaps t t' → SameArrays (of_var t) (of_var t')
+  same_skew : {t t' : Trace} → SameMaps t t' → SameArrays (of_skew t) (of_skew t')
+  same_kurtosis : {t t' : Trace} → SameMaps t t' → SameArrays (of_kurtosis t) (of_kurtosis t')
+  same_cov : {x y x' y' : Trace} → SameMaps x x' → SameMaps y y' → SameArrays (of_cov x y) (of_cov x' y')
+  same_pearson : {x y x' y' : Trace} → SameMaps x x' → SameMaps y y' → SameArrays (of_pearson x y) (of_pearson x' y')
+  same_skew_range : {t t' : Trace} {start len : ℕ} → SameMaps t t' → SameArrays (of_skew_range t start len) (of_skew_range t' start len)
+  same_kurtosis_range : {t t' : Trace} {start len : ℕ} → SameMaps t t'
+      → SameArrays (of_kurtosis_range t start len) (of_kurtosis_range t' start len)
 
 -- .. of a trace as bytes ..
 abbrev pub SameBytes : ByteTrace → ByteTrace → Type 0
@@ -73,30 +85,13 @@ SameColumns rows cs cs' = (k : ℕ) → k < rows → answers_in cs k ≡ answers
 abbrev pub SameRows : ℕ → (l l' : Lent) → ℕ → ℕ → Type 0
 SameRows rows l l' r r' = SameAnswer r r' (SameColumns rows l.outputs.answers l'.outputs.answers)
 
--- of a call that hands out a state, of one trace: the number and the state, whatever the lent state held before ..
-abbrev pub OfTrace : (Trace → List Float → List Float → ℕ → Type 0) → Type 0
-OfTrace Calls =
-    (t t' : Trace) → SameMaps t t' → (before after before' after' : List Float) (r r' : ℕ) → Calls t before after r
-    → Calls t' before' after' r' → SameAnswer r r' (after ≡ after')
-
--- .. and of two
-abbrev pub OfPair : (Trace → Trace → List Float → List Float → ℕ → Type 0) → Type 0
-OfPair Calls =
-    (x y x' y' : Trace) → SameMaps x x' → SameMaps y y' → (before after before' after' : List Float) (r r' : ℕ)
-    → Calls x y before after r → Calls x' y' before' after' r' → SameAnswer r r' (after ≡ after')
-
 -- ---- the law, for every entry that is lent a map
 pub record MapLaw : Type 0 where
   -- bytes behind a map leave it the same
   pub behind : (t : Trace) (bytes : List ℕ) → LongEnough t → SameMaps t (padded t bytes)
-  -- whole arrays, pairs and ranges
-  pub var : OfTrace CallsVar
-  pub skew : OfTrace CallsSkew
-  pub kurtosis : OfTrace CallsKurtosis
-  pub cov : OfPair CallsCov
-  pub pearson : OfPair CallsPearson
-  pub skew_range : (start len : ℕ) → OfTrace (λ t. CallsSkewRange t start len)
-  pub kurtosis_range : (start len : ℕ) → OfTrace (λ t. CallsKurtosisRange t start len)
+  -- whole arrays, pairs and ranges: the number and the state, whatever the lent state held before
+  pub arrays : {a a' : ArrayCall} → SameArrays a a' → (before after before' after' : List Float) (r r' : ℕ) → CallsArray a before after r
+      → CallsArray a' before' after' r' → SameAnswer r r' (after ≡ after')
   -- plans, the trace or the two traces as doubles
   pub plans : (q : Query) (t t' : GivenTo q) → SameGiven (kind_of q.statistic) t t' → (l₀ l l₀' l' : Lent) → SameRoom l₀ l₀' → (r r' : ℕ)
       → Called q t l₀ l r → Called q t' l₀' l' r' → SameRows (rows q.plan) l l' r r'

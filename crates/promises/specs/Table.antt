@@ -29,7 +29,8 @@ use Rattle.promises.specs.Rust.{some_rust}
 use Rattle.promises.specs.SourceStates.{VarState-default, VarState-insert_one, VarState-combine, VarState-finalize}
 use Rattle.promises.specs.SourceStates.{PearsonState-finalize, SkewState-finalize, KurtosisState-finalize}
 use Rattle.promises.specs.SourceRows.{plan_row}
-use Rattle.promises.specs.DemandTwo.{source_pearson, source_skew_range, source_kurtosis_range, variance_moment}
+use Rattle.promises.specs.Calls.{of_pearson, of_skew_range, of_kurtosis_range}
+use Rattle.promises.specs.DemandTwo.{source_of, variance_moment}
 
 -- two floats of the same bits, where every NaN is one value
 abbrev pub same : Float → Float → Bool
@@ -84,7 +85,7 @@ pearson_gives xs ys r =
     let a = pearson_answer (trace_of xs false []) (trace_of ys false []) in
     eqb (answer_number a) 0
     && same (pearson_finalize (pearson_of (answer_members pearson_list a []))) r
-    && same (PearsonState-finalize (pearson_of (source_pearson some_rust (trace_of xs false []) (trace_of ys false [])))) r
+    && same (PearsonState-finalize (pearson_of (source_of some_rust (of_pearson (trace_of xs false []) (trace_of ys false []))))) r
 
 -- a trace without a map as one range: the call is accepted, and the state that it leaves gives the biased skewness, as the Rust's does
 abbrev pub skew_gives : List Float → Float → Bool
@@ -92,15 +93,16 @@ skew_gives xs x =
     let a = skew_range (trace_of xs false []) 0 (length xs) in
     eqb (answer_number a) 0
     && gives (skew_finalize (skew_of (answer_members skew_list a [])) true) 1 x
-    && gives (SkewState-finalize (skew_of (source_skew_range some_rust (trace_of xs false []) 0 (length xs))) true) 1 x
+    && gives (SkewState-finalize (skew_of (source_of some_rust (of_skew_range (trace_of xs false []) 0 (length xs)))) true) 1 x
 
 -- the same of biased kurtosis
 abbrev pub kurtosis_gives : List Float → Bool → Float → Bool
 kurtosis_gives xs fisher x =
-    let a = kurtosis_range (trace_of xs false []) 0 (length xs) in
+    let t = trace_of xs false [] in
+    let a = kurtosis_range t 0 (length xs) in
     eqb (answer_number a) 0
     && gives (kurtosis_finalize (kurtosis_of (answer_members kurtosis_list a [])) fisher true) 1 x
-    && gives (KurtosisState-finalize (kurtosis_of (source_kurtosis_range some_rust (trace_of xs false []) 0 (length xs))) fisher true) 1 x
+    && gives (KurtosisState-finalize (kurtosis_of (source_of some_rust (of_kurtosis_range t 0 (length xs)))) fisher true) 1 x
 
 -- ---- rows
 -- a variance with ddof 1, of a plan and with a minimum
