@@ -52,10 +52,14 @@ use Rattle.promises.proofs.Maps.{map_law}
 use Rattle.promises.proofs.SkewInKurtosis.{skew_in_kurtosis}
 use Rattle.promises.specs.KeptBounds.{left_window, RaisesEach}
 use Rattle.promises.proofs.KeptBounds.{left_is, kept_bounds}
+use Rattle.promises.specs.Rust.{Rust}
+use Rattle.promises.specs.DemandOne.{Answered}
+use Rattle.promises.specs.Maps.{SameAnswer}
 use Rattle.demands.specs.Meets.{MeetsHost, MeetTwoHosts, MeetsPlan, MeetTwoPlans, MeetsFixed, MeetTwoFixed, MeetsWeights}
-use Rattle.demands.specs.Meets.{MeetTwoWeights, MeetsStep, MeetsState, MeetsFigure, MeetsRoot, MeetTwoMaps, MeetTwoPairs}
-use Rattle.demands.specs.Meets.{MadeBy}
-use Rattle.demands.specs.Meets.{MeetsArray, of_var, of_skew, of_kurtosis, of_cov, of_pearson, of_skew_range, of_kurtosis_range}
+use Rattle.demands.specs.Meets.{MeetTwoWeights, MeetsStep, MeetsState, MeetsFigure, MeetsRoot, MadeBy, MeetsArray, MeetTwoArrays}
+use Rattle.demands.specs.Meets.{ArrayCall, of_var, of_skew, of_kurtosis, of_cov, of_pearson, of_skew_range, of_kurtosis_range}
+use Rattle.demands.specs.Meets.{CallsArray, checks_of, members_of, source_of, SameArrays, same_var, same_skew, same_kurtosis, same_cov}
+use Rattle.demands.specs.Meets.{same_pearson, same_skew_range, same_kurtosis_range}
 
 -- ---- two calls
 -- a figure is of one trace or of two
@@ -82,6 +86,7 @@ pub host_meets : {q : Query} {h : Host (kind_of q.statistic)} {r₀ r : ReadingL
     → CalledBytes q h r₀ r l₀ l number → IsSetting q.statistic → MeetsHost q h (r₀, r) (l₀, l) number
 host_meets {q} {h} {r₀} {r} {l₀} {l} {number} c set =
     record {
+      called = c;
       one = demand_one.hosts q h r₀ r l₀ l number c;
       two = λ e rust one. demand_two.plans rust q one (decoded_of (kind_of q.statistic) h) l (host_accepted c e);
       three = λ e one. demand_three.one q one (decoded_of (kind_of q.statistic) h) l set (host_accepted c e);
@@ -89,20 +94,20 @@ host_meets {q} {h} {r₀} {r} {l₀} {l} {number} c set =
       extremes = λ e. lowest_highest.one q (decoded_of (kind_of q.statistic) h) l (host_accepted c e);
     }
 
-pub two_hosts_meet : {q : Query} {h h' : Host (kind_of q.statistic)} {r₀ r r₀' r' : ReadingLists (kind_of q.statistic)}
-    {l₀ l l₀' l' : Lent} {number number' : ℕ} → CalledBytes q h r₀ r l₀ l number → CalledBytes q h' r₀' r' l₀' l' number'
-    → IsSetting q.statistic → MeetTwoHosts q h h' (r₀, r) (r₀', r') (l₀, l) (l₀', l') number number'
-two_hosts_meet {q} {h} {h'} {r₀} {r} {r₀'} {r'} {l₀} {l} {l₀'} {l'} {number} {number'} c c' set =
+pub two_hosts_meet : {q : Query} {h h' : Host (kind_of q.statistic)}
+    {r r' : ReadingLists (kind_of q.statistic) × ReadingLists (kind_of q.statistic)} {l l' : Lent × Lent} {number number' : ℕ}
+    → MeetsHost q h r l number → MeetsHost q h' r' l' number' → MeetTwoHosts q h h' r r' l l' number number'
+two_hosts_meet {q} {h} {h'} {r} {r'} {l} {l'} {number} {number'} m m' =
     record {
-      first = host_meets c set;
-      second = host_meets c' set;
+      first = m;
+      second = m';
       both = λ alike e e'.
-          same_answers_lem q (decoded_of (kind_of q.statistic) h) (decoded_of (kind_of q.statistic) h') l l' alike (host_accepted c e)
-          (host_accepted c' e');
+          same_answers_lem q (decoded_of (kind_of q.statistic) h) (decoded_of (kind_of q.statistic) h') l.1 l'.1 alike
+          (host_accepted m.called e) (host_accepted m'.called e');
       both_extremes = λ alike e e'.
-          lowest_highest.two q (decoded_of (kind_of q.statistic) h) (decoded_of (kind_of q.statistic) h') l l' alike (host_accepted c e)
-          (host_accepted c' e');
-      maps = λ s short room. map_law.hosts q h h' s r₀ r r₀' r' short l₀ l l₀' l' room number number' c c';
+          lowest_highest.two q (decoded_of (kind_of q.statistic) h) (decoded_of (kind_of q.statistic) h') l.1 l'.1 alike
+          (host_accepted m.called e) (host_accepted m'.called e');
+      maps = λ s short room. map_law.hosts q h h' s r.0 r.1 r'.0 r'.1 short l.0 l.1 l'.0 l'.1 room number number' m.called m'.called;
     }
 
 -- ---- plan calls
@@ -113,6 +118,7 @@ pub plan_meets : {q : Query} {t : GivenTo q} {l₀ l : Lent} {number : ℕ} → 
     → MeetsPlan q t (l₀, l) number
 plan_meets {q} {t} {l₀} {l} {number} c set =
     record {
+      called = c;
       one = demand_one.plans q t l₀ l number c;
       two = λ e rust one. demand_two.plans rust q one t l (plan_accepted c e);
       three = λ e one. demand_three.one q one t l set (plan_accepted c e);
@@ -120,15 +126,15 @@ plan_meets {q} {t} {l₀} {l} {number} c set =
       extremes = λ e. lowest_highest.one q t l (plan_accepted c e);
     }
 
-pub two_plans_meet : {q : Query} {t t' : GivenTo q} {l₀ l l₀' l' : Lent} {number number' : ℕ} → Called q t l₀ l number
-    → Called q t' l₀' l' number' → IsSetting q.statistic → MeetTwoPlans q t t' (l₀, l) (l₀', l') number number'
-two_plans_meet {q} {t} {t'} {l₀} {l} {l₀'} {l'} {number} {number'} c c' set =
+pub two_plans_meet : {q : Query} {t t' : GivenTo q} {l l' : Lent × Lent} {number number' : ℕ} → MeetsPlan q t l number
+    → MeetsPlan q t' l' number' → MeetTwoPlans q t t' l l' number number'
+two_plans_meet {q} {t} {t'} {l} {l'} {number} {number'} m m' =
     record {
-      first = plan_meets c set;
-      second = plan_meets c' set;
-      both = λ alike e e'. same_answers_lem q t t' l l' alike (plan_accepted c e) (plan_accepted c' e');
-      both_extremes = λ alike e e'. lowest_highest.two q t t' l l' alike (plan_accepted c e) (plan_accepted c' e');
-      maps = λ s room. map_law.plans q t t' s l₀ l l₀' l' room number number' c c';
+      first = m;
+      second = m';
+      both = λ alike e e'. same_answers_lem q t t' l.1 l'.1 alike (plan_accepted m.called e) (plan_accepted m'.called e');
+      both_extremes = λ alike e e'. lowest_highest.two q t t' l.1 l'.1 alike (plan_accepted m.called e) (plan_accepted m'.called e');
+      maps = λ s room. map_law.plans q t t' s l.0 l.1 l'.0 l'.1 room number number' m.called m'.called;
     }
 
 -- ---- fixed windows
@@ -142,6 +148,7 @@ module _ {center : Bool} {size min_periods : ℕ} {a : Statistic} where
       → MeetsFixed center size min_periods a t (l₀, l) number
   fixed-meets {t} {l₀} {l} {number} c small set =
       record {
+        called = c;
         one = demand_one.fixed center size min_periods a t l₀ l number c;
         two = λ e rust one. demand_two.fixed rust center size min_periods a one t l₀ l small (fixed_zero c e);
         three = λ e one. demand_three.one (fixed_query center size min_periods a t) one t l set (fixed_call (fixed_zero c e));
@@ -155,20 +162,20 @@ module _ {center : Bool} {size min_periods : ℕ} {a : Statistic} where
   other t {t'} {l₀} {l} c same e =
       subst (λ (n : ℕ). AcceptedCall (query (bounds center size n) min_periods a) t' l) (sym same) (fixed_call (fixed_zero c e))
 
-  pub two-fixed-meet : {t t' : Given (kind_of a)} {l₀ l l₀' l' : Lent} {number number' : ℕ}
-      → CalledFixed center size min_periods a t l₀ l number → CalledFixed center size min_periods a t' l₀' l' number' → size < 2 ^ 64
-      → IsSetting a
-      → MeetTwoFixed center size min_periods a t t' (l₀, l) (l₀', l') number number'
-  two-fixed-meet {t} {t'} {l₀} {l} {l₀'} {l'} {number} {number'} c c' small set =
+  pub two_fixed_meet : {t t' : Given (kind_of a)} {l l' : Lent × Lent} {number number' : ℕ}
+      → MeetsFixed center size min_periods a t l number → MeetsFixed center size min_periods a t' l' number'
+      → MeetTwoFixed center size min_periods a t t' l l' number number'
+  two_fixed_meet {t} {t'} {l} {l'} {number} {number'} m m' =
       record {
-        first = fixed-meets c small set;
-        second = fixed-meets c' small set;
+        first = m;
+        second = m';
         both = λ alike e e'.
-            same_answers_lem (fixed_query center size min_periods a t) t t' l l' alike (fixed_call (fixed_zero c e)) (other t c' alike.long e');
+            same_answers_lem (fixed_query center size min_periods a t) t t' l.1 l'.1 alike (fixed_call (fixed_zero m.called e))
+            (other t m'.called alike.long e');
         both_extremes = λ alike e e'.
-            lowest_highest.two (fixed_query center size min_periods a t) t t' l l' alike (fixed_call (fixed_zero c e)) (other t c'
-            alike.long e');
-        maps = λ s room. map_law.fixed center size min_periods a t t' s l₀ l l₀' l' room number number' c c';
+            lowest_highest.two (fixed_query center size min_periods a t) t t' l.1 l'.1 alike (fixed_call (fixed_zero m.called e))
+            (other t m'.called alike.long e');
+        maps = λ s room. map_law.fixed center size min_periods a t t' s l.0 l.1 l'.0 l'.1 room number number' m.called m'.called;
       }
 
 -- ---- weights
@@ -177,134 +184,64 @@ pub weights_meet : {center : Bool} {size min_periods : ℕ} {weights : List Floa
     → MeetsWeights center size min_periods weights t (c₀, c) number
 weights_meet {center} {size} {min_periods} {weights} {t} {c₀} {c} {number} call small =
     record {
+      called = call;
       one = demand_one.weights center size min_periods weights t c₀ c number call;
       two = λ e rust. demand_two.weights rust center size min_periods weights t c₀ c small
           (subst (λ (n : ℕ). CalledWeights center size min_periods weights t c₀ c n) e call);
     }
 
-pub two_weights_meet : {center : Bool} {size min_periods : ℕ} {weights : List Float} {t t' : Trace} {c₀ c c₀' c' : Column}
-    {number number' : ℕ} → CalledWeights center size min_periods weights t c₀ c number
-    → CalledWeights center size min_periods weights t' c₀' c' number' → size < 2 ^ 64
-    → MeetTwoWeights center size min_periods weights t t' (c₀, c) (c₀', c') number number'
-two_weights_meet {center} {size} {min_periods} {weights} {t} {t'} {c₀} {c} {c₀'} {c'} {number} {number'} call call' small =
+pub two_weights_meet : {center : Bool} {size min_periods : ℕ} {weights : List Float} {t t' : Trace} {c c' : Column × Column}
+    {number number' : ℕ} → MeetsWeights center size min_periods weights t c number
+    → MeetsWeights center size min_periods weights t' c' number'
+    → MeetTwoWeights center size min_periods weights t t' c c' number number'
+two_weights_meet {center} {size} {min_periods} {weights} {t} {t'} {c} {c'} {number} {number'} m m' =
     record {
-      first = weights_meet call small;
-      second = weights_meet call' small;
-      maps = λ s room. map_law.weights center size min_periods weights t t' s c₀ c c₀' c' room number number' call call';
+      first = m;
+      second = m';
+      maps = λ s room. map_law.weights center size min_periods weights t t' s c.0 c.1 c'.0 c'.1 room number number' m.called m'.called;
     }
 
 -- ---- whole arrays, pairs and ranges
-pub var_meets : {t : Trace} {before after : List Float} {r : ℕ} → CallsVar t before after r → MeetsArray (of_var t) before after r
-var_meets {t} {before} {after} {r} c =
-    record {
-      one = demand_one.var t before after r c;
-      two = λ e rust. demand_two.arrays.var rust t before after (subst (CallsVar t before after) e c);
-    }
+one_lem : (a : ArrayCall) {before after : List Float} {r : ℕ} → CallsArray a before after r
+    → Answered (checks_of a) r before after (after ≡ members_of a)
+one_lem (of_var t) {before} {after} {r} c = demand_one.var t before after r c
+one_lem (of_skew t) {before} {after} {r} c = demand_one.skew t before after r c
+one_lem (of_kurtosis t) {before} {after} {r} c = demand_one.kurtosis t before after r c
+one_lem (of_cov x y) {before} {after} {r} c = demand_one.cov x y before after r c
+one_lem (of_pearson x y) {before} {after} {r} c = demand_one.pearson x y before after r c
+one_lem (of_skew_range t start len) {before} {after} {r} c = demand_one.skew_range t start len before after r c
+one_lem (of_kurtosis_range t start len) {before} {after} {r} c = demand_one.kurtosis_range t start len before after r c
 
-pub skew_meets : {t : Trace} {before after : List Float} {r : ℕ} → CallsSkew t before after r → MeetsArray (of_skew t) before after r
-skew_meets {t} {before} {after} {r} c =
-    record {
-      one = demand_one.skew t before after r c;
-      two = λ e rust. demand_two.arrays.skew rust t before after (subst (CallsSkew t before after) e c);
-    }
+two_lem : (rust : Rust) (a : ArrayCall) (before after : List Float) → CallsArray a before after 0 → after ≡ source_of rust a
+two_lem rust (of_var t) before after c = demand_two.arrays.var rust t before after c
+two_lem rust (of_skew t) before after c = demand_two.arrays.skew rust t before after c
+two_lem rust (of_kurtosis t) before after c = demand_two.arrays.kurtosis rust t before after c
+two_lem rust (of_cov x y) before after c = demand_two.arrays.cov rust x y before after c
+two_lem rust (of_pearson x y) before after c = demand_two.arrays.pearson rust x y before after c
+two_lem rust (of_skew_range t start len) before after c = demand_two.ranges.skew rust t start len before after c
+two_lem rust (of_kurtosis_range t start len) before after c = demand_two.ranges.kurtosis rust t start len before after c
 
-pub kurtosis_meets : {t : Trace} {before after : List Float} {r : ℕ} → CallsKurtosis t before after r
-    → MeetsArray (of_kurtosis t) before after r
-kurtosis_meets {t} {before} {after} {r} c =
-    record {
-      one = demand_one.kurtosis t before after r c;
-      two = λ e rust. demand_two.arrays.kurtosis rust t before after (subst (CallsKurtosis t before after) e c);
-    }
-
-pub cov_meets : {x y : Trace} {before after : List Float} {r : ℕ} → CallsCov x y before after r → MeetsArray (of_cov x y) before after r
-cov_meets {x} {y} {before} {after} {r} c =
-    record {
-      one = demand_one.cov x y before after r c;
-      two = λ e rust. demand_two.arrays.cov rust x y before after (subst (CallsCov x y before after) e c);
-    }
-
-pub pearson_meets : {x y : Trace} {before after : List Float} {r : ℕ} → CallsPearson x y before after r
-    → MeetsArray (of_pearson x y) before after r
-pearson_meets {x} {y} {before} {after} {r} c =
-    record {
-      one = demand_one.pearson x y before after r c;
-      two = λ e rust. demand_two.arrays.pearson rust x y before after (subst (CallsPearson x y before after) e c);
-    }
-
-pub skew_range_meets : {t : Trace} {start len : ℕ} {before after : List Float} {r : ℕ} → CallsSkewRange t start len before after r
-    → MeetsArray (of_skew_range t start len) before after r
-skew_range_meets {t} {start} {len} {before} {after} {r} c =
-    record {
-      one = demand_one.skew_range t start len before after r c;
-      two = λ e rust. demand_two.ranges.skew rust t start len before after (subst (CallsSkewRange t start len before after) e c);
-    }
-
-pub kurtosis_range_meets : {t : Trace} {start len : ℕ} {before after : List Float} {r : ℕ}
-    → CallsKurtosisRange t start len before after r → MeetsArray (of_kurtosis_range t start len) before after r
-kurtosis_range_meets {t} {start} {len} {before} {after} {r} c =
-    record {
-      one = demand_one.kurtosis_range t start len before after r c;
-      two = λ e rust. demand_two.ranges.kurtosis rust t start len before after (subst (CallsKurtosisRange t start len before after) e c);
-    }
+pub array_meets : (a : ArrayCall) {before after : List Float} {r : ℕ} → CallsArray a before after r → MeetsArray a before after r
+array_meets a {before} {after} {r} c =
+    record { called = c; one = one_lem a c; two = λ e rust. two_lem rust a before after (subst (CallsArray a before after) e c) }
 
 -- two calls, of which the law of maps speaks
-module _ {t t' : Trace} {before after before' after' : List Float} {r r' : ℕ} where
-  pub two-var-meet : CallsVar t before after r → CallsVar t' before' after' r'
-      → MeetTwoMaps of_var t t' (before, after) (before', after') r r'
-  two-var-meet c c' =
-      record { first = var_meets c; second = var_meets c'; maps = λ s. map_law.var t t' s before after before' after' r r' c c' }
+maps_lem : {a a' : ArrayCall} → SameArrays a a' → (s s' : List Float × List Float) (r r' : ℕ)
+    → CallsArray a s.0 s.1 r → CallsArray a' s'.0 s'.1 r' → SameAnswer r r' (s.1 ≡ s'.1)
+maps_lem (same_var {t} {t'} m) s s' r r' c c' = map_law.var t t' m s.0 s.1 s'.0 s'.1 r r' c c'
+maps_lem (same_skew {t} {t'} m) s s' r r' c c' = map_law.skew t t' m s.0 s.1 s'.0 s'.1 r r' c c'
+maps_lem (same_kurtosis {t} {t'} m) s s' r r' c c' = map_law.kurtosis t t' m s.0 s.1 s'.0 s'.1 r r' c c'
+maps_lem (same_cov {x} {y} {x'} {y'} m n) s s' r r' c c' = map_law.cov x y x' y' m n s.0 s.1 s'.0 s'.1 r r' c c'
+maps_lem (same_pearson {x} {y} {x'} {y'} m n) s s' r r' c c' = map_law.pearson x y x' y' m n s.0 s.1 s'.0 s'.1 r r' c c'
+maps_lem (same_skew_range {t} {t'} {start} {len} m) s s' r r' c c' =
+    map_law.skew_range start len t t' m s.0 s.1 s'.0 s'.1 r r' c c'
+maps_lem (same_kurtosis_range {t} {t'} {start} {len} m) s s' r r' c c' =
+    map_law.kurtosis_range start len t t' m s.0 s.1 s'.0 s'.1 r r' c c'
 
-  pub two-skew-meet : CallsSkew t before after r → CallsSkew t' before' after' r'
-      → MeetTwoMaps of_skew t t' (before, after) (before', after') r r'
-  two-skew-meet c c' =
-      record { first = skew_meets c; second = skew_meets c'; maps = λ s. map_law.skew t t' s before after before' after' r r' c c' }
-
-  pub two-kurtosis-meet : CallsKurtosis t before after r → CallsKurtosis t' before' after' r'
-      → MeetTwoMaps of_kurtosis t t' (before, after) (before', after') r r'
-  two-kurtosis-meet c c' =
-      record {
-        first = kurtosis_meets c;
-        second = kurtosis_meets c';
-        maps = λ s. map_law.kurtosis t t' s before after before' after' r r' c c';
-      }
-
-  module _ {start len : ℕ} where
-    pub two-skew-ranges-meet : CallsSkewRange t start len before after r → CallsSkewRange t' start len before' after' r'
-        → MeetTwoMaps (λ u. of_skew_range u start len) t t' (before, after) (before', after') r r'
-    two-skew-ranges-meet c c' =
-        record {
-          first = skew_range_meets c;
-          second = skew_range_meets c';
-          maps = λ s. map_law.skew_range start len t t' s before after before' after' r r' c c';
-        }
-
-    pub two-kurtosis-ranges-meet : CallsKurtosisRange t start len before after r → CallsKurtosisRange t' start len before' after' r'
-        → MeetTwoMaps (λ u. of_kurtosis_range u start len) t t' (before, after) (before', after') r r'
-    two-kurtosis-ranges-meet c c' =
-        record {
-          first = kurtosis_range_meets c;
-          second = kurtosis_range_meets c';
-          maps = λ s. map_law.kurtosis_range start len t t' s before after before' after' r r' c c';
-        }
-
-module _ {x y x' y' : Trace} {before after before' after' : List Float} {r r' : ℕ} where
-  pub two-cov-meet : CallsCov x y before after r → CallsCov x' y' before' after' r'
-      → MeetTwoPairs of_cov x y x' y' (before, after) (before', after') r r'
-  two-cov-meet c c' =
-      record {
-        first = cov_meets c;
-        second = cov_meets c';
-        maps = λ s. map_law.cov x y x' y' s.0 s.1 before after before' after' r r' c c';
-      }
-
-  pub two-pearson-meet : CallsPearson x y before after r → CallsPearson x' y' before' after' r'
-      → MeetTwoPairs of_pearson x y x' y' (before, after) (before', after') r r'
-  two-pearson-meet c c' =
-      record {
-        first = pearson_meets c;
-        second = pearson_meets c';
-        maps = λ s. map_law.pearson x y x' y' s.0 s.1 before after before' after' r r' c c';
-      }
+pub two_arrays_meet : {a a' : ArrayCall} {s s' : List Float × List Float} {r r' : ℕ} → MeetsArray a s.0 s.1 r
+    → MeetsArray a' s'.0 s'.1 r' → MeetTwoArrays a a' s s' r r'
+two_arrays_meet {s} {s'} {r} {r'} m m' =
+    record { first = m; second = m'; maps = λ same. maps_lem same s s' r r' m.called m'.called }
 
 -- ---- states: r is what our definition gives, which is what the source gives
 pub state_meets : {A : Type 0} {definition source r : A} → r ≡ definition → definition ≡ source → MeetsState definition source r

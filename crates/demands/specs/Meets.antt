@@ -1,13 +1,12 @@
 -- What the three demands, the statement for pairs of traces, that of a window's lowest and highest reading and the law of maps say of
--- calls,
--- each as the contract of a function of this crate that makes them: demands 1, 2 and 3 of a call without weights, 3 also of two such
+-- calls, each as the contract of a function of this crate that makes them, beside the entry's own, `called`, from which the law of two
+-- calls is drawn: demands 1, 2 and 3 of a call without weights, 3 also of two such
 -- calls, or for 2 and 3 the statement for pairs, where the figure is of two traces; of a variance the other statement too; 1 and 2 of the
 -- others, and the law of any two that are lent maps; what is shown of a step from row to row, and of a skewness state beside a kurtosis
 -- state. What they mean is in `promises` DemandOne, DemandTwo, DemandThree, TwoTraces, LowestHighest, Maps, KeptBounds and SkewInKurtosis.
 -- Lists that are lent come as (before, after). Assumes nothing.
 use Rattle.std.specs.Prelude.{ℕ, ◌+◌, ◌<◌, ◌≡◌, Bool, List, [], ◌∷◌, length, Float}
 use Rattle.root.specs.Root.{root}
-use Rattle.trace.specs.Slices.{MutSlice, entering_mut, leaving}
 use Rattle.trace.specs.Trace.{Trace}
 use Rattle.moment.specs.declared.Figure.{Figure}
 use Rattle.moment.specs.Skew.{skew_new}
@@ -23,15 +22,16 @@ use Rattle.window.specs.Given.{Given}
 use Rattle.window.specs.Outputs.{Column, Lent, column_after}
 use Rattle.window.specs.Histories.{History, inserted, combined, after}
 use Rattle.rolling.specs.Moments.{Statistic, kind_of, skewness, kurtosis as kurtosis_moment}
-use Rattle.rolling.specs.Calls.{Query, GivenTo, Left}
-use Rattle.rolling.specs.Fixed.{fixed_query}
-use Rattle.weighted.specs.Weights.{weighted_at}
-use Rattle.moments.specs.HostCall.{Host, decoded_of, ReadingLists}
+use Rattle.rolling.specs.Calls.{Query, GivenTo, Left, Calls}
+use Rattle.rolling.specs.Fixed.{fixed_query, CallsFixed}
+use Rattle.weighted.specs.Weights.{weighted_at, CalledWeights}
+use Rattle.moments.specs.HostCall.{Host, decoded_of, ReadingLists, CallsBytes}
 use Rattle.moments.specs.Results.{FigureResult}
 use Rattle.demands.specs.declared.states.Both.{Both}
 use Rattle.promises.specs.Rust.{Rust}
 use Rattle.moment.specs.Arrays.{var_list, skew_list, kurtosis_list, cov_list, pearson_list}
 use Rattle.promises.specs.Calls.{readings_of, readings_in, pairs_of}
+use Rattle.promises.specs.Calls.{CallsVar, CallsSkew, CallsKurtosis, CallsCov, CallsPearson, CallsSkewRange, CallsKurtosisRange}
 use Rattle.promises.specs.Calls.{OfOneTrace, OfTwoTraces}
 use Rattle.promises.specs.DemandOne.{Check, trace_checks, pair_checks, range_checks, plan_checks, host_checks, fixed_checks, weights_checks}
 use Rattle.promises.specs.DemandOne.{Answered, HostLeft}
@@ -47,6 +47,7 @@ use Rattle.promises.specs.Maps.{SameMaps, SameGiven, SameHost, SameRoom, SameRea
 -- one
 pub record MeetsHost (q : Query) (h : Host (kind_of q.statistic))
     (r : ReadingLists (kind_of q.statistic) × ReadingLists (kind_of q.statistic)) (l : Lent × Lent) (number : ℕ) : Type 0 where
+  pub called : CallsBytes q h r l number
   pub one : Answered (host_checks q h r.0 l.0) number {A = ReadingLists (kind_of q.statistic) × Lent} (r.0, l.0) (r.1, l.1)
       (HostLeft q h r.0 r.1 l.0 l.1)
   pub two : number ≡ 0 → (rust : Rust) (one : OfOneTrace q.statistic) → RowsEqual rust q one (decoded_of (kind_of q.statistic) h) l.1
@@ -76,6 +77,7 @@ pub record MeetTwoHosts (q : Query) (h h' : Host (kind_of q.statistic))
 -- ---- plan calls, the trace as doubles
 -- one
 pub record MeetsPlan (q : Query) (t : GivenTo q) (l : Lent × Lent) (number : ℕ) : Type 0 where
+  pub called : Calls q t l number
   pub one : Answered (plan_checks q t l.0) number l.0 l.1 (Left q t l.0 l.1 0)
   pub two : number ≡ 0 → (rust : Rust) (one : OfOneTrace q.statistic) → RowsEqual rust q one t l.1
   pub three : number ≡ 0 → OfOneTrace q.statistic → (k : ℕ) → k < rows q.plan → Yielded q t l.1 k
@@ -94,6 +96,7 @@ pub record MeetTwoPlans (q : Query) (t t' : GivenTo q) (l l' : Lent × Lent) (nu
 -- one
 pub record MeetsFixed (center : Bool) (window_size min_periods : ℕ) (a : Statistic) (t : Given (kind_of a)) (l : Lent × Lent)
     (number : ℕ) : Type 0 where
+  pub called : CallsFixed center window_size min_periods a t l number
   pub one : Answered (fixed_checks window_size a t l.0) number l.0 l.1
       (Left (fixed_query center window_size min_periods a t) t l.0 l.1 0)
   pub two : number ≡ 0 → (rust : Rust) (one : OfOneTrace a) → FixedRowsEqual rust center window_size min_periods a one t l.1
@@ -120,6 +123,7 @@ pub record MeetTwoFixed (center : Bool) (window_size min_periods : ℕ) (a : Sta
 -- one
 pub record MeetsWeights (center : Bool) (window_size min_periods : ℕ) (weights : List Float) (t : Trace) (c : Column × Column)
     (number : ℕ) : Type 0 where
+  pub called : CalledWeights center window_size min_periods weights t c.0 c.1 number
   pub one : Answered (weights_checks window_size weights t c.0) number c.0 c.1
       (c.1 ≡ column_after 0 (weighted_at center window_size min_periods weights t.readings) (length t.readings) c.0)
   pub two : number ≡ 0 → (rust : Rust) → WeightedRowsEqual rust center window_size min_periods weights t c.1
@@ -186,27 +190,38 @@ source_of rust (of_pearson x y) = source_pearson rust x y
 source_of rust (of_skew_range t start len) = source_skew_range rust t start len
 source_of rust (of_kurtosis_range t start len) = source_kurtosis_range rust t start len
 
+-- the contract of each
+abbrev pub CallsArray : ArrayCall → List Float → List Float → ℕ → Type 0
+CallsArray (of_var t) = CallsVar t
+CallsArray (of_skew t) = CallsSkew t
+CallsArray (of_kurtosis t) = CallsKurtosis t
+CallsArray (of_cov x y) = CallsCov x y
+CallsArray (of_pearson x y) = CallsPearson x y
+CallsArray (of_skew_range t start len) = CallsSkewRange t start len
+CallsArray (of_kurtosis_range t start len) = CallsKurtosisRange t start len
+
+-- one
 pub record MeetsArray (a : ArrayCall) (before after : List Float) (number : ℕ) : Type 0 where
+  pub called : CallsArray a before after number
   pub one : Answered (checks_of a) number before after (after ≡ members_of a)
   pub two : number ≡ 0 → (rust : Rust) → after ≡ source_of rust a
 
--- a state that is lent, before and after
-abbrev pub holding : MutSlice Float → List Float × List Float
-holding state = (entering_mut state, leaving state)
+-- two of a kind whose maps say the same
+pub data SameArrays : ArrayCall → ArrayCall → Type 0 where
+  same_var : {t t' : Trace} → SameMaps t t' → SameArrays (of_var t) (of_var t')
+  same_skew : {t t' : Trace} → SameMaps t t' → SameArrays (of_skew t) (of_skew t')
+  same_kurtosis : {t t' : Trace} → SameMaps t t' → SameArrays (of_kurtosis t) (of_kurtosis t')
+  same_cov : {x y x' y' : Trace} → SameMaps x x' → SameMaps y y' → SameArrays (of_cov x y) (of_cov x' y')
+  same_pearson : {x y x' y' : Trace} → SameMaps x x' → SameMaps y y' → SameArrays (of_pearson x y) (of_pearson x' y')
+  same_skew_range : {t t' : Trace} {start len : ℕ} → SameMaps t t' → SameArrays (of_skew_range t start len) (of_skew_range t' start len)
+  same_kurtosis_range : {t t' : Trace} {start len : ℕ} → SameMaps t t'
+      → SameArrays (of_kurtosis_range t start len) (of_kurtosis_range t' start len)
 
--- two, where Same says that their maps say the same
-pub record MeetTwoArrays (a a' : ArrayCall) (Same : Type 0) (state state' : List Float × List Float) (number number' : ℕ) : Type 0 where
+-- two, each with its state before and after
+pub record MeetTwoArrays (a a' : ArrayCall) (state state' : List Float × List Float) (number number' : ℕ) : Type 0 where
   pub first : MeetsArray a state.0 state.1 number
   pub second : MeetsArray a' state'.0 state'.1 number'
-  pub maps : Same → SameAnswer number number' (state.1 ≡ state'.1)
-
--- of a trace with either of two maps
-abbrev pub MeetTwoMaps : (Trace → ArrayCall) → (t t' : Trace) → (state state' : List Float × List Float) → ℕ → ℕ → Type 0
-MeetTwoMaps call t t' = MeetTwoArrays (call t) (call t') (SameMaps t t')
-
--- of a pair of traces, each with either of two maps
-abbrev pub MeetTwoPairs : (Trace → Trace → ArrayCall) → (x y x' y' : Trace) → (state state' : List Float × List Float) → ℕ → ℕ → Type 0
-MeetTwoPairs call x y x' y' = MeetTwoArrays (call x y) (call x' y') (SameMaps x x' × SameMaps y y')
+  pub maps : SameArrays a a' → SameAnswer number number' (state.1 ≡ state'.1)
 
 -- ---- states: what is answered, by document 01 and by the Rust
 pub record MeetsState {A : Type 0} (definition source r : A) : Type 0 where
