@@ -39,6 +39,7 @@ impl HostCall<Bytes<'_>, Readings<'_>, Variances<'_>> for VarianceMoment {
         readings: &mut Readings,
         lists: &mut Variances,
     ) -> u32 {
+        let VarianceMoment { ddof } = self;
         moments::moments_plan_var(
             given.values,
             readings.list,
@@ -47,7 +48,7 @@ impl HostCall<Bytes<'_>, Readings<'_>, Variances<'_>> for VarianceMoment {
             plan.starts,
             plan.ends,
             min_periods,
-            self.ddof,
+            ddof,
             lists.work,
             lists.figures,
             lists.present,
@@ -74,6 +75,7 @@ impl HostCall<Bytes<'_>, Readings<'_>, Figures<'_>> for SkewMoment {
         readings: &mut Readings,
         lists: &mut Figures,
     ) -> u32 {
+        let SkewMoment { bias } = self;
         moments::moments_plan_skew(
             given.values,
             readings.list,
@@ -82,7 +84,7 @@ impl HostCall<Bytes<'_>, Readings<'_>, Figures<'_>> for SkewMoment {
             plan.starts,
             plan.ends,
             min_periods,
-            self.bias,
+            bias,
             lists.work,
             lists.figures,
             lists.present,
@@ -105,6 +107,7 @@ impl HostCall<Bytes<'_>, Readings<'_>, Figures<'_>> for KurtosisMoment {
         readings: &mut Readings,
         lists: &mut Figures,
     ) -> u32 {
+        let KurtosisMoment { fisher, bias } = self;
         moments::moments_plan_kurtosis(
             given.values,
             readings.list,
@@ -113,8 +116,8 @@ impl HostCall<Bytes<'_>, Readings<'_>, Figures<'_>> for KurtosisMoment {
             plan.starts,
             plan.ends,
             min_periods,
-            self.fisher,
-            self.bias,
+            fisher,
+            bias,
             lists.work,
             lists.figures,
             lists.present,
@@ -137,6 +140,7 @@ impl HostCall<BytePair<'_>, ReadingPair<'_>, Figures<'_>> for CovMoment {
         readings: &mut ReadingPair,
         lists: &mut Figures,
     ) -> u32 {
+        let CovMoment { ddof } = self;
         moments::moments_plan_cov(
             given.x.values,
             readings.x,
@@ -149,7 +153,7 @@ impl HostCall<BytePair<'_>, ReadingPair<'_>, Figures<'_>> for CovMoment {
             plan.starts,
             plan.ends,
             min_periods,
-            self.ddof,
+            ddof,
             lists.work,
             lists.figures,
             lists.present,

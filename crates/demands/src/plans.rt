@@ -35,11 +35,12 @@ impl PlanCall<Trace<'_>, Variances<'_>> for VarianceMoment {
         min_periods: usize,
         lists: &mut Variances,
     ) -> Result<(), Refusal> {
+        let VarianceMoment { ddof } = self;
         rolling::plan_var(
             x,
             plan,
             min_periods,
-            self.ddof,
+            ddof,
             lists.work,
             lists.figures,
             lists.present,
@@ -63,11 +64,12 @@ impl PlanCall<Trace<'_>, Figures<'_>> for SkewMoment {
         min_periods: usize,
         lists: &mut Figures,
     ) -> Result<(), Refusal> {
+        let SkewMoment { bias } = self;
         rolling::plan_skew(
             x,
             plan,
             min_periods,
-            self.bias,
+            bias,
             lists.work,
             lists.figures,
             lists.present,
@@ -87,12 +89,13 @@ impl PlanCall<Trace<'_>, Figures<'_>> for KurtosisMoment {
         min_periods: usize,
         lists: &mut Figures,
     ) -> Result<(), Refusal> {
+        let KurtosisMoment { fisher, bias } = self;
         rolling::plan_kurtosis(
             x,
             plan,
             min_periods,
-            self.fisher,
-            self.bias,
+            fisher,
+            bias,
             lists.work,
             lists.figures,
             lists.present,
@@ -112,7 +115,16 @@ impl PlanCall<Pair<'_>, Figures<'_>> for CovMoment {
         min_periods: usize,
         lists: &mut Figures,
     ) -> Result<(), Refusal> {
-        rolling::plan_cov(x, plan, min_periods, self.ddof, lists.work, lists.figures, lists.present)
+        let CovMoment { ddof } = self;
+        rolling::plan_cov(
+            x,
+            plan,
+            min_periods,
+            ddof,
+            lists.work,
+            lists.figures,
+            lists.present,
+        )
     }
 }
 
@@ -128,7 +140,14 @@ impl PlanCall<Pair<'_>, Figures<'_>> for PearsonMoment {
         min_periods: usize,
         lists: &mut Figures,
     ) -> Result<(), Refusal> {
-        rolling::plan_pearson_corr(x, plan, min_periods, lists.work, lists.figures, lists.present)
+        rolling::plan_pearson_corr(
+            x,
+            plan,
+            min_periods,
+            lists.work,
+            lists.figures,
+            lists.present,
+        )
     }
 }
 

@@ -34,6 +34,7 @@ impl FixedCall<Doubles<'_>, Variances<'_>> for VarianceMoment {
     ghost given = { λ f x. doubles x };
 
     fn call(self, x: Doubles, windows: Windows, lists: &mut Variances) -> u32 {
+        let VarianceMoment { ddof } = self;
         moments::moments_rolling_var(
             x.values,
             x.has_map,
@@ -41,7 +42,7 @@ impl FixedCall<Doubles<'_>, Variances<'_>> for VarianceMoment {
             windows.window_size,
             windows.min_periods,
             windows.center,
-            self.ddof,
+            ddof,
             lists.work,
             lists.figures,
             lists.present,
@@ -59,6 +60,7 @@ impl FixedCall<Doubles<'_>, Figures<'_>> for SkewMoment {
     ghost given = { λ f x. doubles x };
 
     fn call(self, x: Doubles, windows: Windows, lists: &mut Figures) -> u32 {
+        let SkewMoment { bias } = self;
         moments::moments_rolling_skew(
             x.values,
             x.has_map,
@@ -66,7 +68,7 @@ impl FixedCall<Doubles<'_>, Figures<'_>> for SkewMoment {
             windows.window_size,
             windows.min_periods,
             windows.center,
-            self.bias,
+            bias,
             lists.work,
             lists.figures,
             lists.present,
@@ -80,6 +82,7 @@ impl FixedCall<Doubles<'_>, Figures<'_>> for KurtosisMoment {
     ghost given = { λ f x. doubles x };
 
     fn call(self, x: Doubles, windows: Windows, lists: &mut Figures) -> u32 {
+        let KurtosisMoment { fisher, bias } = self;
         moments::moments_rolling_kurtosis(
             x.values,
             x.has_map,
@@ -87,8 +90,8 @@ impl FixedCall<Doubles<'_>, Figures<'_>> for KurtosisMoment {
             windows.window_size,
             windows.min_periods,
             windows.center,
-            self.fisher,
-            self.bias,
+            fisher,
+            bias,
             lists.work,
             lists.figures,
             lists.present,
@@ -102,6 +105,7 @@ impl FixedCall<DoublePair<'_>, Figures<'_>> for CovMoment {
     ghost given = { λ f x. double_pair x };
 
     fn call(self, x: DoublePair, windows: Windows, lists: &mut Figures) -> u32 {
+        let CovMoment { ddof } = self;
         moments::moments_rolling_cov(
             x.x.values,
             x.x.has_map,
@@ -112,7 +116,7 @@ impl FixedCall<DoublePair<'_>, Figures<'_>> for CovMoment {
             windows.window_size,
             windows.min_periods,
             windows.center,
-            self.ddof,
+            ddof,
             lists.work,
             lists.figures,
             lists.present,
