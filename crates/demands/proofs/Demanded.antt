@@ -51,9 +51,11 @@ use Rattle.promises.proofs.Maps.{map_law}
 use Rattle.promises.proofs.SkewInKurtosis.{skew_in_kurtosis}
 use Rattle.promises.specs.KeptBounds.{left_window, RaisesEach}
 use Rattle.promises.proofs.KeptBounds.{left_is, kept_bounds}
+use Rattle.promises.specs.Rust.{Rust}
+use Rattle.promises.specs.DemandOne.{Answered}
+use Rattle.promises.specs.Maps.{SameAnswer}
 use Rattle.demands.specs.Meets.{MeetsHost, MeetTwoHosts, MeetsPlan, MeetTwoPlans, MeetsFixed, MeetTwoFixed, MeetsWeights}
-use Rattle.demands.specs.Meets.{MeetTwoWeights, MeetsStep, MeetsState, MeetsFigure, MeetsRoot, MadeBy, MeetsArray}
-use Rattle.demands.specs.Meets.{MeetTwoArrays}
+use Rattle.demands.specs.Meets.{MeetTwoWeights, MeetsStep, MeetsState, MeetsFigure, MeetsRoot, MadeBy, MeetsArray, MeetTwoArrays}
 
 -- ---- two calls
 -- a figure is of one trace or of two
@@ -80,6 +82,7 @@ pub host_meets : {q : Query} {h : Host (kind_of q.statistic)} {r₀ r : ReadingL
     → CalledBytes q h r₀ r l₀ l number → IsSetting q.statistic → MeetsHost q h (r₀, r) (l₀, l) number
 host_meets {q} {h} {r₀} {r} {l₀} {l} {number} c set =
     record {
+      called = c;
       one = demand_one.hosts q h r₀ r l₀ l number c;
       two = λ e rust one. demand_two.plans rust q one (decoded_of (kind_of q.statistic) h) l (host_accepted c e);
       three = λ e one. demand_three.one q one (decoded_of (kind_of q.statistic) h) l set (host_accepted c e);
@@ -87,20 +90,20 @@ host_meets {q} {h} {r₀} {r} {l₀} {l} {number} c set =
       extremes = λ e. lowest_highest.one q (decoded_of (kind_of q.statistic) h) l (host_accepted c e);
     }
 
-pub two_hosts_meet : {q : Query} {h h' : Host (kind_of q.statistic)} {r₀ r r₀' r' : ReadingLists (kind_of q.statistic)}
-    {l₀ l l₀' l' : Lent} {number number' : ℕ} → CalledBytes q h r₀ r l₀ l number → CalledBytes q h' r₀' r' l₀' l' number'
-    → IsSetting q.statistic → MeetTwoHosts q h h' (r₀, r) (r₀', r') (l₀, l) (l₀', l') number number'
-two_hosts_meet {q} {h} {h'} {r₀} {r} {r₀'} {r'} {l₀} {l} {l₀'} {l'} {number} {number'} c c' set =
+pub two_hosts_meet : {q : Query} {h h' : Host (kind_of q.statistic)}
+    {r r' : ReadingLists (kind_of q.statistic) × ReadingLists (kind_of q.statistic)} {l l' : Lent × Lent} {number number' : ℕ}
+    → MeetsHost q h r l number → MeetsHost q h' r' l' number' → MeetTwoHosts q h h' r r' l l' number number'
+two_hosts_meet {q} {h} {h'} {r} {r'} {l} {l'} {number} {number'} m m' =
     record {
-      first = host_meets c set;
-      second = host_meets c' set;
+      first = m;
+      second = m';
       both = λ alike e e'.
-          same_answers_lem q (decoded_of (kind_of q.statistic) h) (decoded_of (kind_of q.statistic) h') l l' alike (host_accepted c e)
-          (host_accepted c' e');
+          same_answers_lem q (decoded_of (kind_of q.statistic) h) (decoded_of (kind_of q.statistic) h') l.1 l'.1 alike
+          (host_accepted m.called e) (host_accepted m'.called e');
       both_extremes = λ alike e e'.
-          lowest_highest.two q (decoded_of (kind_of q.statistic) h) (decoded_of (kind_of q.statistic) h') l l' alike (host_accepted c e)
-          (host_accepted c' e');
-      maps = λ s short room. map_law.hosts q h h' s r₀ r r₀' r' short l₀ l l₀' l' room number number' c c';
+          lowest_highest.two q (decoded_of (kind_of q.statistic) h) (decoded_of (kind_of q.statistic) h') l.1 l'.1 alike
+          (host_accepted m.called e) (host_accepted m'.called e');
+      maps = λ s short room. map_law.hosts q h h' s r.0 r.1 r'.0 r'.1 short l.0 l.1 l'.0 l'.1 room number number' m.called m'.called;
     }
 
 -- ---- plan calls
@@ -111,6 +114,7 @@ pub plan_meets : {q : Query} {t : GivenTo q} {l₀ l : Lent} {number : ℕ} → 
     → MeetsPlan q t (l₀, l) number
 plan_meets {q} {t} {l₀} {l} {number} c set =
     record {
+      called = c;
       one = demand_one.plans q t l₀ l number c;
       two = λ e rust one. demand_two.plans rust q one t l (plan_accepted c e);
       three = λ e one. demand_three.one q one t l set (plan_accepted c e);
@@ -118,15 +122,15 @@ plan_meets {q} {t} {l₀} {l} {number} c set =
       extremes = λ e. lowest_highest.one q t l (plan_accepted c e);
     }
 
-pub two_plans_meet : {q : Query} {t t' : GivenTo q} {l₀ l l₀' l' : Lent} {number number' : ℕ} → Called q t l₀ l number
-    → Called q t' l₀' l' number' → IsSetting q.statistic → MeetTwoPlans q t t' (l₀, l) (l₀', l') number number'
-two_plans_meet {q} {t} {t'} {l₀} {l} {l₀'} {l'} {number} {number'} c c' set =
+pub two_plans_meet : {q : Query} {t t' : GivenTo q} {l l' : Lent × Lent} {number number' : ℕ} → MeetsPlan q t l number
+    → MeetsPlan q t' l' number' → MeetTwoPlans q t t' l l' number number'
+two_plans_meet {q} {t} {t'} {l} {l'} {number} {number'} m m' =
     record {
-      first = plan_meets c set;
-      second = plan_meets c' set;
-      both = λ alike e e'. same_answers_lem q t t' l l' alike (plan_accepted c e) (plan_accepted c' e');
-      both_extremes = λ alike e e'. lowest_highest.two q t t' l l' alike (plan_accepted c e) (plan_accepted c' e');
-      maps = λ s room. map_law.plans q t t' s l₀ l l₀' l' room number number' c c';
+      first = m;
+      second = m';
+      both = λ alike e e'. same_answers_lem q t t' l.1 l'.1 alike (plan_accepted m.called e) (plan_accepted m'.called e');
+      both_extremes = λ alike e e'. lowest_highest.two q t t' l.1 l'.1 alike (plan_accepted m.called e) (plan_accepted m'.called e');
+      maps = λ s room. map_law.plans q t t' s l.0 l.1 l'.0 l'.1 room number number' m.called m'.called;
     }
 
 -- ---- fixed windows
@@ -140,6 +144,7 @@ module _ {center : Bool} {size min_periods : ℕ} {a : Statistic} where
       → MeetsFixed center size min_periods a t (l₀, l) number
   fixed-meets {t} {l₀} {l} {number} c small set =
       record {
+        called = c;
         one = demand_one.fixed center size min_periods a t l₀ l number c;
         two = λ e rust one. demand_two.fixed rust center size min_periods a one t l₀ l small (fixed_zero c e);
         three = λ e one. demand_three.one (fixed_query center size min_periods a t) one t l set (fixed_call (fixed_zero c e));
@@ -153,20 +158,20 @@ module _ {center : Bool} {size min_periods : ℕ} {a : Statistic} where
   other t {t'} {l₀} {l} c same e =
       subst (λ (n : ℕ). AcceptedCall (query (bounds center size n) min_periods a) t' l) (sym same) (fixed_call (fixed_zero c e))
 
-  pub two-fixed-meet : {t t' : Given (kind_of a)} {l₀ l l₀' l' : Lent} {number number' : ℕ}
-      → CalledFixed center size min_periods a t l₀ l number → CalledFixed center size min_periods a t' l₀' l' number' → size < 2 ^ 64
-      → IsSetting a
-      → MeetTwoFixed center size min_periods a t t' (l₀, l) (l₀', l') number number'
-  two-fixed-meet {t} {t'} {l₀} {l} {l₀'} {l'} {number} {number'} c c' small set =
+  pub two_fixed_meet : {t t' : Given (kind_of a)} {l l' : Lent × Lent} {number number' : ℕ}
+      → MeetsFixed center size min_periods a t l number → MeetsFixed center size min_periods a t' l' number'
+      → MeetTwoFixed center size min_periods a t t' l l' number number'
+  two_fixed_meet {t} {t'} {l} {l'} {number} {number'} m m' =
       record {
-        first = fixed-meets c small set;
-        second = fixed-meets c' small set;
+        first = m;
+        second = m';
         both = λ alike e e'.
-            same_answers_lem (fixed_query center size min_periods a t) t t' l l' alike (fixed_call (fixed_zero c e)) (other t c' alike.long e');
+            same_answers_lem (fixed_query center size min_periods a t) t t' l.1 l'.1 alike (fixed_call (fixed_zero m.called e))
+            (other t m'.called alike.long e');
         both_extremes = λ alike e e'.
-            lowest_highest.two (fixed_query center size min_periods a t) t t' l l' alike (fixed_call (fixed_zero c e)) (other t c'
-            alike.long e');
-        maps = λ s room. map_law.fixed center size min_periods a t t' s l₀ l l₀' l' room number number' c c';
+            lowest_highest.two (fixed_query center size min_periods a t) t t' l.1 l'.1 alike (fixed_call (fixed_zero m.called e))
+            (other t m'.called alike.long e');
+        maps = λ s room. map_law.fixed center size min_periods a t t' s l.0 l.1 l'.0 l'.1 room number number' m.called m'.called;
       }
 
 -- ---- weights
@@ -175,38 +180,40 @@ pub weights_meet : {center : Bool} {size min_periods : ℕ} {weights : List Floa
     → MeetsWeights center size min_periods weights t (c₀, c) number
 weights_meet {center} {size} {min_periods} {weights} {t} {c₀} {c} {number} call small =
     record {
+      called = call;
       one = demand_one.weights center size min_periods weights t c₀ c number call;
       two = λ e rust. demand_two.weights rust center size min_periods weights t c₀ c small
           (subst (λ (n : ℕ). CalledWeights center size min_periods weights t c₀ c n) e call);
     }
 
-pub two_weights_meet : {center : Bool} {size min_periods : ℕ} {weights : List Float} {t t' : Trace} {c₀ c c₀' c' : Column}
-    {number number' : ℕ} → CalledWeights center size min_periods weights t c₀ c number
-    → CalledWeights center size min_periods weights t' c₀' c' number' → size < 2 ^ 64
-    → MeetTwoWeights center size min_periods weights t t' (c₀, c) (c₀', c') number number'
-two_weights_meet {center} {size} {min_periods} {weights} {t} {t'} {c₀} {c} {c₀'} {c'} {number} {number'} call call' small =
+pub two_weights_meet : {center : Bool} {size min_periods : ℕ} {weights : List Float} {t t' : Trace} {c c' : Column × Column}
+    {number number' : ℕ} → MeetsWeights center size min_periods weights t c number
+    → MeetsWeights center size min_periods weights t' c' number'
+    → MeetTwoWeights center size min_periods weights t t' c c' number number'
+two_weights_meet {center} {size} {min_periods} {weights} {t} {t'} {c} {c'} {number} {number'} m m' =
     record {
-      first = weights_meet call small;
-      second = weights_meet call' small;
-      maps = λ s room. map_law.weights center size min_periods weights t t' s c₀ c c₀' c' room number number' call call';
+      first = m;
+      second = m';
+      maps = λ s room. map_law.weights center size min_periods weights t t' s c.0 c.1 c'.0 c'.1 room number number' m.called m'.called;
     }
 
 -- ---- whole arrays, pairs and ranges
-pub array_meets : {a : ArrayCall} {before after : List Float} {r : ℕ} → CallsArray a before after r → MeetsArray a before after r
-array_meets {a} {before} {after} {r} c =
+pub array_meets : (a : ArrayCall) {before after : List Float} {r : ℕ} → CallsArray a before after r → MeetsArray a before after r
+array_meets a {before} {after} {r} c =
     record {
+      called = c;
       one = demand_one.arrays a before after r c;
       two = λ e rust. demand_two.arrays rust a before after (subst (CallsArray a before after) e c);
     }
 
 -- two calls, of which the law of maps speaks
-pub two_arrays_meet : {a a' : ArrayCall} {before after before' after' : List Float} {r r' : ℕ} → CallsArray a before after r
-    → CallsArray a' before' after' r' → MeetTwoArrays a a' (before, after) (before', after') r r'
-two_arrays_meet {a} {a'} {before} {after} {before'} {after'} {r} {r'} c c' =
+pub two_arrays_meet : {a a' : ArrayCall} {s s' : List Float × List Float} {r r' : ℕ} → MeetsArray a s.0 s.1 r
+    → MeetsArray a' s'.0 s'.1 r' → MeetTwoArrays a a' s s' r r'
+two_arrays_meet {s} {s'} {r} {r'} m m' =
     record {
-      first = array_meets {a = a} c;
-      second = array_meets {a = a'} c';
-      maps = λ s. map_law.arrays s before after before' after' r r' c c';
+      first = m;
+      second = m';
+      maps = λ same. map_law.arrays same s.0 s.1 s'.0 s'.1 r r' m.called m'.called;
     }
 
 -- ---- states: r is what our definition gives, which is what the source gives

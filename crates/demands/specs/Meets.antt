@@ -1,13 +1,12 @@
 -- What the three demands, the statement for pairs of traces, that of a window's lowest and highest reading and the law of maps say of
--- calls,
--- each as the contract of a function of this crate that makes them: demands 1, 2 and 3 of a call without weights, 3 also of two such
+-- calls, each as the contract of a function of this crate that makes them, beside the entry's own, `called`, from which the law of two
+-- calls is drawn: demands 1, 2 and 3 of a call without weights, 3 also of two such
 -- calls, or for 2 and 3 the statement for pairs, where the figure is of two traces; of a variance the other statement too; 1 and 2 of the
 -- others, and the law of any two that are lent maps; what is shown of a step from row to row, and of a skewness state beside a kurtosis
 -- state. What they mean is in `promises` DemandOne, DemandTwo, DemandThree, TwoTraces, LowestHighest, Maps, KeptBounds and SkewInKurtosis.
 -- Lists that are lent come as (before, after). Assumes nothing.
 use Rattle.std.specs.Prelude.{ℕ, ◌+◌, ◌<◌, ◌≡◌, Bool, List, [], ◌∷◌, length, Float}
 use Rattle.root.specs.Root.{root}
-use Rattle.trace.specs.Slices.{MutSlice, entering_mut, leaving}
 use Rattle.trace.specs.Trace.{Trace}
 use Rattle.moment.specs.declared.Figure.{Figure}
 use Rattle.moment.specs.Kurtosis.{skew_part}
@@ -21,14 +20,14 @@ use Rattle.window.specs.Given.{Given}
 use Rattle.window.specs.Outputs.{Column, Lent, column_after}
 use Rattle.window.specs.Histories.{History, inserted, combined, after}
 use Rattle.rolling.specs.Moments.{Statistic, kind_of, skewness, kurtosis as kurtosis_moment}
-use Rattle.rolling.specs.Calls.{Query, GivenTo, Left}
-use Rattle.rolling.specs.Fixed.{fixed_query}
-use Rattle.weighted.specs.Weights.{weighted_at}
-use Rattle.moments.specs.HostCall.{Host, decoded_of, ReadingLists}
+use Rattle.rolling.specs.Calls.{Query, GivenTo, Left, Calls}
+use Rattle.rolling.specs.Fixed.{fixed_query, CallsFixed}
+use Rattle.weighted.specs.Weights.{weighted_at, CalledWeights}
+use Rattle.moments.specs.HostCall.{Host, decoded_of, ReadingLists, CallsBytes}
 use Rattle.moments.specs.Results.{FigureResult}
 use Rattle.demands.specs.declared.states.Both.{Both}
 use Rattle.promises.specs.Rust.{Rust}
-use Rattle.promises.specs.Calls.{ArrayCall, members_of, OfOneTrace, OfTwoTraces}
+use Rattle.promises.specs.Calls.{ArrayCall, CallsArray, members_of, OfOneTrace, OfTwoTraces}
 use Rattle.promises.specs.DemandOne.{checks_of, plan_checks, host_checks, fixed_checks, weights_checks}
 use Rattle.promises.specs.DemandOne.{Answered, HostLeft}
 use Rattle.promises.specs.DemandTwo.{source_of, RowsEqual, FixedRowsEqual, WeightedRowsEqual, CorrectRoot}
@@ -42,6 +41,7 @@ use Rattle.promises.specs.Maps.{SameMaps, SameArrays, SameGiven, SameHost, SameR
 -- one
 pub record MeetsHost (q : Query) (h : Host (kind_of q.statistic))
     (r : ReadingLists (kind_of q.statistic) × ReadingLists (kind_of q.statistic)) (l : Lent × Lent) (number : ℕ) : Type 0 where
+  pub called : CallsBytes q h r l number
   pub one : Answered (host_checks q h r.0 l.0) number {A = ReadingLists (kind_of q.statistic) × Lent} (r.0, l.0) (r.1, l.1)
       (HostLeft q h r.0 r.1 l.0 l.1)
   pub two : number ≡ 0 → (rust : Rust) (one : OfOneTrace q.statistic) → RowsEqual rust q one (decoded_of (kind_of q.statistic) h) l.1
@@ -71,6 +71,7 @@ pub record MeetTwoHosts (q : Query) (h h' : Host (kind_of q.statistic))
 -- ---- plan calls, the trace as doubles
 -- one
 pub record MeetsPlan (q : Query) (t : GivenTo q) (l : Lent × Lent) (number : ℕ) : Type 0 where
+  pub called : Calls q t l number
   pub one : Answered (plan_checks q t l.0) number l.0 l.1 (Left q t l.0 l.1 0)
   pub two : number ≡ 0 → (rust : Rust) (one : OfOneTrace q.statistic) → RowsEqual rust q one t l.1
   pub three : number ≡ 0 → OfOneTrace q.statistic → (k : ℕ) → k < rows q.plan → Yielded q t l.1 k
@@ -89,6 +90,7 @@ pub record MeetTwoPlans (q : Query) (t t' : GivenTo q) (l l' : Lent × Lent) (nu
 -- one
 pub record MeetsFixed (center : Bool) (window_size min_periods : ℕ) (a : Statistic) (t : Given (kind_of a)) (l : Lent × Lent)
     (number : ℕ) : Type 0 where
+  pub called : CallsFixed center window_size min_periods a t l number
   pub one : Answered (fixed_checks window_size a t l.0) number l.0 l.1
       (Left (fixed_query center window_size min_periods a t) t l.0 l.1 0)
   pub two : number ≡ 0 → (rust : Rust) (one : OfOneTrace a) → FixedRowsEqual rust center window_size min_periods a one t l.1
@@ -115,6 +117,7 @@ pub record MeetTwoFixed (center : Bool) (window_size min_periods : ℕ) (a : Sta
 -- one
 pub record MeetsWeights (center : Bool) (window_size min_periods : ℕ) (weights : List Float) (t : Trace) (c : Column × Column)
     (number : ℕ) : Type 0 where
+  pub called : CalledWeights center window_size min_periods weights t c.0 c.1 number
   pub one : Answered (weights_checks window_size weights t c.0) number c.0 c.1
       (c.1 ≡ column_after 0 (weighted_at center window_size min_periods weights t.readings) (length t.readings) c.0)
   pub two : number ≡ 0 → (rust : Rust) → WeightedRowsEqual rust center window_size min_periods weights t c.1
@@ -141,15 +144,13 @@ pub record MeetsStep (center : Bool) (window_size n i : ℕ) (at next : Offsets)
   pub shown : i + 1 < n → ToNextRow center window_size n i (at.start, at.end) (next.start, next.end)
 
 -- ---- whole arrays, pairs and ranges
+-- one
 pub record MeetsArray (a : ArrayCall) (before after : List Float) (number : ℕ) : Type 0 where
+  pub called : CallsArray a before after number
   pub one : Answered (checks_of a) number before after (after ≡ members_of a)
   pub two : number ≡ 0 → (rust : Rust) → after ≡ source_of rust a
 
--- a state that is lent, before and after
-abbrev pub holding : MutSlice Float → List Float × List Float
-holding state = (entering_mut state, leaving state)
-
--- two
+-- two, each with its state before and after
 pub record MeetTwoArrays (a a' : ArrayCall) (state state' : List Float × List Float) (number number' : ℕ) : Type 0 where
   pub first : MeetsArray a state.0 state.1 number
   pub second : MeetsArray a' state'.0 state'.1 number'

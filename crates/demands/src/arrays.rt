@@ -1,231 +1,109 @@
-// Whole arrays, pairs and ranges, of which demands 1 and 2 speak; and two calls with either of two maps, of which the law of maps does.
-ghost use Rattle.trace.specs.Trace.{tracing};
-ghost use Rattle.promises.specs.Calls.{of_var, of_skew, of_kurtosis, of_cov, of_pearson, of_skew_range, of_kurtosis_range};
-ghost use Rattle.demands.specs.Meets.{MeetsArray, MeetTwoArrays, holding};
+// Whole arrays, pairs and ranges, of which demands 1 and 2 speak; and two calls of a kind, of which the law of maps does.
+ghost use Rattle.demands.specs.Given.{doubles};
+ghost use Rattle.promises.specs.Calls.{ArrayCall, of_var, of_skew, of_kurtosis, of_cov, of_pearson, of_skew_range, of_kurtosis_range};
+ghost use Rattle.demands.specs.Meets.{MeetsArray, MeetTwoArrays};
 
-use crate::Numbers;
+use crate::lent::{DoublePair, Doubles};
+use moment::{CovState, KurtosisState, PearsonState, SkewState, VarState};
 
-pub fn var(trace: &[f64], has_map: bool, map: &[u8], state: &mut [f64; 3]) -> u32
-    ensures { MeetsArray (of_var (tracing trace has_map map)) state.old state.new result }
-{
-    moments::moments_var(trace, has_map, map, state)
+// A trace, and a range of its places.
+#[derive(Clone, Copy)]
+pub struct Range<'a> {
+    pub x: Doubles<'a>,
+    pub start: usize,
+    pub length: usize,
 }
 
-pub fn skew(trace: &[f64], has_map: bool, map: &[u8], state: &mut [f64; 4]) -> u32
-    ensures { MeetsArray (of_skew (tracing trace has_map map)) state.old state.new result }
-{
-    moments::moments_skew(trace, has_map, map, state)
+// The call that hands out a state, of N members, of what is given as a T.
+pub trait StateCall<T: Copy, const N: usize> {
+    ghost asked: { T → ArrayCall };
+
+    fn call(x: T, state: &mut [f64; N]) -> u32
+        ensures { MeetsArray (asked x) state.old state.new result };
 }
 
-pub fn kurtosis(trace: &[f64], has_map: bool, map: &[u8], state: &mut [f64; 5]) -> u32
-    ensures { MeetsArray (of_kurtosis (tracing trace has_map map)) state.old state.new result }
-{
-    moments::moments_kurtosis(trace, has_map, map, state)
+impl StateCall<Doubles<'_>, 3> for VarState {
+    ghost asked = { λ x. of_var (doubles x) };
+
+    fn call(x: Doubles, state: &mut [f64; 3]) -> u32 {
+        moments::moments_var(x.values, x.has_map, x.map, state)
+    }
 }
 
-pub fn cov(
-    x: &[f64],
-    x_has_map: bool,
-    x_map: &[u8],
-    y: &[f64],
-    y_has_map: bool,
-    y_map: &[u8],
-    state: &mut [f64; 4],
-) -> u32
-    ensures { MeetsArray (of_cov (tracing x x_has_map x_map) (tracing y y_has_map y_map))
-        state.old state.new result }
-{
-    moments::moments_cov(x, x_has_map, x_map, y, y_has_map, y_map, state)
+impl StateCall<Doubles<'_>, 4> for SkewState {
+    ghost asked = { λ x. of_skew (doubles x) };
+
+    fn call(x: Doubles, state: &mut [f64; 4]) -> u32 {
+        moments::moments_skew(x.values, x.has_map, x.map, state)
+    }
 }
 
-pub fn pearson_corr(
-    x: &[f64],
-    x_has_map: bool,
-    x_map: &[u8],
-    y: &[f64],
-    y_has_map: bool,
-    y_map: &[u8],
-    state: &mut [f64; 6],
-) -> u32
-    ensures { MeetsArray (of_pearson (tracing x x_has_map x_map) (tracing y y_has_map y_map))
-        state.old state.new result }
-{
-    moments::moments_pearson_corr(x, x_has_map, x_map, y, y_has_map, y_map, state)
+impl StateCall<Doubles<'_>, 5> for KurtosisState {
+    ghost asked = { λ x. of_kurtosis (doubles x) };
+
+    fn call(x: Doubles, state: &mut [f64; 5]) -> u32 {
+        moments::moments_kurtosis(x.values, x.has_map, x.map, state)
+    }
 }
 
-pub fn skew_range(
-    trace: &[f64],
-    has_map: bool,
-    map: &[u8],
-    start: usize,
-    length: usize,
-    state: &mut [f64; 4],
-) -> u32
-    ensures { MeetsArray (of_skew_range (tracing trace has_map map) start length) state.old state.new result }
-{
-    moments::moments_skew_range(trace, has_map, map, start, length, state)
+impl StateCall<DoublePair<'_>, 4> for CovState {
+    ghost asked = { λ x. of_cov (doubles x.x) (doubles x.y) };
+
+    fn call(x: DoublePair, state: &mut [f64; 4]) -> u32 {
+        moments::moments_cov(
+            x.x.values,
+            x.x.has_map,
+            x.x.map,
+            x.y.values,
+            x.y.has_map,
+            x.y.map,
+            state,
+        )
+    }
 }
 
-pub fn kurtosis_range(
-    trace: &[f64],
-    has_map: bool,
-    map: &[u8],
-    start: usize,
-    length: usize,
-    state: &mut [f64; 5],
-) -> u32
-    ensures { MeetsArray (of_kurtosis_range (tracing trace has_map map) start length) state.old state.new result }
-{
-    moments::moments_kurtosis_range(trace, has_map, map, start, length, state)
+impl StateCall<DoublePair<'_>, 6> for PearsonState {
+    ghost asked = { λ x. of_pearson (doubles x.x) (doubles x.y) };
+
+    fn call(x: DoublePair, state: &mut [f64; 6]) -> u32 {
+        moments::moments_pearson_corr(
+            x.x.values,
+            x.x.has_map,
+            x.x.map,
+            x.y.values,
+            x.y.has_map,
+            x.y.map,
+            state,
+        )
+    }
 }
 
-pub fn two_var(
-    trace: &[f64],
-    has_map: bool,
-    map: &[u8],
-    other_map: &[u8],
-    state: &mut [f64; 3],
-    other_state: &mut [f64; 3],
-) -> Numbers
-    ensures { MeetTwoArrays (of_var (tracing trace has_map map)) (of_var (tracing trace has_map other_map))
-        (holding state) (holding other_state) result.first result.second }
-{
-    let first = moments::moments_var(trace, has_map, map, state);
-    let second = moments::moments_var(trace, has_map, other_map, other_state);
-    Numbers { first, second }
+impl StateCall<Range<'_>, 4> for SkewState {
+    ghost asked = { λ x. of_skew_range (doubles x.x) x.start x.length };
+
+    fn call(x: Range, state: &mut [f64; 4]) -> u32 {
+        moments::moments_skew_range(x.x.values, x.x.has_map, x.x.map, x.start, x.length, state)
+    }
 }
 
-pub fn two_skew(
-    trace: &[f64],
-    has_map: bool,
-    map: &[u8],
-    other_map: &[u8],
-    state: &mut [f64; 4],
-    other_state: &mut [f64; 4],
-) -> Numbers
-    ensures { MeetTwoArrays (of_skew (tracing trace has_map map)) (of_skew (tracing trace has_map other_map))
-        (holding state) (holding other_state) result.first result.second }
-{
-    let first = moments::moments_skew(trace, has_map, map, state);
-    let second = moments::moments_skew(trace, has_map, other_map, other_state);
-    Numbers { first, second }
+impl StateCall<Range<'_>, 5> for KurtosisState {
+    ghost asked = { λ x. of_kurtosis_range (doubles x.x) x.start x.length };
+
+    fn call(x: Range, state: &mut [f64; 5]) -> u32 {
+        moments::moments_kurtosis_range(x.x.values, x.x.has_map, x.x.map, x.start, x.length, state)
+    }
 }
 
-pub fn two_kurtosis(
-    trace: &[f64],
-    has_map: bool,
-    map: &[u8],
-    other_map: &[u8],
-    state: &mut [f64; 5],
-    other_state: &mut [f64; 5],
-) -> Numbers
-    ensures { MeetTwoArrays (of_kurtosis (tracing trace has_map map)) (of_kurtosis (tracing trace has_map other_map))
-        (holding state) (holding other_state) result.first result.second }
+// Two of a kind.
+pub fn two_arrays<T: Copy, const N: usize, S: StateCall<T, N>>(
+    x: T,
+    y: T,
+    x_state: &mut [f64; N],
+    y_state: &mut [f64; N],
+) -> (u32, u32)
+    ensures { MeetTwoArrays (S.asked x) (S.asked y) (x_state.old, x_state.new) (y_state.old, y_state.new) result.0 result.1 }
 {
-    let first = moments::moments_kurtosis(trace, has_map, map, state);
-    let second = moments::moments_kurtosis(trace, has_map, other_map, other_state);
-    Numbers { first, second }
-}
-
-pub fn two_cov(
-    x: &[f64],
-    x_has_map: bool,
-    x_map: &[u8],
-    x_other_map: &[u8],
-    y: &[f64],
-    y_has_map: bool,
-    y_map: &[u8],
-    y_other_map: &[u8],
-    state: &mut [f64; 4],
-    other_state: &mut [f64; 4],
-) -> Numbers
-    ensures { MeetTwoArrays (of_cov (tracing x x_has_map x_map) (tracing y y_has_map y_map))
-        (of_cov (tracing x x_has_map x_other_map) (tracing y y_has_map y_other_map))
-        (holding state) (holding other_state) result.first result.second }
-{
-    let first = moments::moments_cov(x, x_has_map, x_map, y, y_has_map, y_map, state);
-    let second = moments::moments_cov(
-        x,
-        x_has_map,
-        x_other_map,
-        y,
-        y_has_map,
-        y_other_map,
-        other_state,
-    );
-    Numbers { first, second }
-}
-
-pub fn two_pearson_corr(
-    x: &[f64],
-    x_has_map: bool,
-    x_map: &[u8],
-    x_other_map: &[u8],
-    y: &[f64],
-    y_has_map: bool,
-    y_map: &[u8],
-    y_other_map: &[u8],
-    state: &mut [f64; 6],
-    other_state: &mut [f64; 6],
-) -> Numbers
-    ensures { MeetTwoArrays (of_pearson (tracing x x_has_map x_map) (tracing y y_has_map y_map))
-        (of_pearson (tracing x x_has_map x_other_map) (tracing y y_has_map y_other_map))
-        (holding state) (holding other_state) result.first result.second }
-{
-    let first = moments::moments_pearson_corr(x, x_has_map, x_map, y, y_has_map, y_map, state);
-    let second = moments::moments_pearson_corr(
-        x,
-        x_has_map,
-        x_other_map,
-        y,
-        y_has_map,
-        y_other_map,
-        other_state,
-    );
-    Numbers { first, second }
-}
-
-pub fn two_skew_range(
-    trace: &[f64],
-    has_map: bool,
-    map: &[u8],
-    other_map: &[u8],
-    start: usize,
-    length: usize,
-    state: &mut [f64; 4],
-    other_state: &mut [f64; 4],
-) -> Numbers
-    ensures { MeetTwoArrays (of_skew_range (tracing trace has_map map) start length)
-        (of_skew_range (tracing trace has_map other_map) start length)
-        (holding state) (holding other_state) result.first result.second }
-{
-    let first = moments::moments_skew_range(trace, has_map, map, start, length, state);
-    let second = moments::moments_skew_range(trace, has_map, other_map, start, length, other_state);
-    Numbers { first, second }
-}
-
-pub fn two_kurtosis_range(
-    trace: &[f64],
-    has_map: bool,
-    map: &[u8],
-    other_map: &[u8],
-    start: usize,
-    length: usize,
-    state: &mut [f64; 5],
-    other_state: &mut [f64; 5],
-) -> Numbers
-    ensures { MeetTwoArrays (of_kurtosis_range (tracing trace has_map map) start length)
-        (of_kurtosis_range (tracing trace has_map other_map) start length)
-        (holding state) (holding other_state) result.first result.second }
-{
-    let first = moments::moments_kurtosis_range(trace, has_map, map, start, length, state);
-    let second = moments::moments_kurtosis_range(
-        trace,
-        has_map,
-        other_map,
-        start,
-        length,
-        other_state,
-    );
-    Numbers { first, second }
+    let first = S::call(x, x_state);
+    let second = S::call(y, y_state);
+    (first, second)
 }

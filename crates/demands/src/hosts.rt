@@ -1,507 +1,218 @@
-// Plan calls of a host: one, of which all three demands speak, and two of the same plan, setting and figure, of which the third
-// and the law of maps speak; and those of two traces, x and y, of which the statement for pairs of traces speaks in place of demands
-// 2 and 3. Of two such calls the second has the traces u and v. Of a variance its lowest and highest reading are spoken of too.
-ghost use Rattle.rolling.specs.Moments.{Variance, Skewness, Kurtosis, Covariance, Correlation};
-ghost use Rattle.rolling.specs.Calls.{querying, lending, lending_three};
-ghost use Rattle.moments.specs.HostCall.{hosting, decoding, hosting_pair, decoding_pair};
+// Plan calls of a host: one, of which all three demands speak, or for 2 and 3 the statement for pairs of traces, and of a variance that of
+// its lowest and highest reading; and two, of which the third and the law of maps speak.
+ghost use Rattle.plan.specs.Plan.{planned};
+ghost use Rattle.rolling.specs.Moments.{Statistic, Variance, Skewness, Kurtosis, Covariance, Correlation, kind_of};
+ghost use Rattle.rolling.specs.Calls.{query};
+ghost use Rattle.moments.specs.HostCall.{Host, ReadingLists};
+ghost use Rattle.demands.specs.Given.{hosted, hosted_pair, decoded, decoded_pair};
 ghost use Rattle.demands.specs.Meets.{MeetsHost, MeetTwoHosts};
 
-use crate::Numbers;
+use crate::lent::{Answers, BytePair, Bytes, Figures, ReadingPair, Readings, Variances};
+use plan::Plan;
+use rolling::{CovMoment, KurtosisMoment, PearsonMoment, SkewMoment, VarianceMoment};
 
-pub fn plan_var(
-    trace: &[u8],
-    readings: &mut [f64],
-    has_map: bool,
-    map: &[u8],
-    starts: &[u32],
-    ends: &[u32],
-    min_periods: usize,
-    ddof: u8,
-    work: &mut [f64],
-    figures: &mut [f64],
-    present: &mut [u8],
-    lowest: &mut [f64],
-    lowest_present: &mut [u8],
-    highest: &mut [f64],
-    highest_present: &mut [u8],
-) -> u32
-    ensures { MeetsHost (querying starts ends min_periods (Variance ddof)) (hosting trace has_map map) (decoding readings)
-        (lending_three work figures present lowest lowest_present highest highest_present) result }
-{
-    moments::moments_plan_var(
-        trace,
-        readings,
-        has_map,
-        map,
-        starts,
-        ends,
-        min_periods,
-        ddof,
-        work,
-        figures,
-        present,
-        lowest,
-        lowest_present,
-        highest,
-        highest_present,
-    )
+// The call of a figure, of what is given as a B, decoded into an R and answered in an L.
+pub trait HostCall<B: Copy, R, L: Answers>: Copy {
+    ghost statistic: { Self → Statistic };
+
+    ghost hosted: { (f : Self) → B → Host (kind_of (statistic f)) };
+
+    ghost decoded: { (f : Self) → R → ReadingLists (kind_of (statistic f)) };
+
+    fn call(self, given: B, plan: Plan, min_periods: usize, readings: &mut R, lists: &mut L) -> u32
+        ensures { MeetsHost (query (planned plan.entry) min_periods (statistic self)) (hosted self given)
+            (decoded self readings.old, decoded self readings.new) (L.lent lists.old, L.lent lists.new) result };
 }
 
-pub fn two_plans_var(
-    x: &[u8],
-    x_readings: &mut [f64],
-    x_has_map: bool,
-    x_map: &[u8],
-    y: &[u8],
-    y_readings: &mut [f64],
-    y_has_map: bool,
-    y_map: &[u8],
-    starts: &[u32],
-    ends: &[u32],
-    min_periods: usize,
-    ddof: u8,
-    x_work: &mut [f64],
-    x_figures: &mut [f64],
-    x_present: &mut [u8],
-    x_lowest: &mut [f64],
-    x_lowest_present: &mut [u8],
-    x_highest: &mut [f64],
-    x_highest_present: &mut [u8],
-    y_work: &mut [f64],
-    y_figures: &mut [f64],
-    y_present: &mut [u8],
-    y_lowest: &mut [f64],
-    y_lowest_present: &mut [u8],
-    y_highest: &mut [f64],
-    y_highest_present: &mut [u8],
-) -> Numbers
-    ensures { MeetTwoHosts (querying starts ends min_periods (Variance ddof))
-        (hosting x x_has_map x_map) (hosting y y_has_map y_map) (decoding x_readings) (decoding y_readings)
-        (lending_three x_work x_figures x_present x_lowest x_lowest_present x_highest x_highest_present)
-        (lending_three y_work y_figures y_present y_lowest y_lowest_present y_highest y_highest_present)
-        result.first result.second }
-{
-    let first = moments::moments_plan_var(
-        x,
-        x_readings,
-        x_has_map,
-        x_map,
-        starts,
-        ends,
-        min_periods,
-        ddof,
-        x_work,
-        x_figures,
-        x_present,
-        x_lowest,
-        x_lowest_present,
-        x_highest,
-        x_highest_present,
-    );
-    let second = moments::moments_plan_var(
-        y,
-        y_readings,
-        y_has_map,
-        y_map,
-        starts,
-        ends,
-        min_periods,
-        ddof,
-        y_work,
-        y_figures,
-        y_present,
-        y_lowest,
-        y_lowest_present,
-        y_highest,
-        y_highest_present,
-    );
-    Numbers { first, second }
+impl HostCall<Bytes<'_>, Readings<'_>, Variances<'_>> for VarianceMoment {
+    ghost statistic = { λ f. Variance f.ddof };
+
+    ghost hosted = { λ f t. hosted t };
+
+    ghost decoded = { λ f r. decoded r };
+
+    fn call(
+        self,
+        given: Bytes,
+        plan: Plan,
+        min_periods: usize,
+        readings: &mut Readings,
+        lists: &mut Variances,
+    ) -> u32 {
+        let VarianceMoment { ddof } = self;
+        moments::moments_plan_var(
+            given.values,
+            readings.list,
+            given.has_map,
+            given.map,
+            plan.starts,
+            plan.ends,
+            min_periods,
+            ddof,
+            lists.work,
+            lists.figures,
+            lists.present,
+            lists.lowest,
+            lists.lowest_present,
+            lists.highest,
+            lists.highest_present,
+        )
+    }
 }
 
-pub fn plan_skew(
-    trace: &[u8],
-    readings: &mut [f64],
-    has_map: bool,
-    map: &[u8],
-    starts: &[u32],
-    ends: &[u32],
-    min_periods: usize,
-    bias: bool,
-    work: &mut [f64],
-    figures: &mut [f64],
-    present: &mut [u8],
-) -> u32
-    ensures { MeetsHost (querying starts ends min_periods (Skewness bias)) (hosting trace has_map map) (decoding readings)
-        (lending work figures present) result }
-{
-    moments::moments_plan_skew(
-        trace,
-        readings,
-        has_map,
-        map,
-        starts,
-        ends,
-        min_periods,
-        bias,
-        work,
-        figures,
-        present,
-    )
+impl HostCall<Bytes<'_>, Readings<'_>, Figures<'_>> for SkewMoment {
+    ghost statistic = { λ f. Skewness f.bias };
+
+    ghost hosted = { λ f t. hosted t };
+
+    ghost decoded = { λ f r. decoded r };
+
+    fn call(
+        self,
+        given: Bytes,
+        plan: Plan,
+        min_periods: usize,
+        readings: &mut Readings,
+        lists: &mut Figures,
+    ) -> u32 {
+        let SkewMoment { bias } = self;
+        moments::moments_plan_skew(
+            given.values,
+            readings.list,
+            given.has_map,
+            given.map,
+            plan.starts,
+            plan.ends,
+            min_periods,
+            bias,
+            lists.work,
+            lists.figures,
+            lists.present,
+        )
+    }
 }
 
-pub fn two_plans_skew(
-    x: &[u8],
-    x_readings: &mut [f64],
-    x_has_map: bool,
-    x_map: &[u8],
-    y: &[u8],
-    y_readings: &mut [f64],
-    y_has_map: bool,
-    y_map: &[u8],
-    starts: &[u32],
-    ends: &[u32],
-    min_periods: usize,
-    bias: bool,
-    x_work: &mut [f64],
-    x_figures: &mut [f64],
-    x_present: &mut [u8],
-    y_work: &mut [f64],
-    y_figures: &mut [f64],
-    y_present: &mut [u8],
-) -> Numbers
-    ensures { MeetTwoHosts (querying starts ends min_periods (Skewness bias))
-        (hosting x x_has_map x_map) (hosting y y_has_map y_map) (decoding x_readings) (decoding y_readings)
-        (lending x_work x_figures x_present) (lending y_work y_figures y_present) result.first result.second }
-{
-    let first = moments::moments_plan_skew(
-        x,
-        x_readings,
-        x_has_map,
-        x_map,
-        starts,
-        ends,
-        min_periods,
-        bias,
-        x_work,
-        x_figures,
-        x_present,
-    );
-    let second = moments::moments_plan_skew(
-        y,
-        y_readings,
-        y_has_map,
-        y_map,
-        starts,
-        ends,
-        min_periods,
-        bias,
-        y_work,
-        y_figures,
-        y_present,
-    );
-    Numbers { first, second }
+impl HostCall<Bytes<'_>, Readings<'_>, Figures<'_>> for KurtosisMoment {
+    ghost statistic = { λ f. Kurtosis f.fisher f.bias };
+
+    ghost hosted = { λ f t. hosted t };
+
+    ghost decoded = { λ f r. decoded r };
+
+    fn call(
+        self,
+        given: Bytes,
+        plan: Plan,
+        min_periods: usize,
+        readings: &mut Readings,
+        lists: &mut Figures,
+    ) -> u32 {
+        let KurtosisMoment { fisher, bias } = self;
+        moments::moments_plan_kurtosis(
+            given.values,
+            readings.list,
+            given.has_map,
+            given.map,
+            plan.starts,
+            plan.ends,
+            min_periods,
+            fisher,
+            bias,
+            lists.work,
+            lists.figures,
+            lists.present,
+        )
+    }
 }
 
-pub fn plan_kurtosis(
-    trace: &[u8],
-    readings: &mut [f64],
-    has_map: bool,
-    map: &[u8],
-    starts: &[u32],
-    ends: &[u32],
-    min_periods: usize,
-    fisher: bool,
-    bias: bool,
-    work: &mut [f64],
-    figures: &mut [f64],
-    present: &mut [u8],
-) -> u32
-    ensures { MeetsHost (querying starts ends min_periods (Kurtosis fisher bias)) (hosting trace has_map map) (decoding readings)
-        (lending work figures present) result }
-{
-    moments::moments_plan_kurtosis(
-        trace,
-        readings,
-        has_map,
-        map,
-        starts,
-        ends,
-        min_periods,
-        fisher,
-        bias,
-        work,
-        figures,
-        present,
-    )
+impl HostCall<BytePair<'_>, ReadingPair<'_>, Figures<'_>> for CovMoment {
+    ghost statistic = { λ f. Covariance f.ddof };
+
+    ghost hosted = { λ f t. hosted_pair t };
+
+    ghost decoded = { λ f r. decoded_pair r };
+
+    fn call(
+        self,
+        given: BytePair,
+        plan: Plan,
+        min_periods: usize,
+        readings: &mut ReadingPair,
+        lists: &mut Figures,
+    ) -> u32 {
+        let CovMoment { ddof } = self;
+        moments::moments_plan_cov(
+            given.x.values,
+            readings.x,
+            given.x.has_map,
+            given.x.map,
+            given.y.values,
+            readings.y,
+            given.y.has_map,
+            given.y.map,
+            plan.starts,
+            plan.ends,
+            min_periods,
+            ddof,
+            lists.work,
+            lists.figures,
+            lists.present,
+        )
+    }
 }
 
-pub fn two_plans_kurtosis(
-    x: &[u8],
-    x_readings: &mut [f64],
-    x_has_map: bool,
-    x_map: &[u8],
-    y: &[u8],
-    y_readings: &mut [f64],
-    y_has_map: bool,
-    y_map: &[u8],
-    starts: &[u32],
-    ends: &[u32],
-    min_periods: usize,
-    fisher: bool,
-    bias: bool,
-    x_work: &mut [f64],
-    x_figures: &mut [f64],
-    x_present: &mut [u8],
-    y_work: &mut [f64],
-    y_figures: &mut [f64],
-    y_present: &mut [u8],
-) -> Numbers
-    ensures { MeetTwoHosts (querying starts ends min_periods (Kurtosis fisher bias))
-        (hosting x x_has_map x_map) (hosting y y_has_map y_map) (decoding x_readings) (decoding y_readings)
-        (lending x_work x_figures x_present) (lending y_work y_figures y_present) result.first result.second }
-{
-    let first = moments::moments_plan_kurtosis(
-        x,
-        x_readings,
-        x_has_map,
-        x_map,
-        starts,
-        ends,
-        min_periods,
-        fisher,
-        bias,
-        x_work,
-        x_figures,
-        x_present,
-    );
-    let second = moments::moments_plan_kurtosis(
-        y,
-        y_readings,
-        y_has_map,
-        y_map,
-        starts,
-        ends,
-        min_periods,
-        fisher,
-        bias,
-        y_work,
-        y_figures,
-        y_present,
-    );
-    Numbers { first, second }
+impl HostCall<BytePair<'_>, ReadingPair<'_>, Figures<'_>> for PearsonMoment {
+    ghost statistic = { λ f. Correlation };
+
+    ghost hosted = { λ f t. hosted_pair t };
+
+    ghost decoded = { λ f r. decoded_pair r };
+
+    fn call(
+        self,
+        given: BytePair,
+        plan: Plan,
+        min_periods: usize,
+        readings: &mut ReadingPair,
+        lists: &mut Figures,
+    ) -> u32 {
+        moments::moments_plan_pearson_corr(
+            given.x.values,
+            readings.x,
+            given.x.has_map,
+            given.x.map,
+            given.y.values,
+            readings.y,
+            given.y.has_map,
+            given.y.map,
+            plan.starts,
+            plan.ends,
+            min_periods,
+            lists.work,
+            lists.figures,
+            lists.present,
+        )
+    }
 }
 
-pub fn plan_cov(
-    x: &[u8],
-    x_readings: &mut [f64],
-    x_has_map: bool,
-    x_map: &[u8],
-    y: &[u8],
-    y_readings: &mut [f64],
-    y_has_map: bool,
-    y_map: &[u8],
-    starts: &[u32],
-    ends: &[u32],
+// Two, of the same plan, setting and figure.
+pub fn two_hosts<B: Copy, R, L: Answers, F: HostCall<B, R, L>>(
+    figure: F,
+    x: B,
+    y: B,
+    plan: Plan,
     min_periods: usize,
-    ddof: u8,
-    work: &mut [f64],
-    figures: &mut [f64],
-    present: &mut [u8],
-) -> u32
-    ensures { MeetsHost (querying starts ends min_periods (Covariance ddof))
-        (hosting_pair x x_has_map x_map y y_has_map y_map) (decoding_pair x_readings y_readings)
-        (lending work figures present) result }
+    x_readings: &mut R,
+    y_readings: &mut R,
+    x_lists: &mut L,
+    y_lists: &mut L,
+) -> (u32, u32)
+    ensures { MeetTwoHosts (query (planned plan.entry) min_periods (F.statistic figure)) (F.hosted figure x) (F.hosted figure y)
+        (F.decoded figure x_readings.old, F.decoded figure x_readings.new)
+        (F.decoded figure y_readings.old, F.decoded figure y_readings.new)
+        (L.lent x_lists.old, L.lent x_lists.new) (L.lent y_lists.old, L.lent y_lists.new) result.0 result.1 }
 {
-    moments::moments_plan_cov(
-        x,
-        x_readings,
-        x_has_map,
-        x_map,
-        y,
-        y_readings,
-        y_has_map,
-        y_map,
-        starts,
-        ends,
-        min_periods,
-        ddof,
-        work,
-        figures,
-        present,
-    )
-}
-
-pub fn two_plans_cov(
-    x: &[u8],
-    x_readings: &mut [f64],
-    x_has_map: bool,
-    x_map: &[u8],
-    y: &[u8],
-    y_readings: &mut [f64],
-    y_has_map: bool,
-    y_map: &[u8],
-    u: &[u8],
-    u_readings: &mut [f64],
-    u_has_map: bool,
-    u_map: &[u8],
-    v: &[u8],
-    v_readings: &mut [f64],
-    v_has_map: bool,
-    v_map: &[u8],
-    starts: &[u32],
-    ends: &[u32],
-    min_periods: usize,
-    ddof: u8,
-    work: &mut [f64],
-    figures: &mut [f64],
-    present: &mut [u8],
-    other_work: &mut [f64],
-    other_figures: &mut [f64],
-    other_present: &mut [u8],
-) -> Numbers
-    ensures { MeetTwoHosts (querying starts ends min_periods (Covariance ddof))
-        (hosting_pair x x_has_map x_map y y_has_map y_map) (hosting_pair u u_has_map u_map v v_has_map v_map)
-        (decoding_pair x_readings y_readings) (decoding_pair u_readings v_readings)
-        (lending work figures present) (lending other_work other_figures other_present) result.first result.second }
-{
-    let first = moments::moments_plan_cov(
-        x,
-        x_readings,
-        x_has_map,
-        x_map,
-        y,
-        y_readings,
-        y_has_map,
-        y_map,
-        starts,
-        ends,
-        min_periods,
-        ddof,
-        work,
-        figures,
-        present,
-    );
-    let second = moments::moments_plan_cov(
-        u,
-        u_readings,
-        u_has_map,
-        u_map,
-        v,
-        v_readings,
-        v_has_map,
-        v_map,
-        starts,
-        ends,
-        min_periods,
-        ddof,
-        other_work,
-        other_figures,
-        other_present,
-    );
-    Numbers { first, second }
-}
-
-pub fn plan_pearson_corr(
-    x: &[u8],
-    x_readings: &mut [f64],
-    x_has_map: bool,
-    x_map: &[u8],
-    y: &[u8],
-    y_readings: &mut [f64],
-    y_has_map: bool,
-    y_map: &[u8],
-    starts: &[u32],
-    ends: &[u32],
-    min_periods: usize,
-    work: &mut [f64],
-    figures: &mut [f64],
-    present: &mut [u8],
-) -> u32
-    ensures { MeetsHost (querying starts ends min_periods Correlation)
-        (hosting_pair x x_has_map x_map y y_has_map y_map) (decoding_pair x_readings y_readings)
-        (lending work figures present) result }
-{
-    moments::moments_plan_pearson_corr(
-        x,
-        x_readings,
-        x_has_map,
-        x_map,
-        y,
-        y_readings,
-        y_has_map,
-        y_map,
-        starts,
-        ends,
-        min_periods,
-        work,
-        figures,
-        present,
-    )
-}
-
-pub fn two_plans_pearson_corr(
-    x: &[u8],
-    x_readings: &mut [f64],
-    x_has_map: bool,
-    x_map: &[u8],
-    y: &[u8],
-    y_readings: &mut [f64],
-    y_has_map: bool,
-    y_map: &[u8],
-    u: &[u8],
-    u_readings: &mut [f64],
-    u_has_map: bool,
-    u_map: &[u8],
-    v: &[u8],
-    v_readings: &mut [f64],
-    v_has_map: bool,
-    v_map: &[u8],
-    starts: &[u32],
-    ends: &[u32],
-    min_periods: usize,
-    work: &mut [f64],
-    figures: &mut [f64],
-    present: &mut [u8],
-    other_work: &mut [f64],
-    other_figures: &mut [f64],
-    other_present: &mut [u8],
-) -> Numbers
-    ensures { MeetTwoHosts (querying starts ends min_periods Correlation)
-        (hosting_pair x x_has_map x_map y y_has_map y_map) (hosting_pair u u_has_map u_map v v_has_map v_map)
-        (decoding_pair x_readings y_readings) (decoding_pair u_readings v_readings)
-        (lending work figures present) (lending other_work other_figures other_present) result.first result.second }
-{
-    let first = moments::moments_plan_pearson_corr(
-        x,
-        x_readings,
-        x_has_map,
-        x_map,
-        y,
-        y_readings,
-        y_has_map,
-        y_map,
-        starts,
-        ends,
-        min_periods,
-        work,
-        figures,
-        present,
-    );
-    let second = moments::moments_plan_pearson_corr(
-        u,
-        u_readings,
-        u_has_map,
-        u_map,
-        v,
-        v_readings,
-        v_has_map,
-        v_map,
-        starts,
-        ends,
-        min_periods,
-        other_work,
-        other_figures,
-        other_present,
-    );
-    Numbers { first, second }
+    let first = figure.call(x, plan, min_periods, x_readings, x_lists);
+    let second = figure.call(y, plan, min_periods, y_readings, y_lists);
+    (first, second)
 }

@@ -2,281 +2,170 @@
 ghost use Rattle.trace.specs.Lent.{traced};
 ghost use Rattle.trace.specs.Outcomes.{outcome_number};
 ghost use Rattle.plan.specs.Plan.{planned};
-ghost use Rattle.rolling.specs.Moments.{Variance, Skewness, Kurtosis, Covariance, Correlation};
-ghost use Rattle.rolling.specs.Calls.{query, lending, lending_three};
+ghost use Rattle.window.specs.Given.{Given};
+ghost use Rattle.rolling.specs.Moments.{Statistic, Variance, Skewness, Kurtosis, Covariance, Correlation, kind_of};
+ghost use Rattle.rolling.specs.Calls.{query};
 ghost use Rattle.rolling.specs.Code.Rows.{paired};
 ghost use Rattle.demands.specs.Meets.{MeetsPlan, MeetTwoPlans};
 
+use crate::lent::{Answers, Figures, Variances};
 use plan::Plan;
+use rolling::{CovMoment, KurtosisMoment, PearsonMoment, SkewMoment, VarianceMoment};
 use trace::{Pair, Refusal, Trace};
 
-pub fn plan_var(
-    x: Trace,
-    plan: Plan,
-    min_periods: usize,
-    ddof: u8,
-    work: &mut [f64],
-    figures: &mut [f64],
-    present: &mut [u8],
-    lowest: &mut [f64],
-    lowest_present: &mut [u8],
-    highest: &mut [f64],
-    highest_present: &mut [u8],
-) -> Result<(), Refusal>
-    ensures { MeetsPlan (query (planned plan.entry) min_periods (Variance ddof)) (traced x.entry)
-        (lending_three work figures present lowest lowest_present highest highest_present) (outcome_number result) }
-{
-    rolling::plan_var(
-        x,
-        plan,
-        min_periods,
-        ddof,
-        work,
-        figures,
-        present,
-        lowest,
-        lowest_present,
-        highest,
-        highest_present,
-    )
+pub trait PlanCall<T: Copy, L: Answers>: Copy {
+    ghost statistic: { Self → Statistic };
+
+    ghost given: { (f : Self) → T → Given (kind_of (statistic f)) };
+
+    fn call(self, x: T, plan: Plan, min_periods: usize, lists: &mut L) -> Result<(), Refusal>
+        ensures { MeetsPlan (query (planned plan.entry) min_periods (statistic self)) (given self x)
+            (L.lent lists.old, L.lent lists.new) (outcome_number result) };
 }
 
-pub fn two_plans_var(
-    x: Trace,
-    y: Trace,
+impl PlanCall<Trace<'_>, Variances<'_>> for VarianceMoment {
+    ghost statistic = { λ f. Variance f.ddof };
+
+    ghost given = { λ f x. traced x };
+
+    fn call(
+        self,
+        x: Trace,
+        plan: Plan,
+        min_periods: usize,
+        lists: &mut Variances,
+    ) -> Result<(), Refusal> {
+        let VarianceMoment { ddof } = self;
+        rolling::plan_var(
+            x,
+            plan,
+            min_periods,
+            ddof,
+            lists.work,
+            lists.figures,
+            lists.present,
+            lists.lowest,
+            lists.lowest_present,
+            lists.highest,
+            lists.highest_present,
+        )
+    }
+}
+
+impl PlanCall<Trace<'_>, Figures<'_>> for SkewMoment {
+    ghost statistic = { λ f. Skewness f.bias };
+
+    ghost given = { λ f x. traced x };
+
+    fn call(
+        self,
+        x: Trace,
+        plan: Plan,
+        min_periods: usize,
+        lists: &mut Figures,
+    ) -> Result<(), Refusal> {
+        let SkewMoment { bias } = self;
+        rolling::plan_skew(
+            x,
+            plan,
+            min_periods,
+            bias,
+            lists.work,
+            lists.figures,
+            lists.present,
+        )
+    }
+}
+
+impl PlanCall<Trace<'_>, Figures<'_>> for KurtosisMoment {
+    ghost statistic = { λ f. Kurtosis f.fisher f.bias };
+
+    ghost given = { λ f x. traced x };
+
+    fn call(
+        self,
+        x: Trace,
+        plan: Plan,
+        min_periods: usize,
+        lists: &mut Figures,
+    ) -> Result<(), Refusal> {
+        let KurtosisMoment { fisher, bias } = self;
+        rolling::plan_kurtosis(
+            x,
+            plan,
+            min_periods,
+            fisher,
+            bias,
+            lists.work,
+            lists.figures,
+            lists.present,
+        )
+    }
+}
+
+impl PlanCall<Pair<'_>, Figures<'_>> for CovMoment {
+    ghost statistic = { λ f. Covariance f.ddof };
+
+    ghost given = { λ f x. paired x };
+
+    fn call(
+        self,
+        x: Pair,
+        plan: Plan,
+        min_periods: usize,
+        lists: &mut Figures,
+    ) -> Result<(), Refusal> {
+        let CovMoment { ddof } = self;
+        rolling::plan_cov(
+            x,
+            plan,
+            min_periods,
+            ddof,
+            lists.work,
+            lists.figures,
+            lists.present,
+        )
+    }
+}
+
+impl PlanCall<Pair<'_>, Figures<'_>> for PearsonMoment {
+    ghost statistic = { λ f. Correlation };
+
+    ghost given = { λ f x. paired x };
+
+    fn call(
+        self,
+        x: Pair,
+        plan: Plan,
+        min_periods: usize,
+        lists: &mut Figures,
+    ) -> Result<(), Refusal> {
+        rolling::plan_pearson_corr(
+            x,
+            plan,
+            min_periods,
+            lists.work,
+            lists.figures,
+            lists.present,
+        )
+    }
+}
+
+// Two, of the same plan, setting and figure.
+pub fn two_plans<T: Copy, L: Answers, F: PlanCall<T, L>>(
+    figure: F,
+    x: T,
+    y: T,
     plan: Plan,
     min_periods: usize,
-    ddof: u8,
-    x_work: &mut [f64],
-    x_figures: &mut [f64],
-    x_present: &mut [u8],
-    x_lowest: &mut [f64],
-    x_lowest_present: &mut [u8],
-    x_highest: &mut [f64],
-    x_highest_present: &mut [u8],
-    y_work: &mut [f64],
-    y_figures: &mut [f64],
-    y_present: &mut [u8],
-    y_lowest: &mut [f64],
-    y_lowest_present: &mut [u8],
-    y_highest: &mut [f64],
-    y_highest_present: &mut [u8],
+    x_lists: &mut L,
+    y_lists: &mut L,
 ) -> (Result<(), Refusal>, Result<(), Refusal>)
-    ensures { MeetTwoPlans (query (planned plan.entry) min_periods (Variance ddof)) (traced x.entry) (traced y.entry)
-        (lending_three x_work x_figures x_present x_lowest x_lowest_present x_highest x_highest_present)
-        (lending_three y_work y_figures y_present y_lowest y_lowest_present y_highest y_highest_present)
+    ensures { MeetTwoPlans (query (planned plan.entry) min_periods (F.statistic figure)) (F.given figure x) (F.given figure y)
+        (L.lent x_lists.old, L.lent x_lists.new) (L.lent y_lists.old, L.lent y_lists.new)
         (outcome_number result.0) (outcome_number result.1) }
 {
-    let first = rolling::plan_var(
-        x,
-        plan,
-        min_periods,
-        ddof,
-        x_work,
-        x_figures,
-        x_present,
-        x_lowest,
-        x_lowest_present,
-        x_highest,
-        x_highest_present,
-    );
-    let second = rolling::plan_var(
-        y,
-        plan,
-        min_periods,
-        ddof,
-        y_work,
-        y_figures,
-        y_present,
-        y_lowest,
-        y_lowest_present,
-        y_highest,
-        y_highest_present,
-    );
-    (first, second)
-}
-
-pub fn plan_skew(
-    x: Trace,
-    plan: Plan,
-    min_periods: usize,
-    bias: bool,
-    work: &mut [f64],
-    figures: &mut [f64],
-    present: &mut [u8],
-) -> Result<(), Refusal>
-    ensures { MeetsPlan (query (planned plan.entry) min_periods (Skewness bias)) (traced x.entry)
-        (lending work figures present) (outcome_number result) }
-{
-    rolling::plan_skew(x, plan, min_periods, bias, work, figures, present)
-}
-
-pub fn two_plans_skew(
-    x: Trace,
-    y: Trace,
-    plan: Plan,
-    min_periods: usize,
-    bias: bool,
-    x_work: &mut [f64],
-    x_figures: &mut [f64],
-    x_present: &mut [u8],
-    y_work: &mut [f64],
-    y_figures: &mut [f64],
-    y_present: &mut [u8],
-) -> (Result<(), Refusal>, Result<(), Refusal>)
-    ensures { MeetTwoPlans (query (planned plan.entry) min_periods (Skewness bias)) (traced x.entry) (traced y.entry)
-        (lending x_work x_figures x_present)
-        (lending y_work y_figures y_present)
-        (outcome_number result.0) (outcome_number result.1) }
-{
-    let first = rolling::plan_skew(x, plan, min_periods, bias, x_work, x_figures, x_present);
-    let second = rolling::plan_skew(y, plan, min_periods, bias, y_work, y_figures, y_present);
-    (first, second)
-}
-
-pub fn plan_kurtosis(
-    x: Trace,
-    plan: Plan,
-    min_periods: usize,
-    fisher: bool,
-    bias: bool,
-    work: &mut [f64],
-    figures: &mut [f64],
-    present: &mut [u8],
-) -> Result<(), Refusal>
-    ensures { MeetsPlan (query (planned plan.entry) min_periods (Kurtosis fisher bias)) (traced x.entry)
-        (lending work figures present) (outcome_number result) }
-{
-    rolling::plan_kurtosis(x, plan, min_periods, fisher, bias, work, figures, present)
-}
-
-pub fn two_plans_kurtosis(
-    x: Trace,
-    y: Trace,
-    plan: Plan,
-    min_periods: usize,
-    fisher: bool,
-    bias: bool,
-    x_work: &mut [f64],
-    x_figures: &mut [f64],
-    x_present: &mut [u8],
-    y_work: &mut [f64],
-    y_figures: &mut [f64],
-    y_present: &mut [u8],
-) -> (Result<(), Refusal>, Result<(), Refusal>)
-    ensures { MeetTwoPlans (query (planned plan.entry) min_periods (Kurtosis fisher bias)) (traced x.entry) (traced y.entry)
-        (lending x_work x_figures x_present)
-        (lending y_work y_figures y_present)
-        (outcome_number result.0) (outcome_number result.1) }
-{
-    let first = rolling::plan_kurtosis(
-        x,
-        plan,
-        min_periods,
-        fisher,
-        bias,
-        x_work,
-        x_figures,
-        x_present,
-    );
-    let second = rolling::plan_kurtosis(
-        y,
-        plan,
-        min_periods,
-        fisher,
-        bias,
-        y_work,
-        y_figures,
-        y_present,
-    );
-    (first, second)
-}
-
-pub fn plan_cov(
-    pair: Pair,
-    plan: Plan,
-    min_periods: usize,
-    ddof: u8,
-    work: &mut [f64],
-    figures: &mut [f64],
-    present: &mut [u8],
-) -> Result<(), Refusal>
-    ensures { MeetsPlan (query (planned plan.entry) min_periods (Covariance ddof)) (paired pair.entry)
-        (lending work figures present) (outcome_number result) }
-{
-    rolling::plan_cov(pair, plan, min_periods, ddof, work, figures, present)
-}
-
-pub fn two_plans_cov(
-    pair: Pair,
-    other: Pair,
-    plan: Plan,
-    min_periods: usize,
-    ddof: u8,
-    work: &mut [f64],
-    figures: &mut [f64],
-    present: &mut [u8],
-    other_work: &mut [f64],
-    other_figures: &mut [f64],
-    other_present: &mut [u8],
-) -> (Result<(), Refusal>, Result<(), Refusal>)
-    ensures { MeetTwoPlans (query (planned plan.entry) min_periods (Covariance ddof)) (paired pair.entry) (paired other.entry)
-        (lending work figures present)
-        (lending other_work other_figures other_present)
-        (outcome_number result.0) (outcome_number result.1) }
-{
-    let first = rolling::plan_cov(pair, plan, min_periods, ddof, work, figures, present);
-    let second = rolling::plan_cov(
-        other,
-        plan,
-        min_periods,
-        ddof,
-        other_work,
-        other_figures,
-        other_present,
-    );
-    (first, second)
-}
-
-pub fn plan_pearson_corr(
-    pair: Pair,
-    plan: Plan,
-    min_periods: usize,
-    work: &mut [f64],
-    figures: &mut [f64],
-    present: &mut [u8],
-) -> Result<(), Refusal>
-    ensures { MeetsPlan (query (planned plan.entry) min_periods Correlation) (paired pair.entry)
-        (lending work figures present) (outcome_number result) }
-{
-    rolling::plan_pearson_corr(pair, plan, min_periods, work, figures, present)
-}
-
-pub fn two_plans_pearson_corr(
-    pair: Pair,
-    other: Pair,
-    plan: Plan,
-    min_periods: usize,
-    work: &mut [f64],
-    figures: &mut [f64],
-    present: &mut [u8],
-    other_work: &mut [f64],
-    other_figures: &mut [f64],
-    other_present: &mut [u8],
-) -> (Result<(), Refusal>, Result<(), Refusal>)
-    ensures { MeetTwoPlans (query (planned plan.entry) min_periods Correlation) (paired pair.entry) (paired other.entry)
-        (lending work figures present)
-        (lending other_work other_figures other_present)
-        (outcome_number result.0) (outcome_number result.1) }
-{
-    let first = rolling::plan_pearson_corr(pair, plan, min_periods, work, figures, present);
-    let second = rolling::plan_pearson_corr(
-        other,
-        plan,
-        min_periods,
-        other_work,
-        other_figures,
-        other_present,
-    );
+    let first = figure.call(x, plan, min_periods, x_lists);
+    let second = figure.call(y, plan, min_periods, y_lists);
     (first, second)
 }

@@ -1,551 +1,217 @@
-// Calls with fixed windows: one, of which all three demands speak, two of the same windows, setting and figure, of which the third does,
-// and those of two traces, as a host's; and with weights, of which the first two speak. Of two calls the law of maps speaks too, with
-// weights as well, and of a variance without weights its lowest and highest reading are spoken of. Last a step from a row's bounds to
-// the next row's.
-ghost use Rattle.trace.specs.Trace.{tracing};
-ghost use Rattle.window.specs.Pairs.{pairing};
-ghost use Rattle.rolling.specs.Moments.{Variance, Skewness, Kurtosis, Covariance, Correlation};
-ghost use Rattle.rolling.specs.Calls.{lending, lending_three};
+// Calls with fixed windows, as a host's plan calls; and with weights, of which the first two demands speak and the law of maps. Last a step
+// from a row's bounds to the next row's.
+ghost use Rattle.window.specs.Given.{Given};
+ghost use Rattle.rolling.specs.Moments.{Statistic, Variance, Skewness, Kurtosis, Covariance, Correlation, kind_of};
 ghost use Rattle.weighted.specs.Weights.{lending_column};
+ghost use Rattle.demands.specs.Given.{doubles, double_pair};
 ghost use Rattle.demands.specs.Meets.{MeetsFixed, MeetTwoFixed, MeetsWeights, MeetTwoWeights, MeetsStep};
 
-use crate::Numbers;
+use crate::lent::{Answers, DoublePair, Doubles, Figures, Variances};
 use plan::Offsets;
+use rolling::{CovMoment, KurtosisMoment, PearsonMoment, SkewMoment, VarianceMoment};
 
-// the windows of a row and of the row behind it
+// Fixed windows, and how many readings each must have.
 #[derive(Clone, Copy)]
-pub struct Steps {
-    pub at: Offsets,
-    pub next: Offsets,
+pub struct Windows {
+    pub window_size: usize,
+    pub min_periods: usize,
+    pub center: bool,
 }
 
-pub fn rolling_var(
-    trace: &[f64],
-    has_map: bool,
-    map: &[u8],
-    window_size: usize,
-    min_periods: usize,
-    center: bool,
-    ddof: u8,
-    work: &mut [f64],
-    figures: &mut [f64],
-    present: &mut [u8],
-    lowest: &mut [f64],
-    lowest_present: &mut [u8],
-    highest: &mut [f64],
-    highest_present: &mut [u8],
-) -> u32
-    ensures { MeetsFixed center window_size min_periods (Variance ddof) (tracing trace has_map map)
-        (lending_three work figures present lowest lowest_present highest highest_present) result }
-{
-    moments::moments_rolling_var(
-        trace,
-        has_map,
-        map,
-        window_size,
-        min_periods,
-        center,
-        ddof,
-        work,
-        figures,
-        present,
-        lowest,
-        lowest_present,
-        highest,
-        highest_present,
-    )
+pub trait FixedCall<T: Copy, L: Answers>: Copy {
+    ghost statistic: { Self → Statistic };
+
+    ghost given: { (f : Self) → T → Given (kind_of (statistic f)) };
+
+    fn call(self, x: T, windows: Windows, lists: &mut L) -> u32
+        ensures { MeetsFixed windows.center windows.window_size windows.min_periods (statistic self) (given self x)
+            (L.lent lists.old, L.lent lists.new) result };
 }
 
-pub fn two_rolling_var(
-    x: &[f64],
-    x_has_map: bool,
-    x_map: &[u8],
-    y: &[f64],
-    y_has_map: bool,
-    y_map: &[u8],
-    window_size: usize,
-    min_periods: usize,
-    center: bool,
-    ddof: u8,
-    x_work: &mut [f64],
-    x_figures: &mut [f64],
-    x_present: &mut [u8],
-    x_lowest: &mut [f64],
-    x_lowest_present: &mut [u8],
-    x_highest: &mut [f64],
-    x_highest_present: &mut [u8],
-    y_work: &mut [f64],
-    y_figures: &mut [f64],
-    y_present: &mut [u8],
-    y_lowest: &mut [f64],
-    y_lowest_present: &mut [u8],
-    y_highest: &mut [f64],
-    y_highest_present: &mut [u8],
-) -> Numbers
-    ensures { MeetTwoFixed center window_size min_periods (Variance ddof)
-        (tracing x x_has_map x_map) (tracing y y_has_map y_map)
-        (lending_three x_work x_figures x_present x_lowest x_lowest_present x_highest x_highest_present)
-        (lending_three y_work y_figures y_present y_lowest y_lowest_present y_highest y_highest_present)
-        result.first result.second }
-{
-    let first = moments::moments_rolling_var(
-        x,
-        x_has_map,
-        x_map,
-        window_size,
-        min_periods,
-        center,
-        ddof,
-        x_work,
-        x_figures,
-        x_present,
-        x_lowest,
-        x_lowest_present,
-        x_highest,
-        x_highest_present,
-    );
-    let second = moments::moments_rolling_var(
-        y,
-        y_has_map,
-        y_map,
-        window_size,
-        min_periods,
-        center,
-        ddof,
-        y_work,
-        y_figures,
-        y_present,
-        y_lowest,
-        y_lowest_present,
-        y_highest,
-        y_highest_present,
-    );
-    Numbers { first, second }
+impl FixedCall<Doubles<'_>, Variances<'_>> for VarianceMoment {
+    ghost statistic = { λ f. Variance f.ddof };
+
+    ghost given = { λ f x. doubles x };
+
+    fn call(self, x: Doubles, windows: Windows, lists: &mut Variances) -> u32 {
+        let VarianceMoment { ddof } = self;
+        moments::moments_rolling_var(
+            x.values,
+            x.has_map,
+            x.map,
+            windows.window_size,
+            windows.min_periods,
+            windows.center,
+            ddof,
+            lists.work,
+            lists.figures,
+            lists.present,
+            lists.lowest,
+            lists.lowest_present,
+            lists.highest,
+            lists.highest_present,
+        )
+    }
 }
 
-pub fn rolling_skew(
-    trace: &[f64],
-    has_map: bool,
-    map: &[u8],
-    window_size: usize,
-    min_periods: usize,
-    center: bool,
-    bias: bool,
-    work: &mut [f64],
-    figures: &mut [f64],
-    present: &mut [u8],
-) -> u32
-    ensures { MeetsFixed center window_size min_periods (Skewness bias) (tracing trace has_map map)
-        (lending work figures present) result }
-{
-    moments::moments_rolling_skew(
-        trace,
-        has_map,
-        map,
-        window_size,
-        min_periods,
-        center,
-        bias,
-        work,
-        figures,
-        present,
-    )
+impl FixedCall<Doubles<'_>, Figures<'_>> for SkewMoment {
+    ghost statistic = { λ f. Skewness f.bias };
+
+    ghost given = { λ f x. doubles x };
+
+    fn call(self, x: Doubles, windows: Windows, lists: &mut Figures) -> u32 {
+        let SkewMoment { bias } = self;
+        moments::moments_rolling_skew(
+            x.values,
+            x.has_map,
+            x.map,
+            windows.window_size,
+            windows.min_periods,
+            windows.center,
+            bias,
+            lists.work,
+            lists.figures,
+            lists.present,
+        )
+    }
 }
 
-pub fn two_rolling_skew(
-    x: &[f64],
-    x_has_map: bool,
-    x_map: &[u8],
-    y: &[f64],
-    y_has_map: bool,
-    y_map: &[u8],
-    window_size: usize,
-    min_periods: usize,
-    center: bool,
-    bias: bool,
-    x_work: &mut [f64],
-    x_figures: &mut [f64],
-    x_present: &mut [u8],
-    y_work: &mut [f64],
-    y_figures: &mut [f64],
-    y_present: &mut [u8],
-) -> Numbers
-    ensures { MeetTwoFixed center window_size min_periods (Skewness bias)
-        (tracing x x_has_map x_map) (tracing y y_has_map y_map)
-        (lending x_work x_figures x_present) (lending y_work y_figures y_present) result.first result.second }
-{
-    let first = moments::moments_rolling_skew(
-        x,
-        x_has_map,
-        x_map,
-        window_size,
-        min_periods,
-        center,
-        bias,
-        x_work,
-        x_figures,
-        x_present,
-    );
-    let second = moments::moments_rolling_skew(
-        y,
-        y_has_map,
-        y_map,
-        window_size,
-        min_periods,
-        center,
-        bias,
-        y_work,
-        y_figures,
-        y_present,
-    );
-    Numbers { first, second }
+impl FixedCall<Doubles<'_>, Figures<'_>> for KurtosisMoment {
+    ghost statistic = { λ f. Kurtosis f.fisher f.bias };
+
+    ghost given = { λ f x. doubles x };
+
+    fn call(self, x: Doubles, windows: Windows, lists: &mut Figures) -> u32 {
+        let KurtosisMoment { fisher, bias } = self;
+        moments::moments_rolling_kurtosis(
+            x.values,
+            x.has_map,
+            x.map,
+            windows.window_size,
+            windows.min_periods,
+            windows.center,
+            fisher,
+            bias,
+            lists.work,
+            lists.figures,
+            lists.present,
+        )
+    }
 }
 
-pub fn rolling_kurtosis(
-    trace: &[f64],
-    has_map: bool,
-    map: &[u8],
-    window_size: usize,
-    min_periods: usize,
-    center: bool,
-    fisher: bool,
-    bias: bool,
-    work: &mut [f64],
-    figures: &mut [f64],
-    present: &mut [u8],
-) -> u32
-    ensures { MeetsFixed center window_size min_periods (Kurtosis fisher bias) (tracing trace has_map map)
-        (lending work figures present) result }
-{
-    moments::moments_rolling_kurtosis(
-        trace,
-        has_map,
-        map,
-        window_size,
-        min_periods,
-        center,
-        fisher,
-        bias,
-        work,
-        figures,
-        present,
-    )
+impl FixedCall<DoublePair<'_>, Figures<'_>> for CovMoment {
+    ghost statistic = { λ f. Covariance f.ddof };
+
+    ghost given = { λ f x. double_pair x };
+
+    fn call(self, x: DoublePair, windows: Windows, lists: &mut Figures) -> u32 {
+        let CovMoment { ddof } = self;
+        moments::moments_rolling_cov(
+            x.x.values,
+            x.x.has_map,
+            x.x.map,
+            x.y.values,
+            x.y.has_map,
+            x.y.map,
+            windows.window_size,
+            windows.min_periods,
+            windows.center,
+            ddof,
+            lists.work,
+            lists.figures,
+            lists.present,
+        )
+    }
 }
 
-pub fn two_rolling_kurtosis(
-    x: &[f64],
-    x_has_map: bool,
-    x_map: &[u8],
-    y: &[f64],
-    y_has_map: bool,
-    y_map: &[u8],
-    window_size: usize,
-    min_periods: usize,
-    center: bool,
-    fisher: bool,
-    bias: bool,
-    x_work: &mut [f64],
-    x_figures: &mut [f64],
-    x_present: &mut [u8],
-    y_work: &mut [f64],
-    y_figures: &mut [f64],
-    y_present: &mut [u8],
-) -> Numbers
-    ensures { MeetTwoFixed center window_size min_periods (Kurtosis fisher bias)
-        (tracing x x_has_map x_map) (tracing y y_has_map y_map)
-        (lending x_work x_figures x_present) (lending y_work y_figures y_present) result.first result.second }
-{
-    let first = moments::moments_rolling_kurtosis(
-        x,
-        x_has_map,
-        x_map,
-        window_size,
-        min_periods,
-        center,
-        fisher,
-        bias,
-        x_work,
-        x_figures,
-        x_present,
-    );
-    let second = moments::moments_rolling_kurtosis(
-        y,
-        y_has_map,
-        y_map,
-        window_size,
-        min_periods,
-        center,
-        fisher,
-        bias,
-        y_work,
-        y_figures,
-        y_present,
-    );
-    Numbers { first, second }
+impl FixedCall<DoublePair<'_>, Figures<'_>> for PearsonMoment {
+    ghost statistic = { λ f. Correlation };
+
+    ghost given = { λ f x. double_pair x };
+
+    fn call(self, x: DoublePair, windows: Windows, lists: &mut Figures) -> u32 {
+        moments::moments_rolling_pearson_corr(
+            x.x.values,
+            x.x.has_map,
+            x.x.map,
+            x.y.values,
+            x.y.has_map,
+            x.y.map,
+            windows.window_size,
+            windows.min_periods,
+            windows.center,
+            lists.work,
+            lists.figures,
+            lists.present,
+        )
+    }
 }
 
-pub fn rolling_cov(
-    x: &[f64],
-    x_has_map: bool,
-    x_map: &[u8],
-    y: &[f64],
-    y_has_map: bool,
-    y_map: &[u8],
-    window_size: usize,
-    min_periods: usize,
-    center: bool,
-    ddof: u8,
-    work: &mut [f64],
-    figures: &mut [f64],
-    present: &mut [u8],
-) -> u32
-    ensures { MeetsFixed center window_size min_periods (Covariance ddof) (pairing x x_has_map x_map y y_has_map y_map)
-        (lending work figures present) result }
+// Two, of the same windows, setting and figure.
+pub fn two_fixed<T: Copy, L: Answers, F: FixedCall<T, L>>(
+    figure: F,
+    x: T,
+    y: T,
+    windows: Windows,
+    x_lists: &mut L,
+    y_lists: &mut L,
+) -> (u32, u32)
+    ensures { MeetTwoFixed windows.center windows.window_size windows.min_periods (F.statistic figure) (F.given figure x)
+        (F.given figure y) (L.lent x_lists.old, L.lent x_lists.new) (L.lent y_lists.old, L.lent y_lists.new) result.0 result.1 }
 {
-    moments::moments_rolling_cov(
-        x,
-        x_has_map,
-        x_map,
-        y,
-        y_has_map,
-        y_map,
-        window_size,
-        min_periods,
-        center,
-        ddof,
-        work,
-        figures,
-        present,
-    )
-}
-
-pub fn two_rolling_cov(
-    x: &[f64],
-    x_has_map: bool,
-    x_map: &[u8],
-    y: &[f64],
-    y_has_map: bool,
-    y_map: &[u8],
-    u: &[f64],
-    u_has_map: bool,
-    u_map: &[u8],
-    v: &[f64],
-    v_has_map: bool,
-    v_map: &[u8],
-    window_size: usize,
-    min_periods: usize,
-    center: bool,
-    ddof: u8,
-    work: &mut [f64],
-    figures: &mut [f64],
-    present: &mut [u8],
-    other_work: &mut [f64],
-    other_figures: &mut [f64],
-    other_present: &mut [u8],
-) -> Numbers
-    ensures { MeetTwoFixed center window_size min_periods (Covariance ddof)
-        (pairing x x_has_map x_map y y_has_map y_map) (pairing u u_has_map u_map v v_has_map v_map)
-        (lending work figures present) (lending other_work other_figures other_present) result.first result.second }
-{
-    let first = moments::moments_rolling_cov(
-        x,
-        x_has_map,
-        x_map,
-        y,
-        y_has_map,
-        y_map,
-        window_size,
-        min_periods,
-        center,
-        ddof,
-        work,
-        figures,
-        present,
-    );
-    let second = moments::moments_rolling_cov(
-        u,
-        u_has_map,
-        u_map,
-        v,
-        v_has_map,
-        v_map,
-        window_size,
-        min_periods,
-        center,
-        ddof,
-        other_work,
-        other_figures,
-        other_present,
-    );
-    Numbers { first, second }
-}
-
-pub fn rolling_pearson_corr(
-    x: &[f64],
-    x_has_map: bool,
-    x_map: &[u8],
-    y: &[f64],
-    y_has_map: bool,
-    y_map: &[u8],
-    window_size: usize,
-    min_periods: usize,
-    center: bool,
-    work: &mut [f64],
-    figures: &mut [f64],
-    present: &mut [u8],
-) -> u32
-    ensures { MeetsFixed center window_size min_periods Correlation (pairing x x_has_map x_map y y_has_map y_map)
-        (lending work figures present) result }
-{
-    moments::moments_rolling_pearson_corr(
-        x,
-        x_has_map,
-        x_map,
-        y,
-        y_has_map,
-        y_map,
-        window_size,
-        min_periods,
-        center,
-        work,
-        figures,
-        present,
-    )
-}
-
-pub fn two_rolling_pearson_corr(
-    x: &[f64],
-    x_has_map: bool,
-    x_map: &[u8],
-    y: &[f64],
-    y_has_map: bool,
-    y_map: &[u8],
-    u: &[f64],
-    u_has_map: bool,
-    u_map: &[u8],
-    v: &[f64],
-    v_has_map: bool,
-    v_map: &[u8],
-    window_size: usize,
-    min_periods: usize,
-    center: bool,
-    work: &mut [f64],
-    figures: &mut [f64],
-    present: &mut [u8],
-    other_work: &mut [f64],
-    other_figures: &mut [f64],
-    other_present: &mut [u8],
-) -> Numbers
-    ensures { MeetTwoFixed center window_size min_periods Correlation
-        (pairing x x_has_map x_map y y_has_map y_map) (pairing u u_has_map u_map v v_has_map v_map)
-        (lending work figures present) (lending other_work other_figures other_present) result.first result.second }
-{
-    let first = moments::moments_rolling_pearson_corr(
-        x,
-        x_has_map,
-        x_map,
-        y,
-        y_has_map,
-        y_map,
-        window_size,
-        min_periods,
-        center,
-        work,
-        figures,
-        present,
-    );
-    let second = moments::moments_rolling_pearson_corr(
-        u,
-        u_has_map,
-        u_map,
-        v,
-        v_has_map,
-        v_map,
-        window_size,
-        min_periods,
-        center,
-        other_work,
-        other_figures,
-        other_present,
-    );
-    Numbers { first, second }
+    let first = figure.call(x, windows, x_lists);
+    let second = figure.call(y, windows, y_lists);
+    (first, second)
 }
 
 pub fn rolling_var_weights(
-    trace: &[f64],
-    has_map: bool,
-    map: &[u8],
-    window_size: usize,
-    min_periods: usize,
-    center: bool,
+    x: Doubles,
+    windows: Windows,
     weights: &[f64],
     figures: &mut [f64],
     present: &mut [u8],
 ) -> u32
-    ensures { MeetsWeights center window_size min_periods weights.now (tracing trace has_map map)
+    ensures { MeetsWeights windows.center windows.window_size windows.min_periods weights.now (doubles x.entry)
         (lending_column figures present) result }
 {
     moments::moments_rolling_var_weights(
-        trace,
-        has_map,
-        map,
-        window_size,
-        min_periods,
-        center,
+        x.values,
+        x.has_map,
+        x.map,
+        windows.window_size,
+        windows.min_periods,
+        windows.center,
         weights,
         figures,
         present,
     )
 }
 
+// Two, of the same windows and weights.
 pub fn two_rolling_var_weights(
-    trace: &[f64],
-    has_map: bool,
-    map: &[u8],
-    other_map: &[u8],
-    window_size: usize,
-    min_periods: usize,
-    center: bool,
+    x: Doubles,
+    y: Doubles,
+    windows: Windows,
     weights: &[f64],
-    figures: &mut [f64],
-    present: &mut [u8],
-    other_figures: &mut [f64],
-    other_present: &mut [u8],
-) -> Numbers
-    ensures { MeetTwoWeights center window_size min_periods weights.now
-        (tracing trace has_map map) (tracing trace has_map other_map)
-        (lending_column figures present) (lending_column other_figures other_present) result.first result.second }
+    x_figures: &mut [f64],
+    x_present: &mut [u8],
+    y_figures: &mut [f64],
+    y_present: &mut [u8],
+) -> (u32, u32)
+    ensures { MeetTwoWeights windows.center windows.window_size windows.min_periods weights.now (doubles x.entry) (doubles y.entry)
+        (lending_column x_figures x_present) (lending_column y_figures y_present) result.0 result.1 }
 {
-    let first = moments::moments_rolling_var_weights(
-        trace,
-        has_map,
-        map,
-        window_size,
-        min_periods,
-        center,
-        weights,
-        figures,
-        present,
-    );
-    let second = moments::moments_rolling_var_weights(
-        trace,
-        has_map,
-        other_map,
-        window_size,
-        min_periods,
-        center,
-        weights,
-        other_figures,
-        other_present,
-    );
-    Numbers { first, second }
+    let first = rolling_var_weights(x, windows, weights, x_figures, x_present);
+    let second = rolling_var_weights(y, windows, weights, y_figures, y_present);
+    (first, second)
 }
 
-pub fn next_offsets(i: usize, window_size: usize, len: usize, center: bool) -> Steps
-    ensures { MeetsStep center window_size len i result.at result.next }
+// The windows of a row and of the row behind it.
+pub fn next_offsets(i: usize, window_size: usize, len: usize, center: bool) -> (Offsets, Offsets)
+    ensures { MeetsStep center window_size len i result.0 result.1 }
 {
     let at = plan::det_offsets(i, window_size, len, center);
     let left = window_size - plan::right_window(center, window_size);
     let next = plan::next_offsets(i, at, left, len);
-    Steps { at, next }
+    (at, next)
 }

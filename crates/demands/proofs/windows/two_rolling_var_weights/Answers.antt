@@ -1,7 +1,6 @@
--- What the demands say of each call, and the law of maps of both. Assumes nothing.
-use native.Mathlib.Omega.{arith}
+-- Of two calls by what is said of each. Assumes nothing.
 use Rattle.demands.proofs.Demanded.{two_weights_meet}
 use Rattle.demands.proofs.windows.two_rolling_var_weights.Goals as goal
 
 pub returns : goal.returns
-returns c = two_weights_meet c.moments_rolling_var_weights-first.ensures c.moments_rolling_var_weights-second.ensures (omega arith)
+returns c = two_weights_meet c.rolling_var_weights-first.ensures c.rolling_var_weights-second.ensures

@@ -1,0 +1,7 @@
+-- What the demands say of the call. Assumes nothing.
+use Rattle.demands.specs.Meets.{of_var}
+use Rattle.demands.proofs.Demanded.{array_meets}
+use Rattle.demands.proofs.arrays.VarStateStateCallDoubles3.call.Goals as goal
+
+pub returns : goal.returns
+returns c = array_meets (of_var _) c.moments_var.ensures

@@ -1,6 +1,0 @@
--- What the demands say of the call. Assumes nothing.
-use Rattle.demands.proofs.Demanded.{host_meets}
-use Rattle.demands.proofs.hosts.plan_skew.Goals as goal
-
-pub returns : goal.returns
-returns c = host_meets c.moments_plan_skew.ensures tt

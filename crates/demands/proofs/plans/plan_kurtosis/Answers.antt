@@ -1,6 +1,0 @@
--- What the demands say of the call. Assumes nothing.
-use Rattle.demands.proofs.Demanded.{plan_meets}
-use Rattle.demands.proofs.plans.plan_kurtosis.Goals as goal
-
-pub returns : goal.returns
-returns c = plan_meets c.plan_kurtosis.ensures tt

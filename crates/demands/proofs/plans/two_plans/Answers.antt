@@ -1,0 +1,6 @@
+-- Of two calls by what is said of each. Assumes nothing.
+use Rattle.demands.proofs.Demanded.{two_plans_meet}
+use Rattle.demands.proofs.plans.two_plans.Goals as goal
+
+pub returns : goal.returns
+returns g c = two_plans_meet c.call-first.ensures c.call-second.ensures

@@ -1,6 +1,0 @@
--- What the demands say of each call, and of both. Assumes nothing.
-use Rattle.demands.proofs.Demanded.{two_plans_meet}
-use Rattle.demands.proofs.plans.two_plans_skew.Goals as goal
-
-pub returns : goal.returns
-returns c = two_plans_meet c.plan_skew-first.ensures c.plan_skew-second.ensures tt

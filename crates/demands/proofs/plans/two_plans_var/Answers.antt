@@ -1,7 +1,0 @@
--- What the demands say of each call, and of both. Assumes nothing.
-use native.Mathlib.Omega.{arith}
-use Rattle.demands.proofs.Demanded.{two_plans_meet}
-use Rattle.demands.proofs.plans.two_plans_var.Goals as goal
-
-pub returns : goal.returns
-returns c = two_plans_meet c.plan_var-first.ensures c.plan_var-second.ensures (omega arith)

@@ -1,6 +1,0 @@
--- What the demands say of the call. Assumes nothing.
-use Rattle.demands.proofs.Demanded.{state_meets, pearson_combine_lem}
-use Rattle.demands.proofs.states.pearson_combine.Goals as goal
-
-pub returns : goal.returns
-returns c = let a = c.args in state_meets c.moments_pearson_combine.ensures (pearson_combine_lem a.state a.other)

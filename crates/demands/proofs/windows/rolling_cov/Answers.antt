@@ -1,7 +1,0 @@
--- What the demands say of the call. Assumes nothing.
-use native.Mathlib.Omega.{arith}
-use Rattle.demands.proofs.Demanded.{fixed-meets}
-use Rattle.demands.proofs.windows.rolling_cov.Goals as goal
-
-pub returns : goal.returns
-returns c = fixed-meets c.moments_rolling_cov.ensures (omega arith) (omega arith)
