@@ -3,7 +3,7 @@ use Rattle.std.proofs.Common.{◌≡◌, ℕ, ◌+◌, ◌<◌, ◌≤◌, Bool,
 use Rattle.std.proofs.Common.{append_assoc, append-nil, add-zero, add-one, arith, length-set, drop_of_length-le, length-take}
 use Rattle.std.proofs.Common.{take_all, take-suc-set, take_at, drop_at}
 use lib.Seq.{take-set-le}
-use mir.Val.{bool_byte}
+use Rattle.std.specs.Int.{from_bool}
 use Rattle.moment.specs.Code.Filling.{Filled}
 use Rattle.moment.proofs.Folds.{rest, from-valid, from-missing, from_end}
 
@@ -25,7 +25,7 @@ module _ {A : Type 0} {valid : ℕ → Bool} {entries : List A} {i : ℕ} {chunk
 
   -- a place of either kind: its entry is put past those held, and is held if it is valid
   pub filling_step : {j n : ℕ} {x : A} (t : Bool) → Filling valid entries i chunk j n → j < length entries → (n ≡ 128 → ⊥)
-      → x ≡ get_or entries j x → t ≡ valid j → Filling valid entries i (set chunk n x) (j + 1) (n + bool_byte t)
+      → x ≡ get_or entries j x → t ≡ valid j → Filling valid entries i (set chunk n x) (j + 1) (n + from_bool t)
   filling_step {j} {n} {x} true inv h f r e =
       let k = rw (from-valid valid entries x j h (sym e), ← r) at inv.with_rest in
       record {

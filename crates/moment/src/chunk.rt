@@ -9,7 +9,7 @@ use crate::entries::{Entry, Places};
 use crate::states;
 use crate::states::State;
 
-// How many entries a chunk holds.
+// How many entries a chunk holds. Contracts say the number, as document 01 does, so that another constant is refused where arrays are lent.
 pub(crate) const CHUNK_SIZE: usize = 128;
 
 // Where filling stopped: the first place not looked at, and how many entries the chunk holds.
@@ -33,7 +33,7 @@ fn fill<P: Places>(places: P, place: usize, chunk: &mut [P::Entry]) -> Stop
             return Stop { place: at, count };
         }
         chunk[count] = places.entry(at);
-        count += places.is_valid(at) as usize;
+        count += usize::from(places.is_valid(at));
     }
     Stop { place: end, count }
 }

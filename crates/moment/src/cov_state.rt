@@ -144,7 +144,7 @@ impl CovState {
     pub fn finalize(self, ddof: u8) -> Figure
         ensures { result ≡ cov_finalize self ddof }
     {
-        let ddof = ddof as f64;
+        let ddof = f64::from(ddof);
         if self.weight <= ddof {
             return Figure::Missing;
         }

@@ -69,7 +69,8 @@ impl Entry for (f64, f64) {
     }
 }
 
-// Entries at places, of which some may be missing.
+// Entries at places, of which some may be missing. `rolling` has a wider `Places` of its own: a window's are counted, tested for what is
+// not finite and refused, and a list or a part of a trace is none.
 pub(crate) trait Places: Copy {
     type Entry: Entry;
 

@@ -30,9 +30,6 @@ pub use sums::sum;
 use trace::{Pair, Refusal, Trace};
 pub use var_state::VarState;
 
-// f64::EPSILON, 2^-52.
-const EPSILON: f64 = 2.220446049250313e-16;
-
 // What `finalize` answers: a figure, or that it is missing. Document 01 names the form, an enum that carries a figure, in place of
 // Option<f64>.
 #[derive(Clone, Copy, Debug, PartialEq)]
@@ -45,7 +42,7 @@ pub enum Figure {
 pub fn is_zero(m2: f64, mean: f64) -> bool
     ensures { result ≡ is_zero m2 mean }
 {
-    m2 <= EPSILON * mean * (EPSILON * mean)
+    m2 <= f64::EPSILON * mean * (f64::EPSILON * mean)
 }
 
 // Whole arrays: one state of the valid readings of a trace, or of the pairs that are valid in two.
@@ -67,29 +64,29 @@ fn of_pair<S: State<Entry = (f64, f64)>>(pair: Pair) -> Result<S, Refusal>
 pub fn var(x: Trace) -> Result<VarState, Refusal>
     ensures { answered result ≡ var_answer (traced x.entry) }
 {
-    of_trace(x)
+    of_trace::<VarState>(x)
 }
 
 pub fn cov(pair: Pair) -> Result<CovState, Refusal>
     ensures { answered result ≡ cov_answer (traced pair.entry.x) (traced pair.entry.y) }
 {
-    of_pair(pair)
+    of_pair::<CovState>(pair)
 }
 
 pub fn pearson_corr(pair: Pair) -> Result<PearsonState, Refusal>
     ensures { answered result ≡ pearson_answer (traced pair.entry.x) (traced pair.entry.y) }
 {
-    of_pair(pair)
+    of_pair::<PearsonState>(pair)
 }
 
 pub fn skew(x: Trace) -> Result<SkewState, Refusal>
     ensures { answered result ≡ skew_answer (traced x.entry) }
 {
-    of_trace(x)
+    of_trace::<SkewState>(x)
 }
 
 pub fn kurtosis(x: Trace) -> Result<KurtosisState, Refusal>
     ensures { answered result ≡ kurtosis_answer (traced x.entry) }
 {
-    of_trace(x)
+    of_trace::<KurtosisState>(x)
 }

@@ -101,6 +101,7 @@ fn from_iter<P: Places, S: State<Entry = P::Entry>>(places: P) -> S
     if total.count == 0 {
         return S::about(0.0, P::Entry::none());
     }
+    // `as`: Rust has no `From` between these two
     let weight = std::num::nearest_u64_to_f64(total.count as u64);
     about(places, weight, total.sum.mean(weight))
 }
@@ -135,7 +136,8 @@ pub(crate) fn combine<S: State>(state: S, other: S) -> S
 }
 
 // The source's `clear_zero_weight_nan` of the state that is made with a weight. The weight is tested before the other members are worked
-// out: after them the compiler picks each member without a branch, which is slow.
+// out: after them the compiler picks each member without a branch, which is slow. The empty state is handed in, and `State` has no default
+// `merge` by this: a method of an `impl` is proved only by what doesn't ask for that `impl`, and the states of pairs clear nothing.
 pub(crate) fn cleared<S: Copy, F: FnOnce() -> S>(weight: f64, empty: S, made: F) -> S
     requires { F.pre made }
     ensures { (s : S) → ((r : S) → F.post made r → r ≡ s) → result ≡ cond (eq weight zero64) empty s }

@@ -153,7 +153,7 @@ impl VarState {
     pub fn finalize(self, ddof: u8) -> Figure
         ensures { result ≡ var_finalize self ddof }
     {
-        let ddof = ddof as f64;
+        let ddof = f64::from(ddof);
         if self.weight <= ddof {
             return Figure::Missing;
         }

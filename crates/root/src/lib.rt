@@ -4,7 +4,17 @@
 
 ghost use Rattle.std.specs.Prelude.{◌≡◌, ◌+◌, ◌*◌, ◌/◌, ◌%◌, ◌^◌, ◌<◌, ◌≤◌, ◌↔◌, IsTrue, IfSome, map, length, from_bits};
 ghost use Rattle.std.specs.Float.{binary64};
+ghost use Rattle.root.specs.declared.TheConstants.{INFINITY};
 ghost use Rattle.root.specs.Root.{root as root_of, roots_into, root_of_units, rounded_root};
+
+// The bits of plus infinity: those of the positive finite numbers are below.
+const INFINITY: u64 = 0x7ff0000000000000;
+
+// The bits of -0.
+const NEG_ZERO: u64 = 0x8000000000000000;
+
+// 2^52: the first of a normal number's 53 digits, and the bits of the smallest normal number.
+const FIRST_DIGIT: u64 = 0x10000000000000;
 
 // The whole number nearest to the root of a * 2^42, one binary digit a turn.
 fn digits(a: u64) -> u64
@@ -31,24 +41,24 @@ fn digits(a: u64) -> u64
 // of what is left is the root's exponent.
 fn assemble(m: u64, j: u64) -> u64
     requires { (2 ^ 52 ≤ m) × (m < 2 ^ 53) × (1022 ≤ j) × (j ≤ 3119) }
-    ensures { (result < 0x7ff0000000000000) × (from_bits binary64 result ≡ root_of_units (m * 2 ^ j)) }
+    ensures { (result < INFINITY) × (from_bits binary64 result ≡ root_of_units (m * 2 ^ j)) }
 {
     let odd = j % 2;
     let q = digits((m << odd) * 1024);
-    (j / 2 - 26) * 0x10000000000000 + q
+    (j / 2 - 26) * FIRST_DIGIT + q
 }
 
 // The bits of the root of the positive finite double with the bits b. A subnormal one is normalised first by its
 // leading zeros, so that the integer root always has 53 digits.
 fn positive(b: u64) -> u64
-    requires { (0 < b) × (b < 0x7ff0000000000000) }
-    ensures { (result < 0x7ff0000000000000) × (from_bits binary64 result ≡ root_of (from_bits binary64 b)) }
+    requires { (0 < b) × (b < INFINITY) }
+    ensures { (result < INFINITY) × (from_bits binary64 result ≡ root_of (from_bits binary64 b)) }
 {
-    if b < 0x10000000000000 {
+    if b < FIRST_DIGIT {
         let shift = u64::from(b.leading_zeros() - 11);
         assemble(b << shift, 1074 - shift)
     } else {
-        assemble(b % 0x10000000000000 + 0x10000000000000, 1073 + (b >> 52))
+        assemble(b % FIRST_DIGIT + FIRST_DIGIT, 1073 + (b >> 52))
     }
 }
 
@@ -65,10 +75,9 @@ fn longhand(x: f64) -> f64
 {
     match bits(x) {
         0 => x,
-        b @ 1..0x7ff0000000000000 => f64::from_bits(positive(b)),
-        // plus infinity and -0
-        0x7ff0000000000000 => x,
-        0x8000000000000000 => x,
+        b @ 1..INFINITY => f64::from_bits(positive(b)),
+        INFINITY => x,
+        NEG_ZERO => x,
         _ => f64::NAN,
     }
 }
@@ -106,19 +115,19 @@ fn settle(x: u64, r: u64) -> Option<u64>
 fn radicand(b: u64) -> u64
     ensures { (result < 2 ^ 54) × (result ≡ (b % 2 ^ 52 + 2 ^ 52) * 2 ^ ((1073 + b / 2 ^ 52) % 2)) }
 {
-    let low = b % 0x20000000000000;
-    if low >= 0x10000000000000 {
+    let low = b % (2 * FIRST_DIGIT);
+    if low >= FIRST_DIGIT {
         low
     } else {
-        low * 2 + 0x20000000000000
+        low * 2 + 2 * FIRST_DIGIT
     }
 }
 
 // Whether b are the bits of a positive normal number.
 fn normal(b: u64) -> bool
-    ensures { IsTrue result ↔ ((2 ^ 52 ≤ b) × (b < 0x7ff0000000000000)) }
+    ensures { IsTrue result ↔ ((2 ^ 52 ≤ b) × (b < INFINITY)) }
 {
-    (0x10000000000000..0x7ff0000000000000).contains(&b)
+    (FIRST_DIGIT..INFINITY).contains(&b)
 }
 
 // The root of x by the guess g, which is checked in whole numbers; none where x is not a positive normal number, or g too far off.
@@ -129,8 +138,8 @@ fn candidate(x: f64, g: f64) -> Option<f64>
     if !normal(b) {
         return None;
     }
-    let base = (((b >> 1) + 0x1fe8000000000000) >> 52) * 0x10000000000000;
-    let r = bits(g).wrapping_sub(base) % 0x20000000000000;
+    let base = (((b >> 1) + 0x1fe8000000000000) >> 52) * FIRST_DIGIT;
+    let r = bits(g).wrapping_sub(base) % (2 * FIRST_DIGIT);
     let q = settle(radicand(b), r)?;
     Some(f64::from_bits(base + q))
 }

@@ -1,6 +1,6 @@
 -- A list of checks, each with a `?`, answers the first number that applies. Assumes nothing.
 use Rattle.std.proofs.Common.{◌≡◌, ℕ, ◌<◌, lit<, sym, ◌∙◌, ap}
-use Rattle.std.specs.Prelude.{Result, Ok, Err, IsErrAnd}
+use Rattle.std.specs.Prelude.{Bool, true, false, ◌||◌, Result, Ok, Err, IsErrAnd}
 use borrow.Author.Tests.{ne_eqb}
 use native.Mathlib.Omega.{arith}
 use Rattle.trace.specs.Refusals.{◌or_else◌}
@@ -44,3 +44,10 @@ stops r e a b h n = handed_on r e h ∙ stands e a b n
 pub goes_on : (a b n : ℕ) → 0 ≡ a → n ≡ b → n ≡ a or_else b
 unfolding ◌or_else◌
 goes_on a b n z e = rw (sym z, e)
+
+-- the second of two tests is looked at where the first fails
+pub first_holds : (a b t : Bool) → a ≡ true → t ≡ a → t ≡ (a || b)
+first_holds a b t h e = rw (e, h)
+
+pub second_tells : (a b t : Bool) → a ≡ false → t ≡ b → t ≡ (a || b)
+second_tells a b t h e = rw (h, e)

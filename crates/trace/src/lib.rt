@@ -34,25 +34,18 @@ pub struct Pair<'a> {
 pub fn is_valid(map: Option<&[u8]>, i: usize) -> bool
     ensures { result ≡ valid_at (mapped map.entry) (bytes_of map.entry) i }
 {
-    let Some(map) = map else {
-        return true;
-    };
-    let at = i / 8;
-    if map.len() <= at {
-        return false;
-    }
-    (map[at] >> (i % 8)) % 2 == 1
+    map.is_none_or(|map| {
+        map.get(i / 8)
+            .is_some_and(|byte| (byte >> (i % 8)) % 2 == 1)
+    })
 }
 
-// n / 8 rounded up, by a sum that cannot wrap.
+// Whether a map has no bit for some of n places. Their bytes are n / 8 rounded up, by a sum that cannot wrap.
 #[tactic(auto, unfolding(crate::specs::Refusals::wrong_map))]
-fn is_too_short(map: Option<&[u8]>, n: usize) -> bool
+pub fn is_too_short(map: Option<&[u8]>, n: usize) -> bool
     ensures { result ≡ wrong_map n (mapped map.entry) (bytes_of map.entry) }
 {
-    let Some(map) = map else {
-        return false;
-    };
-    map.len() < n / 8 + (n % 8 + 7) / 8
+    map.is_some_and(|map| map.len() < n / 8 + (n % 8 + 7) / 8)
 }
 
 // What refuses n readings with a map.
@@ -73,9 +66,9 @@ pub fn check_pair(
     ensures { outcome_number result ≡ pair_refusal
         x_len (mapped x_map.entry) (bytes_of x_map.entry) y_len (mapped y_map.entry) (bytes_of y_map.entry) }
 {
-    Refusal::TooManyReadings.when((x_len > MAX_READINGS) | (y_len > MAX_READINGS))?;
+    Refusal::TooManyReadings.when(x_len > MAX_READINGS || y_len > MAX_READINGS)?;
     Refusal::LengthsDiffer.when(x_len != y_len)?;
-    Refusal::MapTooShort.when(is_too_short(x_map, x_len) | is_too_short(y_map, y_len))
+    Refusal::MapTooShort.when(is_too_short(x_map, x_len) || is_too_short(y_map, y_len))
 }
 
 // start + length > n, of numbers whose sum might not fit.
@@ -86,6 +79,14 @@ fn past(n: usize, start: usize, length: usize) -> bool
         return true;
     }
     length > n - start
+}
+
+// What refuses a range of n readings with a map.
+pub fn check_range(n: usize, map: Option<&[u8]>, start: usize, len: usize) -> Result<(), Refusal>
+    ensures { outcome_number result ≡ range_refusal n (mapped map.entry) (bytes_of map.entry) start len }
+{
+    check_array(n, map)?;
+    Refusal::RangePastTrace.when(past(n, start, len))
 }
 
 // A map as C lends it: it is looked at where the flag says so.
@@ -130,8 +131,7 @@ impl<'a> Trace<'a> {
         ensures { outcome_number result ≡ range_refusal (length (traced self.entry).readings)
             (traced self.entry).mapped (traced self.entry).map start len }
     {
-        self.check()?;
-        Refusal::RangePastTrace.when(past(self.values.len(), start, len))
+        check_range(self.values.len(), self.map, start, len)
     }
 }
 

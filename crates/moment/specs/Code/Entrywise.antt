@@ -1,4 +1,5 @@
--- The five states entry by entry, and what the code's generic functions ask of each. Assumes nothing.
+-- The five states entry by entry, and what the code's generic functions ask of each. Proofs stand here, and not in proofs/, since an
+-- `impl` proves its trait's laws by what its own crate's specs/ hold alone. Assumes nothing.
 use Rattle.std.specs.Prelude.{◌≡◌, true, false, cond, List, [], ◌∷◌, ◌++◌, length, ◌==◌, Float, refl}
 use Rattle.std.proofs.Common.{ap}
 use mathlib.Core.List.{foldl}

@@ -10,8 +10,9 @@ returns-then-count-eq-CHUNK_SIZE g c = filled_full c.loop-at.invariant c.if-coun
 
 pub loop-at-preserved : goal.loop-at-preserved
 loop-at-preserved g c =
-    filling_step _ c.loop-at.invariant (rw c.len-end.ensures at c.loop-at-test.true) c.if-count-eq-CHUNK_SIZE.false
-    c.entry.ensures c.is_valid.ensures
+    rw c.from-count.ensures
+    (filling_step _ c.loop-at.invariant (rw c.len-end.ensures at c.loop-at-test.true) c.if-count-eq-CHUNK_SIZE.false
+    c.entry.ensures c.is_valid.ensures)
 
 pub returns : goal.returns
 returns g c = filled_end c.loop-at.invariant (rw c.len-end.ensures at c.loop-at-test.false) c.len-end.ensures
