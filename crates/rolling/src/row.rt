@@ -9,13 +9,13 @@ ghost use Rattle.window.specs.Code.Stacks.{answer_from};
 ghost use Rattle.rolling.specs.Code.Rows.{plan_by, listed_rows, fixed_rows, SameMany, RowIn, RowBounds, Ahead, Testable};
 
 use moment::Figure;
-use plan::{Offsets, Plan};
+use plan::{Fixed, Offsets, Plan};
 use window::Window;
 
 // The windows of a call's rows: fixed ones by how many places they reach to the left and to the right of their own, or those of a plan.
 #[derive(Clone, Copy)]
 pub(crate) enum Windows<'a> {
-    Fixed { left: usize, right: usize },
+    Reaching { left: usize, right: usize },
     Listed(Plan<'a>),
 }
 
@@ -52,14 +52,13 @@ impl<'a> Rows<'a> {
         }
     }
 
-    pub(crate) fn fixed(window_size: usize, center: bool, min_periods: usize, widest: usize) -> Self
-        ensures { result ≡ fixed_rows window_size center min_periods widest }
+    pub(crate) fn fixed(windows: Fixed, min_periods: usize, widest: usize) -> Self
+        ensures { result ≡ fixed_rows windows.window_size windows.center min_periods widest }
     {
-        let right = plan::right_window(center, window_size);
         Rows {
-            windows: Windows::Fixed {
-                left: window_size - right,
-                right,
+            windows: Windows::Reaching {
+                left: windows.left_window(),
+                right: windows.right_window(),
             },
             min_periods,
             widest,
@@ -71,7 +70,7 @@ impl<'a> Rows<'a> {
         ensures { result ≡ rows (plan_by self.entry n) }
     {
         match self.windows {
-            Windows::Fixed { .. } => n,
+            Windows::Reaching { .. } => n,
             Windows::Listed(plan) => plan.starts.len(),
         }
     }
@@ -82,7 +81,7 @@ impl<'a> Rows<'a> {
         ensures { Ahead (plan_by self.entry n) 0 result }
     {
         match self.windows {
-            Windows::Fixed { right, .. } => Offsets {
+            Windows::Reaching { right, .. } => Offsets {
                 start: 0,
                 end: n.min(right),
             },
@@ -96,7 +95,7 @@ impl<'a> Rows<'a> {
         ensures { Ahead (plan_by self.entry n) (row + 1) result }
     {
         match self.windows {
-            Windows::Fixed { left, .. } => plan::next_offsets(row, at, left, n),
+            Windows::Reaching { left, .. } => plan::next_offsets(row, at, left, n),
             Windows::Listed(plan) => listed(plan, row + 1),
         }
     }

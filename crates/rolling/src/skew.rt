@@ -27,7 +27,7 @@ use crate::moment_window::{MomentWindow, WindowState};
 use crate::row::{self, Rows};
 use crate::series::Places;
 use moment::SkewState;
-use plan::{Offsets, Plan};
+use plan::{Fixed, Offsets, Plan};
 use trace::{Refusal, Trace};
 
 impl InMemory for SkewState {
@@ -367,26 +367,25 @@ pub fn plan_skew(
 // Rolling skewness over fixed windows: 004's and 005's `rolling_skew`.
 pub fn rolling_skew(
     x: Trace,
-    window_size: usize,
+    windows: Fixed,
     min_periods: usize,
-    center: bool,
     bias: bool,
     work: &mut [f64],
     figures: &mut [f64],
     present: &mut [u8],
 ) -> Result<(), Refusal>
-    ensures { CallsFixed center window_size min_periods (Skewness bias) (traced x.entry) (lending work figures present)
+    ensures { CallsFixed windows.center windows.window_size min_periods (Skewness bias) (traced x.entry) (lending work figures present)
         (outcome_number result) }
 {
     let widest = plan::check_fixed(
         x.check(),
+        windows,
         x.len(),
-        window_size,
         figures.len().min(present.len()),
         SkewMoment::PLACE,
         work.len(),
     )?;
-    let rows = Rows::fixed(window_size, center, min_periods, widest);
+    let rows = Rows::fixed(windows, min_periods, widest);
     SkewMoment { bias }.rows(rows, x, work, figures, present);
     Ok(())
 }
