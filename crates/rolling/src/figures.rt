@@ -36,14 +36,7 @@ pub(crate) fn rows<S: WindowState, T: Series<S::Entry>, F: Finalize<S>>(
         next = rows.next(n, row, at);
         w = w.step(work, rows, series, row, at);
         let state = w.total(work);
-        let figure = row::answer(
-            moment,
-            state,
-            w.window,
-            series.is_mapped(),
-            rows.min_periods,
-            at,
-        );
+        let figure = rows.answer(moment, state, w.window, series.is_mapped(), at);
         row::write(figures, present, row, figure);
     }
 }

@@ -130,9 +130,9 @@ impl VarianceMoment {
             next = rows.next(n, row, at);
             w = w.step(work, rows, Raw(x), row, at);
             let state = w.total(work);
-            let figure = row::answer(self, state, w.window, mapped, rows.min_periods, at);
+            let figure = rows.answer(self, state, w.window, mapped, at);
             row::write(figures, present, row, figure);
-            let short = row::is_short(mapped, rows.min_periods, at.start, at.end);
+            let short = rows.is_short(mapped, at);
             row::write(lowest, lowest_present, row, extreme(state.lowest, short));
             row::write(highest, highest_present, row, extreme(state.highest, short));
         }
