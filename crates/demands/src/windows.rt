@@ -210,8 +210,11 @@ pub fn two_rolling_var_weights(
 pub fn next_offsets(i: usize, window_size: usize, len: usize, center: bool) -> (Offsets, Offsets)
     ensures { MeetsStep center window_size len i result.0 result.1 }
 {
-    let at = plan::det_offsets(i, window_size, len, center);
-    let left = window_size - plan::right_window(center, window_size);
-    let next = plan::next_offsets(i, at, left, len);
+    let windows = plan::Fixed {
+        window_size,
+        center,
+    };
+    let at = windows.det_offsets(i, len);
+    let next = plan::next_offsets(i, at, windows.left_window(), len);
     (at, next)
 }

@@ -28,7 +28,7 @@ ghost use Rattle.moments.specs.HostCall.{hosting, decoding, hosting_pair, decodi
 ghost use Rattle.moments.specs.Results.{StateResult, FigureResult};
 
 use moment::{CovState, Figure, KurtosisState, PearsonState, SkewState, VarState};
-use plan::Plan;
+use plan::{Fixed, Plan};
 use rolling::{CovMoment, KurtosisMoment, PearsonMoment, SkewMoment, VarianceMoment};
 use trace::{Pair, Refusal, Trace, lent_map, number};
 
@@ -338,9 +338,11 @@ pub fn moments_rolling_var(
     let x = Trace::lent(trace, has_map, map);
     number(rolling::rolling_var(
         x,
-        window_size,
+        Fixed {
+            window_size,
+            center,
+        },
         min_periods,
-        center,
         ddof,
         work,
         figures,
@@ -370,9 +372,11 @@ pub fn moments_rolling_skew(
     let x = Trace::lent(trace, has_map, map);
     number(rolling::rolling_skew(
         x,
-        window_size,
+        Fixed {
+            window_size,
+            center,
+        },
         min_periods,
-        center,
         bias,
         work,
         figures,
@@ -399,9 +403,11 @@ pub fn moments_rolling_kurtosis(
     let x = Trace::lent(trace, has_map, map);
     number(rolling::rolling_kurtosis(
         x,
-        window_size,
+        Fixed {
+            window_size,
+            center,
+        },
         min_periods,
-        center,
         fisher,
         bias,
         work,
@@ -434,9 +440,11 @@ pub fn moments_rolling_cov(
     };
     number(rolling::rolling_cov(
         pair,
-        window_size,
+        Fixed {
+            window_size,
+            center,
+        },
         min_periods,
-        center,
         ddof,
         work,
         figures,
@@ -467,9 +475,11 @@ pub fn moments_rolling_pearson_corr(
     };
     number(rolling::rolling_pearson_corr(
         pair,
-        window_size,
+        Fixed {
+            window_size,
+            center,
+        },
         min_periods,
-        center,
         work,
         figures,
         present,
@@ -493,9 +503,11 @@ pub fn moments_rolling_var_weights(
     let x = Trace::lent(trace, has_map, map);
     number(weighted::rolling_var_weights(
         x,
-        window_size,
+        Fixed {
+            window_size,
+            center,
+        },
         min_periods,
-        center,
         weights,
         figures,
         present,

@@ -2,14 +2,14 @@
 use Rattle.std.proofs.Common.{not, ap, ◌≡◌, ℕ, ◌*◌, min, Bool, ◌||◌, eqb, ltb, sym, refl, ◌∙◌, arith, lit≤, ltb-false, eqb-true}
 use Rattle.std.proofs.lemmas.Bool.Decides.{nat_tests}
 use borrow.Author.Tests.{not-false}
-use Rattle.trace.specs.Refusals.{refusal}
+use Rattle.trace.specs.Refusals.{refusal, ◌or_else◌}
 use Rattle.trace.proofs.Accepted.{none_of, not_refused_lem}
 use Rattle.plan.specs.Plan.{Plan, rows}
 use Rattle.std.specs.Prelude.{Result, Ok, Err, IsErrAnd}
 use Rattle.trace.specs.Outcomes.{number_of}
 use Rattle.trace.specs.declared.refusals.Refusal.{Refusal}
-use Rattle.plan.specs.Refusals.{rows_refusal, widest, plan_refusal, fixed_refusal}
-use Rattle.plan.specs.Code.Accepted.{Accepted, ScansRows, ChecksPlan, ChecksWindows}
+use Rattle.plan.specs.Refusals.{wrong_lists, rows_refusal, listed_refusal, widest, plan_refusal, fixed_refusal}
+use Rattle.plan.specs.Code.Accepted.{Accepted, ScansRows, WidestOf, ChecksPlan, ChecksWindows}
 use Rattle.plan.proofs.Plans.{neither, planned, widest-le}
 
 -- The shorter of two lists is too short where one of them is
@@ -41,6 +41,16 @@ taken given p n short outputs width work e =
 pub rows_stop : (n : ℕ) (p : Plan) (r : Result ℕ Refusal) (e : Refusal) → IsErrAnd r (λ x. x ≡ e) → number_of e ≡ rows_refusal n p (rows p) → ScansRows n p r
 rows_stop n p (Ok _) e h q = elim h [ ]
 rows_stop n p (Err x) e h q = record { number_is = ap number_of h ∙ q; wide_is = tt }
+
+-- nor has a plan
+pub widest_stops : (n : ℕ) (p : Plan) (r : Result ℕ Refusal) (e : Refusal) → IsErrAnd r (λ x. x ≡ e) → number_of e ≡ listed_refusal n p → WidestOf n p r
+widest_stops n p (Ok _) e h q = elim h [ ]
+widest_stops n p (Err x) e h q = record { number_is = ap number_of h ∙ q; wide_is = tt }
+
+-- a plan's own number behind what a call of it is given
+pub listed : (given n m : ℕ) (p : Plan) → 0 ≡ given → m ≡ listed_refusal n p → m ≡ given or_else refusal 4 (wrong_lists p) or_else rows_refusal n p (rows p)
+unfolding listed_refusal ◌or_else◌
+listed given n m p z e = rw (← z) e
 
 -- nor has a call that is refused
 pub plan_stops : (given : ℕ) (p : Plan) (n : ℕ) (short : Bool) (outputs width work : ℕ) (r : Result ℕ Refusal) (e : Refusal) → IsErrAnd r (λ x. x ≡ e) →

@@ -31,6 +31,11 @@ unfoldable pub widest : Plan → ℕ → ℕ
 widest p zero = 0
 widest p (suc k) = max (widest p k) (row_end p k - row_start p k)
 
+-- "4 lists differ in length or exceed 16,777,216 rows", then row by row: what refuses a plan over n places, whatever a call is given or lent
+unfoldable pub listed_refusal : ℕ → Plan → ℕ
+unfolding refusal ◌or_else◌ rows_refusal
+listed_refusal n p = refusal 4 (wrong_lists p) or_else rows_refusal n p (rows p)
+
 -- Work slice: so many doubles a place, "times the widest window of the plan"
 abbrev pub needed : ℕ → Plan → ℕ
 needed width p = width * widest p (rows p)

@@ -11,16 +11,11 @@ pub struct Offsets {
     pub end: usize,
 }
 
-// How many places from its own on a fixed window reaches; 006's `right_window`.
-#[tactic(auto, unfolding(crate::specs::Code::Reaching::right_of))]
-pub fn right_window(center: bool, window_size: usize) -> usize
-    ensures { (result ≡ right_of center window_size) × (result ≤ window_size) }
-{
-    if center {
-        window_size.div_ceil(2)
-    } else {
-        window_size.min(1)
-    }
+// Fixed windows of one size, trailing or centred.
+#[derive(Clone, Copy)]
+pub struct Fixed {
+    pub window_size: usize,
+    pub center: bool,
 }
 
 // Where the fixed window of a row ends, `right` places from the row's own on, within the n places; or a block of so many rows.
@@ -30,21 +25,49 @@ pub fn end_of(right: usize, n: usize, row: usize) -> usize
     n.min(row.saturating_add(right))
 }
 
-// The window of row i of a call with fixed windows over `len` places: 006's `det_offsets` or `det_offsets_center`. Past the last row
-// there is no place: the window is empty, at the end.
-pub fn det_offsets(i: usize, window_size: usize, len: usize, center: bool) -> Offsets
-    ensures { (result.start ≡ (offsets_at center window_size len i).0) × (result.end ≡ (offsets_at center window_size len i).1) }
-{
-    if len <= i {
-        return Offsets {
-            start: len,
-            end: len,
-        };
+impl Fixed {
+    // How many places from its own on a window reaches; 006's `right_window`.
+    #[tactic(auto, unfolding(crate::specs::Code::Reaching::right_of))]
+    pub fn right_window(self) -> usize
+        ensures { (result ≡ right_of self.center self.window_size) × (result ≤ self.window_size) }
+    {
+        if self.center {
+            self.window_size.div_ceil(2)
+        } else {
+            self.window_size.min(1)
+        }
     }
-    let right = right_window(center, window_size);
-    Offsets {
-        start: i.saturating_sub(window_size - right),
-        end: end_of(right, len, i),
+
+    // How many places before its own a window starts.
+    pub fn left_window(self) -> usize
+        ensures { result ≡ self.window_size - right_of self.center self.window_size }
+    {
+        self.window_size - self.right_window()
+    }
+
+    // The window of row i of a call over `len` places: 006's `det_offsets` or `det_offsets_center`. Past the last row there is no place:
+    // the window is empty, at the end.
+    pub fn det_offsets(self, i: usize, len: usize) -> Offsets
+        ensures { (result.start ≡ (offsets_at self.center self.window_size len i).0)
+            × (result.end ≡ (offsets_at self.center self.window_size len i).1) }
+    {
+        if len <= i {
+            return Offsets {
+                start: len,
+                end: len,
+            };
+        }
+        Offsets {
+            start: i.saturating_sub(self.left_window()),
+            end: end_of(self.right_window(), len, i),
+        }
+    }
+
+    // The widest window of a call over n places, whatever the call is given or lent.
+    pub fn widest(self, n: usize) -> usize
+        ensures { result ≡ min self.window_size n }
+    {
+        self.window_size.min(n)
     }
 }
 

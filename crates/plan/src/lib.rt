@@ -5,14 +5,14 @@
 ghost use Rattle.std.specs.Prelude.{◌≡◌, ◌*◌, nat_lt};
 ghost use Rattle.trace.specs.Outcomes.{outcome_number};
 ghost use Rattle.plan.specs.Plan.{planned};
-ghost use Rattle.plan.specs.Code.Accepted.{ChecksPlan, ChecksWindows};
+ghost use Rattle.plan.specs.Code.Accepted.{ChecksPlan, ChecksWindows, WidestOf};
 
 use trace::Refusal;
 
 mod bounds;
 mod rows;
 
-pub use bounds::{Offsets, det_offsets, end_of, next_offsets, right_window};
+pub use bounds::{Fixed, Offsets, end_of, next_offsets};
 pub use rows::check_row;
 
 // A list of windows: row i's holds places starts[i] up to but not including ends[i].
@@ -22,6 +22,17 @@ pub struct Plan<'a> {
     pub ends: &'a [u32],
 }
 
+impl Plan<'_> {
+    // Its widest window over n places, or why the plan itself is refused, whatever else a call is given or lent.
+    pub fn widest(self, n: usize) -> Result<usize, Refusal>
+        ensures { WidestOf n (planned self.entry) result }
+    {
+        let rows = self.starts.len();
+        Refusal::WrongLists.when((rows != self.ends.len()) | (rows > trace::MAX_READINGS))?;
+        rows::scan(n, self)
+    }
+}
+
 // Whether the work slice is too short for so many places. A quotient is compared, since the product might wrap.
 fn is_too_little(work: usize, width: usize, widest: usize) -> bool
     ensures { result ≡ nat_lt work (width * widest) }
@@ -29,8 +40,8 @@ fn is_too_little(work: usize, width: usize, widest: usize) -> bool
     width != 0 && work / width < widest
 }
 
-// The widest window of a call with a plan over n places, or why it is refused. `given` is what is known of what the call is given, `short`
-// says that a list of readings is too short, `outputs` is the length of the shortest output list, and a place needs `width` doubles of the
+// The widest window of a call with a plan over n places, or why it is refused. `given` is what is known of what the call is given; the
+// caller does not test it, so that the order of all numbers is one contract. `short` says that a list of readings is too short, `outputs` is the length of the shortest output list, and a place needs `width` doubles of the
 // work slice.
 pub fn check_plan(
     given: Result<(), Refusal>,
@@ -44,10 +55,8 @@ pub fn check_plan(
     ensures { ChecksPlan (outcome_number given) (planned plan.entry) n short outputs width work result }
 {
     given?;
-    let rows = plan.starts.len();
-    Refusal::WrongLists.when((rows != plan.ends.len()) | (rows > trace::MAX_READINGS))?;
-    let widest = rows::scan(n, plan)?;
-    Refusal::OutputTooShort.when(short | (outputs < rows))?;
+    let widest = plan.widest(n)?;
+    Refusal::OutputTooShort.when(short | (outputs < plan.starts.len()))?;
     Refusal::WorkTooShort.when(is_too_little(work, width, widest))?;
     Ok(widest)
 }
@@ -55,17 +64,17 @@ pub fn check_plan(
 // The same for fixed windows over n places, trailing or centred alike.
 pub fn check_fixed(
     given: Result<(), Refusal>,
+    windows: Fixed,
     n: usize,
-    window_size: usize,
     outputs: usize,
     width: usize,
     work: usize,
 ) -> Result<usize, Refusal>
-    ensures { ChecksWindows (outcome_number given) n window_size outputs width work result }
+    ensures { ChecksWindows (outcome_number given) n windows.window_size outputs width work result }
 {
     given?;
     Refusal::OutputTooShort.when(outputs < n)?;
-    let widest = window_size.min(n);
+    let widest = windows.widest(n);
     Refusal::WorkTooShort.when(is_too_little(work, width, widest))?;
     Ok(widest)
 }

@@ -16,7 +16,7 @@ use crate::memory::InMemory;
 use crate::moment_window::WindowState;
 use crate::row::Finalize;
 use moment::{CovState, Figure};
-use plan::Plan;
+use plan::{Fixed, Plan};
 use trace::{Pair, Refusal};
 
 impl InMemory for CovState {
@@ -117,23 +117,21 @@ pub fn plan_cov(
 // Rolling covariance over fixed windows.
 pub fn rolling_cov(
     pair: Pair,
-    window_size: usize,
+    windows: Fixed,
     min_periods: usize,
-    center: bool,
     ddof: u8,
     work: &mut [f64],
     figures: &mut [f64],
     present: &mut [u8],
 ) -> Result<(), Refusal>
-    ensures { CallsFixed center window_size min_periods (Covariance ddof) (paired pair.entry) (lending work figures present)
+    ensures { CallsFixed windows.center windows.window_size min_periods (Covariance ddof) (paired pair.entry) (lending work figures present)
         (outcome_number result) }
 {
     figures::fixed(
         CovMoment { ddof },
         pair,
-        window_size,
+        windows,
         min_periods,
-        center,
         work,
         figures,
         present,

@@ -10,7 +10,7 @@ use crate::memory::InMemory;
 use crate::moment_window::{MomentWindow, WindowState};
 use crate::row::{self, Finalize, Rows};
 use crate::series::Series;
-use plan::Plan;
+use plan::{Fixed, Plan};
 use trace::Refusal;
 
 // From a fresh window on, each row is a step, an answer, and its two places in the lists. The next row's bounds are told before the row is
@@ -36,14 +36,7 @@ pub(crate) fn rows<S: WindowState, T: Series<S::Entry>, F: Finalize<S>>(
         next = rows.next(n, row, at);
         w = w.step(work, rows, series, row, at);
         let state = w.total(work);
-        let figure = row::answer(
-            moment,
-            state,
-            w.window,
-            series.is_mapped(),
-            rows.min_periods,
-            at,
-        );
+        let figure = rows.answer(moment, state, w.window, series.is_mapped(), at);
         row::write(figures, present, row, figure);
     }
 }
@@ -79,22 +72,21 @@ pub(crate) fn plan<S: WindowState, T: Series<S::Entry>, F: Finalize<S>>(
 pub(crate) fn fixed<S: WindowState, T: Series<S::Entry>, F: Finalize<S>>(
     moment: F,
     x: T,
-    window_size: usize,
+    windows: Fixed,
     min_periods: usize,
-    center: bool,
     work: &mut [f64],
     figures: &mut [f64],
     present: &mut [u8],
 ) -> Result<(), Refusal>
     ensures { FixedGives (stored_by S.Entry.layout S.layout S.ops) (F.finalize moment) (series_by (T.places x) (T.entries x))
-        (T.have x) (T.refusal x) center window_size min_periods work figures present (outcome_number result) }
+        (T.have x) (T.refusal x) windows.center windows.window_size min_periods work figures present (outcome_number result) }
 {
     let outputs = figures.len().min(present.len());
     let place = S::WIDTH + S::Entry::WIDTH;
-    let widest = plan::check_fixed(x.check(), x.len(), window_size, outputs, place, work.len())?;
+    let widest = plan::check_fixed(x.check(), windows, x.len(), outputs, place, work.len())?;
     rows(
         moment,
-        Rows::fixed(window_size, center, min_periods, widest),
+        Rows::fixed(windows, min_periods, widest),
         x,
         work,
         figures,

@@ -16,7 +16,7 @@ use crate::memory::InMemory;
 use crate::moment_window::WindowState;
 use crate::row::Finalize;
 use moment::{Figure, KurtosisState};
-use plan::Plan;
+use plan::{Fixed, Plan};
 use trace::{Refusal, Trace};
 
 impl InMemory for KurtosisState {
@@ -113,27 +113,17 @@ pub fn plan_kurtosis(
 // Rolling kurtosis over fixed windows: 004's and 005's `rolling_kurtosis`.
 pub fn rolling_kurtosis(
     x: Trace,
-    window_size: usize,
+    windows: Fixed,
     min_periods: usize,
-    center: bool,
     fisher: bool,
     bias: bool,
     work: &mut [f64],
     figures: &mut [f64],
     present: &mut [u8],
 ) -> Result<(), Refusal>
-    ensures { CallsFixed center window_size min_periods (Kurtosis fisher bias) (traced x.entry) (lending work figures present)
+    ensures { CallsFixed windows.center windows.window_size min_periods (Kurtosis fisher bias) (traced x.entry) (lending work figures present)
         (outcome_number result) }
 {
     let moment = KurtosisMoment { fisher, bias };
-    figures::fixed(
-        moment,
-        x,
-        window_size,
-        min_periods,
-        center,
-        work,
-        figures,
-        present,
-    )
+    figures::fixed(moment, x, windows, min_periods, work, figures, present)
 }

@@ -8,7 +8,7 @@ ghost use Rattle.rolling.specs.Code.Ops.{Ops, stored_by, series_by, CanInsert, C
 use crate::memory::InMemory;
 use crate::row::Rows;
 use crate::series::Series;
-use crate::{leaving, row};
+use crate::leaving;
 use plan::Offsets;
 use window::Window;
 
@@ -233,7 +233,7 @@ impl<S: WindowState> MomentWindow<S> {
         ensures { Stepped (stored_by S.Entry.layout S.layout S.ops) (series_by (T.places series) (T.entries series))
             rows.entry.widest rows.entry.min_periods row at.start at.end self.window work.old result.window result.agg_back work.new }
     {
-        if row::moves(series.is_mapped(), rows.min_periods, row, at.start, at.end) {
+        if rows.moves(series.is_mapped(), row, at) {
             return self.update(work, rows.widest, series, at.start, at.end);
         }
         self

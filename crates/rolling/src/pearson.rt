@@ -15,7 +15,7 @@ use crate::memory::InMemory;
 use crate::moment_window::WindowState;
 use crate::row::Finalize;
 use moment::{Figure, PearsonState};
-use plan::Plan;
+use plan::{Fixed, Plan};
 use trace::{Pair, Refusal};
 
 impl InMemory for PearsonState {
@@ -120,22 +120,20 @@ pub fn plan_pearson_corr(
 // Rolling correlation over fixed windows.
 pub fn rolling_pearson_corr(
     pair: Pair,
-    window_size: usize,
+    windows: Fixed,
     min_periods: usize,
-    center: bool,
     work: &mut [f64],
     figures: &mut [f64],
     present: &mut [u8],
 ) -> Result<(), Refusal>
-    ensures { CallsFixed center window_size min_periods Correlation (paired pair.entry) (lending work figures present)
+    ensures { CallsFixed windows.center windows.window_size min_periods Correlation (paired pair.entry) (lending work figures present)
         (outcome_number result) }
 {
     figures::fixed(
         PearsonMoment {},
         pair,
-        window_size,
+        windows,
         min_periods,
-        center,
         work,
         figures,
         present,

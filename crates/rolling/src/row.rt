@@ -9,13 +9,13 @@ ghost use Rattle.window.specs.Code.Stacks.{answer_from};
 ghost use Rattle.rolling.specs.Code.Rows.{plan_by, listed_rows, fixed_rows, SameMany, RowIn, RowBounds, Ahead, Testable};
 
 use moment::Figure;
-use plan::{Offsets, Plan};
+use plan::{Fixed, Offsets, Plan};
 use window::Window;
 
 // The windows of a call's rows: fixed ones by how many places they reach to the left and to the right of their own, or those of a plan.
 #[derive(Clone, Copy)]
 pub(crate) enum Windows<'a> {
-    Fixed { left: usize, right: usize },
+    Reaching { left: usize, right: usize },
     Listed(Plan<'a>),
 }
 
@@ -52,14 +52,13 @@ impl<'a> Rows<'a> {
         }
     }
 
-    pub(crate) fn fixed(window_size: usize, center: bool, min_periods: usize, widest: usize) -> Self
-        ensures { result ≡ fixed_rows window_size center min_periods widest }
+    pub(crate) fn fixed(windows: Fixed, min_periods: usize, widest: usize) -> Self
+        ensures { result ≡ fixed_rows windows.window_size windows.center min_periods widest }
     {
-        let right = plan::right_window(center, window_size);
         Rows {
-            windows: Windows::Fixed {
-                left: window_size - right,
-                right,
+            windows: Windows::Reaching {
+                left: windows.left_window(),
+                right: windows.right_window(),
             },
             min_periods,
             widest,
@@ -71,7 +70,7 @@ impl<'a> Rows<'a> {
         ensures { result ≡ rows (plan_by self.entry n) }
     {
         match self.windows {
-            Windows::Fixed { .. } => n,
+            Windows::Reaching { .. } => n,
             Windows::Listed(plan) => plan.starts.len(),
         }
     }
@@ -82,7 +81,7 @@ impl<'a> Rows<'a> {
         ensures { Ahead (plan_by self.entry n) 0 result }
     {
         match self.windows {
-            Windows::Fixed { right, .. } => Offsets {
+            Windows::Reaching { right, .. } => Offsets {
                 start: 0,
                 end: n.min(right),
             },
@@ -96,51 +95,64 @@ impl<'a> Rows<'a> {
         ensures { Ahead (plan_by self.entry n) (row + 1) result }
     {
         match self.windows {
-            Windows::Fixed { left, .. } => plan::next_offsets(row, at, left, n),
+            Windows::Reaching { left, .. } => plan::next_offsets(row, at, left, n),
             Windows::Listed(plan) => listed(plan, row + 1),
         }
     }
-}
 
-pub(crate) fn moves(has_map: bool, min_periods: usize, row: usize, start: usize, end: usize) -> bool
-    requires { start ≤ end }
-    ensures { result ≡ moves has_map min_periods row start end }
-{
-    if min_periods <= end - start {
-        return true;
+    // Whether row `row` moves the window. Three tests stay: by one `||` the row is tested before its length, and covariance without a map
+    // takes 1.03 to 1.07 times as long. A row's length stays a difference that `start ≤ end` is asked for: one that is 0 where it would be
+    // negative lengthens the loop of covariance by 65 instructions, and takes 1.03 times as long.
+    pub(crate) fn moves(self, has_map: bool, row: usize, at: Offsets) -> bool
+        requires { at.start ≤ at.end }
+        ensures { result ≡ moves has_map self.entry.min_periods row at.start at.end }
+    {
+        if self.min_periods <= at.end - at.start {
+            return true;
+        }
+        if has_map {
+            return true;
+        }
+        row == 0
     }
-    if has_map {
-        return true;
-    }
-    row == 0
-}
 
-// Whether a row without a map is shorter than the minimum: such a row shows no lowest and no highest reading, row 0 too.
-pub(crate) fn is_short(has_map: bool, min_periods: usize, start: usize, end: usize) -> bool
-    requires { start ≤ end }
-    ensures { result ≡ short_row has_map min_periods start end }
-{
-    if has_map {
-        return false;
+    // Whether a row without a map is shorter than the minimum: such a row shows no lowest and no highest reading, row 0 too.
+    pub(crate) fn is_short(self, has_map: bool, at: Offsets) -> bool
+        requires { at.start ≤ at.end }
+        ensures { result ≡ short_row has_map self.entry.min_periods at.start at.end }
+    {
+        !has_map && at.end - at.start < self.min_periods
     }
-    end - start < min_periods
-}
 
-// 001's `is_valid` with a map, of a window with so many valid places; 002's test of the row's length without one.
-pub(crate) fn is_valid(
-    has_map: bool,
-    min_periods: usize,
-    valid: usize,
-    start: usize,
-    end: usize,
-) -> bool
-    requires { start ≤ end }
-    ensures { result ≡ nat_le min_periods (cond has_map valid (end - start)) }
-{
-    if has_map {
-        return min_periods <= valid;
+    // 001's `is_valid` with a map, of a window with so many valid places; 002's test of the row's length without one.
+    pub(crate) fn is_valid(self, has_map: bool, valid: usize, at: Offsets) -> bool
+        requires { at.start ≤ at.end }
+        ensures { result ≡ nat_le self.entry.min_periods (cond has_map valid (at.end - at.start)) }
+    {
+        if has_map {
+            self.min_periods <= valid
+        } else {
+            self.min_periods <= at.end - at.start
+        }
     }
-    min_periods <= end - start
+
+    // 001's `get_moment` and the test of the minimum: a row's answer, of the window after its step and the state of its two parts.
+    pub(crate) fn answer<S: Copy, F: Finalize<S>>(
+        self,
+        moment: F,
+        state: S,
+        w: Window,
+        has_map: bool,
+        at: Offsets,
+    ) -> Figure
+        requires { Testable w at.start at.end }
+        ensures { result ≡ answer_from (F.finalize moment) has_map self.entry.min_periods at.start at.end w state }
+    {
+        if self.is_valid(has_map, w.front + w.back, at) {
+            return window::or_nan(moment.finalize(state), w.nonfinite);
+        }
+        Figure::Missing
+    }
 }
 
 // What makes a figure of a state: a moment's `finalize` with what it takes beside the state.
@@ -149,24 +161,6 @@ pub(crate) trait Finalize<S>: Copy {
 
     fn finalize(self, state: S) -> Figure
         ensures { result ≡ finalize self state };
-}
-
-// 001's `get_moment` and the test of the minimum: a row's answer, of the window after its step and the state of its two parts.
-pub(crate) fn answer<S: Copy, F: Finalize<S>>(
-    moment: F,
-    state: S,
-    w: Window,
-    mapped: bool,
-    min_periods: usize,
-    at: Offsets,
-) -> Figure
-    requires { Testable w at.start at.end }
-    ensures { result ≡ answer_from (F.finalize moment) mapped min_periods at.start at.end w state }
-{
-    if is_valid(mapped, min_periods, w.front + w.back, at.start, at.end) {
-        return window::or_nan(moment.finalize(state), w.nonfinite);
-    }
-    Figure::Missing
 }
 
 // A row's answer. A NaN is written as the one pattern 7FF8000000000000, in a branch of its own: a chosen value costs more here than the

@@ -24,10 +24,10 @@ ghost use Rattle.rolling.specs.Code.Slots.{CanPend, SlotHolds, slot_set, CanFill
 
 use crate::memory::InMemory;
 use crate::moment_window::{MomentWindow, WindowState};
-use crate::row::{self, Rows};
+use crate::row::Rows;
 use crate::series::Places;
 use moment::SkewState;
-use plan::{Offsets, Plan};
+use plan::{Fixed, Offsets, Plan};
 use trace::{Refusal, Trace};
 
 impl InMemory for SkewState {
@@ -206,17 +206,17 @@ impl SkewMoment {
     // The state that a row is to be finalised with, of the window after its step, by the tests of `is_valid` and `finalize`.
     fn pending(
         self,
+        rows: Rows,
         work: &[f64],
         w: MomentWindow<SkewState>,
         mapped: bool,
-        min_periods: usize,
         at: Offsets,
     ) -> Option<SkewState>
         requires { CanPend w.window w.agg_back work.now at }
-        ensures { result ≡ pending_of self.bias mapped min_periods at w.window (state_by skew_stored w.window w.agg_back work.now) }
+        ensures { result ≡ pending_of self.bias mapped rows.entry.min_periods at w.window (state_by skew_stored w.window w.agg_back work.now) }
     {
         let valid = w.window.front + w.window.back;
-        if row::is_valid(mapped, min_periods, valid, at.start, at.end) && self.has_figure(valid) {
+        if rows.is_valid(mapped, valid, at) && self.has_figure(valid) {
             return Some(w.total(work));
         }
         None
@@ -235,10 +235,10 @@ impl SkewMoment {
     // The row's byte, and in slot k what is left of it to finalise, of the window after its step. A missing row's slot comes to zero.
     fn prepare(
         self,
+        rows: Rows,
         work: &[f64],
         w: MomentWindow<SkewState>,
         mapped: bool,
-        min_periods: usize,
         at: Offsets,
         corrections: &mut Corrections,
         slots: &mut Slots,
@@ -246,10 +246,10 @@ impl SkewMoment {
     ) -> u8
         requires can_pend { CanPend w.window w.agg_back work.now at }
         requires slot_in { k < 32 }
-        ensures { SlotHolds self.bias (answer_by skew_stored (λ z. skew_finalize z self.bias) mapped min_periods at.start at.end
+        ensures { SlotHolds self.bias (answer_by skew_stored (λ z. skew_finalize z self.bias) mapped rows.entry.min_periods at.start at.end
             w.window w.agg_back work.now) k result slots.old slots.new }
     {
-        let Some(state) = self.pending(work, w, mapped, min_periods, at) else {
+        let Some(state) = self.pending(rows, work, w, mapped, at) else {
             slots.set(k, 1.0, 0.0, 0.0);
             return 0;
         };
@@ -284,10 +284,10 @@ impl SkewMoment {
             next = rows.next(x.values.len(), row, at);
             w = w.step(work, rows, x, row, at);
             present[row] = self.prepare(
+                rows,
                 work,
                 w,
                 x.is_mapped(),
-                rows.min_periods,
                 at,
                 corrections,
                 slots,
@@ -367,26 +367,25 @@ pub fn plan_skew(
 // Rolling skewness over fixed windows: 004's and 005's `rolling_skew`.
 pub fn rolling_skew(
     x: Trace,
-    window_size: usize,
+    windows: Fixed,
     min_periods: usize,
-    center: bool,
     bias: bool,
     work: &mut [f64],
     figures: &mut [f64],
     present: &mut [u8],
 ) -> Result<(), Refusal>
-    ensures { CallsFixed center window_size min_periods (Skewness bias) (traced x.entry) (lending work figures present)
+    ensures { CallsFixed windows.center windows.window_size min_periods (Skewness bias) (traced x.entry) (lending work figures present)
         (outcome_number result) }
 {
     let widest = plan::check_fixed(
         x.check(),
+        windows,
         x.len(),
-        window_size,
         figures.len().min(present.len()),
         SkewMoment::PLACE,
         work.len(),
     )?;
-    let rows = Rows::fixed(window_size, center, min_periods, widest);
+    let rows = Rows::fixed(windows, min_periods, widest);
     SkewMoment { bias }.rows(rows, x, work, figures, present);
     Ok(())
 }

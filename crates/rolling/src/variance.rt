@@ -17,7 +17,7 @@ use crate::moment_window::MomentWindow;
 use crate::row::{self, Finalize, Rows};
 use crate::series::{Places, Series};
 use moment::Figure;
-use plan::Plan;
+use plan::{Fixed, Plan};
 use trace::{Refusal, Trace};
 
 // A trace whose readings enter as they are, so that a flip can tell which are not finite.
@@ -130,9 +130,9 @@ impl VarianceMoment {
             next = rows.next(n, row, at);
             w = w.step(work, rows, Raw(x), row, at);
             let state = w.total(work);
-            let figure = row::answer(self, state, w.window, mapped, rows.min_periods, at);
+            let figure = rows.answer(self, state, w.window, mapped, at);
             row::write(figures, present, row, figure);
-            let short = row::is_short(mapped, rows.min_periods, at.start, at.end);
+            let short = rows.is_short(mapped, at);
             row::write(lowest, lowest_present, row, extreme(state.lowest, short));
             row::write(highest, highest_present, row, extreme(state.highest, short));
         }
@@ -183,9 +183,8 @@ pub fn plan_var(
 // Rolling variance over fixed windows: 004's and 005's `rolling_var`, with the lowest and the highest reading of each window.
 pub fn rolling_var(
     x: Trace,
-    window_size: usize,
+    windows: Fixed,
     min_periods: usize,
-    center: bool,
     ddof: u8,
     work: &mut [f64],
     figures: &mut [f64],
@@ -195,7 +194,7 @@ pub fn rolling_var(
     highest: &mut [f64],
     highest_present: &mut [u8],
 ) -> Result<(), Refusal>
-    ensures { CallsFixed center window_size min_periods (Variance ddof) (traced x.entry)
+    ensures { CallsFixed windows.center windows.window_size min_periods (Variance ddof) (traced x.entry)
         (lending_three work figures present lowest lowest_present highest highest_present) (outcome_number result) }
 {
     let outputs = VarianceMoment::shortest(
@@ -207,9 +206,9 @@ pub fn rolling_var(
         highest_present.len(),
     );
     let place = VarianceMoment::PLACE;
-    let widest = plan::check_fixed(x.check(), x.len(), window_size, outputs, place, work.len())?;
+    let widest = plan::check_fixed(x.check(), windows, x.len(), outputs, place, work.len())?;
     VarianceMoment { ddof }.rows(
-        Rows::fixed(window_size, center, min_periods, widest),
+        Rows::fixed(windows, min_periods, widest),
         x,
         work,
         figures,

@@ -262,6 +262,10 @@ pub fn paired_fixed(rec: Record) -> Result<bool, AllocError> {
 // Word 1 is the window size, 2 whether windows are centred, 3 how many readings there are, 4 the row, 5 and 6 where its window starts and
 // ends.
 pub fn bounds(rec: Record) -> bool {
-    let window = plan::det_offsets(rec.get(4), rec.get(1), rec.get(3), rec.flag(2));
+    let windows = plan::Fixed {
+        window_size: rec.get(1),
+        center: rec.flag(2),
+    };
+    let window = windows.det_offsets(rec.get(4), rec.get(3));
     rec.is(5, window.start) && rec.is(6, window.end)
 }

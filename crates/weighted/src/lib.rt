@@ -8,6 +8,7 @@ ghost use Rattle.trace.specs.Outcomes.{outcome_number};
 ghost use Rattle.trace.specs.Lent.{traced};
 ghost use Rattle.weighted.specs.Weights.{weights_refusal, CallsWeights, lending_column};
 
+use plan::Fixed;
 use trace::{Refusal, Trace};
 
 mod rows;
@@ -34,22 +35,21 @@ fn check_weights(
 // Weighted rolling variance over fixed windows.
 pub fn rolling_var_weights(
     x: Trace,
-    window_size: usize,
+    windows: Fixed,
     min_periods: usize,
-    center: bool,
     weights: &[f64],
     figures: &mut [f64],
     present: &mut [u8],
 ) -> Result<(), Refusal>
-    ensures { CallsWeights center window_size min_periods weights (traced x.entry)
+    ensures { CallsWeights windows.center windows.window_size min_periods weights (traced x.entry)
         (lending_column figures present) (outcome_number result) }
 {
     let total = moment::sum(weights);
     let outputs = figures.len().min(present.len());
-    check_weights(x, window_size, weights.len(), total, outputs)?;
+    check_weights(x, windows.window_size, weights.len(), total, outputs)?;
     rows::write_rows(
         x.values,
-        center,
+        windows.center,
         min_periods,
         weights,
         total,

@@ -9,7 +9,7 @@ ghost use Rattle.weighted.specs.Code.Rows.{validity_at, answer_of, Finishable, F
 ghost use Rattle.weighted.specs.Code.Rows.{AcceptedWeights, WritesWeights};
 
 use crate::sums::{BLOCK, Block, BlockSums};
-use plan::Offsets;
+use plan::{Fixed, Offsets};
 
 // The last step of 002's `compute_var_weights`, of its three sums. A zero total is no missing figure, and a figure below zero stays.
 #[tactic(auto, unfolding(crate::specs::Weights::variance_of))]
@@ -89,7 +89,11 @@ pub(crate) fn write_rows(
     requires { AcceptedWeights (length values.now) weights.now total (length figures.old) (length present.old) }
     ensures { WritesWeights values center min_periods weights figures present }
 {
-    let right = plan::right_window(center, weights.len());
+    let windows = Fixed {
+        window_size: weights.len(),
+        center,
+    };
+    let right = windows.right_window();
     let left = weights.len() - right;
     create_validity(values.len(), left, right, min_periods, present);
     for k in 0..values.len().div_ceil(BLOCK) {

@@ -22,10 +22,10 @@ pub returns-in_err-when-2 : goal.returns-in_err-when-2
 unfolding fixed_refusal
 returns-in_err-when-2 c =
     fixed_stops _ _ _ _ _ _ _ _ c.from_residual-in_err-when-2.ensures.1
-    (goes_on _ _ _ (goes_on _ _ _ (sym (ap outcome_number c.in_ok-given.was)) c.in_ok-when.ensures) (c.in_err-when-2.ensures ∙ work_check _ _ _ _ _ c.is_too_little.ensures c.min-widest.ensures))
+    (goes_on _ _ _ (goes_on _ _ _ (sym (ap outcome_number c.in_ok-given.was)) c.in_ok-when.ensures) (c.in_err-when-2.ensures ∙ work_check _ _ _ _ _ c.is_too_little.ensures c.widest-widest.ensures))
 
 pub returns : goal.returns
 unfolding fixed_refusal
 returns c =
-    fixed_passes _ _ _ _ _ _ _ c.min-widest.ensures
-    (goes_on _ _ _ (goes_on _ _ _ (sym (ap outcome_number c.in_ok-given.was)) c.in_ok-when.ensures) (c.in_ok-when-2.ensures ∙ work_check _ _ _ _ _ c.is_too_little.ensures c.min-widest.ensures))
+    fixed_passes _ _ _ _ _ _ _ c.widest-widest.ensures
+    (goes_on _ _ _ (goes_on _ _ _ (sym (ap outcome_number c.in_ok-given.was)) c.in_ok-when.ensures) (c.in_ok-when-2.ensures ∙ work_check _ _ _ _ _ c.is_too_little.ensures c.widest-widest.ensures))

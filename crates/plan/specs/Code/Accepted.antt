@@ -4,7 +4,7 @@ use Rattle.trace.specs.Outcomes.{outcome_number}
 use Rattle.trace.specs.declared.refusals.Refusal.{Refusal}
 use Rattle.plan.specs.Plan.{Plan, rows, row_start, row_end}
 use Rattle.plan.specs.Bounds.{bounds}
-use Rattle.plan.specs.Refusals.{rows_refusal, widest, plan_refusal, fixed_refusal}
+use Rattle.plan.specs.Refusals.{rows_refusal, listed_refusal, widest, plan_refusal, fixed_refusal}
 
 -- an accepted plan over n places, with no window wider than `wide`
 pub record Planned (n wide : ℕ) (p : Plan) : Type 0 where
@@ -41,6 +41,11 @@ pub record ChecksWindows (given n size outputs width work : ℕ) (result : Resul
 -- what a scan of a plan's rows answers: what refuses them, or the widest window
 pub record ScansRows (n : ℕ) (p : Plan) (result : Result ℕ Refusal) : Type 0 where
   pub number_is : outcome_number result ≡ rows_refusal n p (rows p)
+  pub wide_is : IfOk result (λ wide. wide ≡ widest p (rows p))
+
+-- what a plan's own check answers, whatever a call of it is given or lent: why it is refused, or the widest window
+pub record WidestOf (n : ℕ) (p : Plan) (result : Result ℕ Refusal) : Type 0 where
+  pub number_is : outcome_number result ≡ listed_refusal n p
   pub wide_is : IfOk result (λ wide. wide ≡ widest p (rows p))
 
 -- a row's width in 32 bits, which wraps where the row ends before it starts

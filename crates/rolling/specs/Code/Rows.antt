@@ -23,7 +23,7 @@ use Rattle.rolling.specs.Calls.{Query, query, GivenTo, Left}
 use Rattle.plan.specs.declared.Plan.{Plan as CodePlan}
 use Rattle.rolling.specs.declared.row.Rows.{Rows}
 use Rattle.rolling.specs.declared.row.Windows.{Windows}
-use Rattle.rolling.specs.declared.row.Windows.TheVariants.{Fixed, Listed}
+use Rattle.rolling.specs.declared.row.Windows.TheVariants.{Reaching, Listed}
 
 -- the two traces that a value of the code's type is
 abbrev pub paired : CodePair → TracePair
@@ -55,7 +55,7 @@ TalliesBelow t w s valid nonfinite = s < w.end → Tallied t w.start s valid non
 
 -- the windows of a call over n places, fixed ones or as they are listed
 abbrev pub windows_by : Windows → ℕ → Plan
-windows_by (Fixed left right) n = reaching left right n
+windows_by (Reaching left right) n = reaching left right n
 windows_by (Listed plan) n = planned plan
 
 -- the rows of the call
@@ -70,7 +70,7 @@ listed_rows plan min_periods widest = record { windows = Listed plan; min_period
 abbrev pub fixed_rows : ℕ → Bool → ℕ → ℕ → Rows
 fixed_rows window_size center min_periods widest =
     record {
-      windows = Fixed (window_size - right_of center window_size) (right_of center window_size);
+      windows = Reaching (window_size - right_of center window_size) (right_of center window_size);
       min_periods = min_periods;
       widest = widest;
     }

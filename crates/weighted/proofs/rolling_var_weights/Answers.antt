@@ -10,7 +10,7 @@ returns-in_err-check_weights c =
 
 pub write_rows-requires : goal.write_rows-requires
 write_rows-requires c =
-    weights-accepted c.args.window_size c.args.weights.now (traced c.args.x) (column c.args.figures.now c.args.present.now)
+    weights-accepted c.args.windows.window_size c.args.weights.now (traced c.args.x) (column c.args.figures.now c.args.present.now)
     (rw (← c.sum-total.ensures, ← c.min-outputs.ensures) c.in_ok-check_weights.ensures) c.sum-total.ensures
 
 pub returns : goal.returns

@@ -16,7 +16,7 @@ returns-in_err-widest g c =
 
 pub rows-requires : goal.rows-requires
 rows-requires g c =
-    let k = rw (c.len.ensures, c.WIDTH.ensures, c.WIDTH-2.ensures, ← g.met.S.InMemory.wide, ← g.met.S.Entry.InMemory.wide, c.min-outputs.ensures) at c.in_ok-widest.ensures.accepted c.args.center in
+    let k = rw (c.len.ensures, c.WIDTH.ensures, c.WIDTH-2.ensures, ← g.met.S.InMemory.wide, ← g.met.S.Entry.InMemory.wide, c.min-outputs.ensures) at c.in_ok-widest.ensures.accepted c.args.windows.center in
     rw c.fixed.ensures (driven_fixed _ _ _ _ _ k (λ z. g.met.T.Places.few c.args.x (rw c.check.ensures at z)))
 
 pub returns : goal.returns

@@ -11,7 +11,7 @@ returns c =
     let a = c.args in
     let v = c.fixed.ensures in
     let same = both_are (paired a.pair) in
-    let w = leaves_same _ _ _ _ _ _ _ (λ z. ap (λ n. bounds a.center a.window_size n) (same (fixed_none _ _ _ _ _ _ (sym v.number_is ∙ z)))) v.left in
+    let w = leaves_same _ _ _ _ _ _ _ (λ z. ap (λ n. bounds a.windows.center a.windows.window_size n) (same (fixed_none _ _ _ _ _ _ (sym v.number_is ∙ z)))) v.left in
     fixed_call _ _ _ _ _ _ (v.number_is ∙ fixed_same _ _ _ _ _ _ _ same)
     (record {
       fits = record { answers = refl; counts = refl };

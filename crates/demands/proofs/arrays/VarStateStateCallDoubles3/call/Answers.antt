@@ -1,5 +1,5 @@
 -- What the demands say of the call. Assumes nothing.
-use Rattle.demands.specs.Meets.{of_var}
+use Rattle.promises.specs.Calls.{of_var}
 use Rattle.demands.proofs.Demanded.{array_meets}
 use Rattle.demands.proofs.arrays.VarStateStateCallDoubles3.call.Goals as goal
 

@@ -3,5 +3,5 @@ use Rattle.std.proofs.Common.{sym}
 use Rattle.plan.proofs.FixedWindows.{reaching_rows}
 use Rattle.rolling.proofs.row.Rows.len.Goals as goal
 
-pub returns-in-Fixed : goal.returns-in-Fixed
-returns-in-Fixed c = rw c.in-Fixed.is (sym (reaching_rows c.in-Fixed.left c.in-Fixed.right c.args.n))
+pub returns-in-Reaching : goal.returns-in-Reaching
+returns-in-Reaching c = rw c.in-Reaching.is (sym (reaching_rows c.in-Reaching.left c.in-Reaching.right c.args.n))
