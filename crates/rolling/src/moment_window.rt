@@ -5,10 +5,10 @@ ghost use Rattle.window.specs.Code.Stacks.{Flippable, Flipped, Appendable, Appen
 ghost use Rattle.window.specs.Code.Stacks.{Trimmable, Trimmed, Extendable, Extended, Movable, Updated, Stepped};
 ghost use Rattle.rolling.specs.Code.Ops.{Ops, stored_by, series_by, CanInsert, CanMerge, CanTotal, CanPush, Pushed};
 
+use crate::leaving;
 use crate::memory::InMemory;
 use crate::row::Rows;
 use crate::series::Series;
-use crate::leaving;
 use plan::Offsets;
 use window::Window;
 

@@ -1,5 +1,5 @@
 -- What the demands say of the call. Assumes nothing.
-use Rattle.demands.specs.Meets.{of_kurtosis_range}
+use Rattle.promises.specs.Calls.{of_kurtosis_range}
 use Rattle.demands.proofs.Demanded.{array_meets}
 use Rattle.demands.proofs.arrays.KurtosisStateStateCallRange5.call.Goals as goal
 

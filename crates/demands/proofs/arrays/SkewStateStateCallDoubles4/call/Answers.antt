@@ -1,5 +1,5 @@
 -- What the demands say of the call. Assumes nothing.
-use Rattle.demands.specs.Meets.{of_skew}
+use Rattle.promises.specs.Calls.{of_skew}
 use Rattle.demands.proofs.Demanded.{array_meets}
 use Rattle.demands.proofs.arrays.SkewStateStateCallDoubles4.call.Goals as goal
 
