@@ -17,13 +17,18 @@ ghost use Rattle.moment.specs.Arrays.{answered, var_answer, cov_answer, pearson_
 ghost use Rattle.moment.specs.Arrays.{skew_range, kurtosis_range};
 ghost use Rattle.moment.specs.Arrays.{var_list, cov_list, pearson_list, skew_list, kurtosis_list};
 ghost use Rattle.trace.specs.Trace.{tracing};
+ghost use Rattle.trace.specs.Lent.{traced, LentAs};
 ghost use Rattle.window.specs.Pairs.{pairing};
 ghost use Rattle.rolling.specs.Moments.{Variance, Skewness, Kurtosis, Covariance, Correlation};
-ghost use Rattle.rolling.specs.Calls.{querying, lending, lending_three};
+ghost use Rattle.rolling.specs.Calls.{query, querying, lending, lending_three, Calls};
+ghost use Rattle.rolling.specs.Code.Rows.{paired};
 ghost use Rattle.rolling.specs.Fixed.{CallsFixed};
 ghost use Rattle.weighted.specs.Weights.{CallsWeights, lending_column};
 ghost use Rattle.plan.specs.Plan.{planned};
+ghost use Rattle.trace.specs.Outcomes.{outcome_number};
+ghost use Rattle.window.specs.Given.{Readings, Pairs};
 ghost use Rattle.moments.specs.Code.Checks.{ChecksBytes, ChecksBytePair};
+ghost use Rattle.moments.specs.Code.Hosts.{Lends, LendsPair, Hosts, CallOn, CallOnPair};
 ghost use Rattle.moments.specs.HostCall.{hosting, decoding, hosting_pair, decoding_pair, CallsBytes};
 ghost use Rattle.moments.specs.Results.{StateResult, FigureResult};
 
@@ -32,57 +37,124 @@ use plan::{Fixed, Plan};
 use rolling::{CovMoment, KurtosisMoment, PearsonMoment, SkewMoment, VarianceMoment};
 use trace::{Pair, Refusal, Trace, lent_map, number};
 
+// A trace as a host lends it: little-endian bytes, eight a reading, with a map where one is lent.
+#[derive(Clone, Copy)]
+struct ByteTrace<'a> {
+    bytes: &'a [u8],
+    map: Option<&'a [u8]>,
+}
+
+// Two traces as a host lends them.
+#[derive(Clone, Copy)]
+struct BytePair<'a> {
+    x: ByteTrace<'a>,
+    y: ByteTrace<'a>,
+}
+
 // What refuses a host call before anything is decoded; else how many readings its trace has.
 fn check_bytes(
-    bytes: &[u8],
+    trace: ByteTrace,
     readings: usize,
-    has_map: bool,
-    map: &[u8],
     plan: Plan,
     outputs: usize,
     place: usize,
     work: usize,
 ) -> Result<usize, Refusal>
-    ensures { ChecksBytes (hosting bytes has_map map) (planned plan.entry) readings outputs place work result }
+    ensures { Lends trace.entry (λ h. ChecksBytes h (planned plan.entry) readings outputs place work result) }
 {
-    Refusal::BytesNotWhole.when(bytes.len() % 8 != 0)?;
-    let n = bytes.len() / 8;
-    let given = trace::check_array(n, lent_map(has_map, map));
+    Refusal::BytesNotWhole.when(trace.bytes.len() % 8 != 0)?;
+    let n = trace.bytes.len() / 8;
+    let given = trace::check_array(n, trace.map);
     plan::check_plan(given, plan, n, readings < n, outputs, place, work)?;
     Ok(n)
 }
 
 // The same of two traces, which have one length where none is refused.
 fn check_byte_pair(
-    x: &[u8],
+    pair: BytePair,
     x_readings: usize,
-    x_has_map: bool,
-    x_map: &[u8],
-    y: &[u8],
     y_readings: usize,
-    y_has_map: bool,
-    y_map: &[u8],
     plan: Plan,
     outputs: usize,
     place: usize,
     work: usize,
 ) -> Result<usize, Refusal>
-    ensures { ChecksBytePair (hosting_pair x x_has_map x_map y y_has_map y_map) (planned plan.entry) x_readings y_readings
-        outputs place work result }
+    ensures { LendsPair pair.entry (λ h. ChecksBytePair h (planned plan.entry) x_readings y_readings outputs place work result) }
 {
-    Refusal::BytesNotWhole.when((x.len() % 8 != 0) | (y.len() % 8 != 0))?;
-    let x_len = x.len() / 8;
-    let y_len = y.len() / 8;
-    let x_map = lent_map(x_has_map, x_map);
-    let y_map = lent_map(y_has_map, y_map);
-    let given = trace::check_pair(x_len, x_map, y_len, y_map);
+    let BytePair { x, y } = pair;
+    Refusal::BytesNotWhole.when((x.bytes.len() % 8 != 0) | (y.bytes.len() % 8 != 0))?;
+    let x_len = x.bytes.len() / 8;
+    let y_len = y.bytes.len() / 8;
+    let given = trace::check_pair(x_len, x.map, y_len, y.map);
     let short = (x_readings < x_len) | (y_readings < y_len);
     plan::check_plan(given, plan, x_len, short, outputs, place, work)?;
     Ok(x_len)
 }
 
-// Plans: the trace as little-endian bytes, decoded into `readings`; 0, or the number of the first refusal and every list as it
-// was. Nothing is decoded before every number is known, and the plan call then checks once more: one pass without branches.
+// Makes a plan call of a trace that is lent as bytes, which are decoded into `readings` once no number refuses the call. The plan call
+// checks once more: one pass without branches.
+fn on_bytes<F: FnMut(Trace) -> Result<(), Refusal>>(
+    trace: ByteTrace,
+    readings: &mut [f64],
+    plan: Plan,
+    outputs: usize,
+    place: usize,
+    work: usize,
+    call: &mut F,
+) -> Result<(), Refusal>
+    requires { F.IsAlwaysCallable call.now }
+    ensures { Lends trace.entry (λ h. Hosts Readings h (planned plan.entry) outputs place work
+        (CallOn h (λ x. F.step call.old x result call.new)) (call.new ≡ call.old) readings.old readings.new (outcome_number result)) }
+{
+    let n = check_bytes(trace, readings.len(), plan, outputs, place, work)?;
+    float::decode(trace.bytes, readings);
+    call(Trace {
+        values: &readings[..n],
+        map: trace.map,
+    })
+}
+
+// The same of two traces.
+fn on_byte_pair<F: FnMut(Pair) -> Result<(), Refusal>>(
+    pair: BytePair,
+    x_readings: &mut [f64],
+    y_readings: &mut [f64],
+    plan: Plan,
+    outputs: usize,
+    place: usize,
+    work: usize,
+    call: &mut F,
+) -> Result<(), Refusal>
+    requires { F.IsAlwaysCallable call.now }
+    ensures { LendsPair pair.entry (λ h. Hosts Pairs h (planned plan.entry) outputs place work
+        (CallOnPair h (λ xy. F.step call.old xy result call.new)) (call.new ≡ call.old)
+        (x_readings.old, y_readings.old) (x_readings.new, y_readings.new) (outcome_number result)) }
+{
+    let n = check_byte_pair(
+        pair,
+        x_readings.len(),
+        y_readings.len(),
+        plan,
+        outputs,
+        place,
+        work,
+    )?;
+    float::decode(pair.x.bytes, x_readings);
+    float::decode(pair.y.bytes, y_readings);
+    call(Pair {
+        x: Trace {
+            values: &x_readings[..n],
+            map: pair.x.map,
+        },
+        y: Trace {
+            values: &y_readings[..n],
+            map: pair.y.map,
+        },
+    })
+}
+
+// Plans: the trace as little-endian bytes; 0, or the number of the first refusal and every list as it was. Each `call` says the plan call's
+// clause again: from what is inferred of a closure the entry's own clause was not proved.
 pub fn moments_plan_var(
     trace: &[u8],
     readings: &mut [f64],
@@ -113,34 +185,30 @@ pub fn moments_plan_var(
         highest_present.len(),
     );
     let place = VarianceMoment::PLACE;
-    let n = match check_bytes(
-        trace,
-        readings.len(),
-        has_map,
-        map,
-        plan,
-        outputs,
-        place,
-        work.len(),
-    ) {
-        Ok(n) => n,
-        Err(refusal) => return u32::from(refusal),
+    let trace = ByteTrace {
+        bytes: trace,
+        map: lent_map(has_map, map),
     };
-    float::decode(trace, readings);
-    let x = Trace::lent(&readings[..n], has_map, map);
-    number(rolling::plan_var(
-        x,
-        plan,
-        min_periods,
-        ddof,
-        work,
-        figures,
-        present,
-        lowest,
-        lowest_present,
-        highest,
-        highest_present,
-    ))
+    let room = work.len();
+    let mut call = |x: Trace| -> Result<(), Refusal>
+        ensures { Calls (query (planned plan.entry) min_periods (Variance ddof)) (traced x.entry)
+            (lending_three work figures present lowest lowest_present highest highest_present) (outcome_number result) }
+    {
+        rolling::plan_var(
+            x,
+            plan,
+            min_periods,
+            ddof,
+            work,
+            figures,
+            present,
+            lowest,
+            lowest_present,
+            highest,
+            highest_present,
+        )
+    };
+    number(on_bytes(trace, readings, plan, outputs, place, room, &mut call))
 }
 
 pub fn moments_plan_skew(
@@ -162,22 +230,16 @@ pub fn moments_plan_skew(
     let plan = Plan { starts, ends };
     let outputs = figures.len().min(present.len());
     let place = SkewMoment::PLACE;
-    let n = match check_bytes(
-        trace,
-        readings.len(),
-        has_map,
-        map,
-        plan,
-        outputs,
-        place,
-        work.len(),
-    ) {
-        Ok(n) => n,
-        Err(refusal) => return u32::from(refusal),
+    let trace = ByteTrace {
+        bytes: trace,
+        map: lent_map(has_map, map),
     };
-    float::decode(trace, readings);
-    let x = Trace::lent(&readings[..n], has_map, map);
-    number(rolling::plan_skew(x, plan, min_periods, bias, work, figures, present))
+    let room = work.len();
+    let mut call = |x: Trace| -> Result<(), Refusal>
+        ensures { Calls (query (planned plan.entry) min_periods (Skewness bias)) (traced x.entry) (lending work figures present)
+            (outcome_number result) }
+    { rolling::plan_skew(x, plan, min_periods, bias, work, figures, present) };
+    number(on_bytes(trace, readings, plan, outputs, place, room, &mut call))
 }
 
 pub fn moments_plan_kurtosis(
@@ -200,22 +262,16 @@ pub fn moments_plan_kurtosis(
     let plan = Plan { starts, ends };
     let outputs = figures.len().min(present.len());
     let place = KurtosisMoment::PLACE;
-    let n = match check_bytes(
-        trace,
-        readings.len(),
-        has_map,
-        map,
-        plan,
-        outputs,
-        place,
-        work.len(),
-    ) {
-        Ok(n) => n,
-        Err(refusal) => return u32::from(refusal),
+    let trace = ByteTrace {
+        bytes: trace,
+        map: lent_map(has_map, map),
     };
-    float::decode(trace, readings);
-    let x = Trace::lent(&readings[..n], has_map, map);
-    number(rolling::plan_kurtosis(x, plan, min_periods, fisher, bias, work, figures, present))
+    let room = work.len();
+    let mut call = |x: Trace| -> Result<(), Refusal>
+        ensures { Calls (query (planned plan.entry) min_periods (Kurtosis fisher bias)) (traced x.entry) (lending work figures present)
+            (outcome_number result) }
+    { rolling::plan_kurtosis(x, plan, min_periods, fisher, bias, work, figures, present) };
+    number(on_bytes(trace, readings, plan, outputs, place, room, &mut call))
 }
 
 pub fn moments_plan_cov(
@@ -241,30 +297,24 @@ pub fn moments_plan_cov(
     let plan = Plan { starts, ends };
     let outputs = figures.len().min(present.len());
     let place = CovMoment::PLACE;
-    let n = match check_byte_pair(
-        x,
-        x_readings.len(),
-        x_has_map,
-        x_map,
-        y,
-        y_readings.len(),
-        y_has_map,
-        y_map,
-        plan,
-        outputs,
-        place,
-        work.len(),
-    ) {
-        Ok(n) => n,
-        Err(refusal) => return u32::from(refusal),
+    let pair = BytePair {
+        x: ByteTrace {
+            bytes: x,
+            map: lent_map(x_has_map, x_map),
+        },
+        y: ByteTrace {
+            bytes: y,
+            map: lent_map(y_has_map, y_map),
+        },
     };
-    float::decode(x, x_readings);
-    float::decode(y, y_readings);
-    let pair = Pair {
-        x: Trace::lent(&x_readings[..n], x_has_map, x_map),
-        y: Trace::lent(&y_readings[..n], y_has_map, y_map),
-    };
-    number(rolling::plan_cov(pair, plan, min_periods, ddof, work, figures, present))
+    let room = work.len();
+    let mut call = |pair: Pair| -> Result<(), Refusal>
+        ensures { Calls (query (planned plan.entry) min_periods (Covariance ddof)) (paired pair.entry) (lending work figures present)
+            (outcome_number result) }
+    { rolling::plan_cov(pair, plan, min_periods, ddof, work, figures, present) };
+    number(on_byte_pair(
+        pair, x_readings, y_readings, plan, outputs, place, room, &mut call,
+    ))
 }
 
 pub fn moments_plan_pearson_corr(
@@ -289,30 +339,42 @@ pub fn moments_plan_pearson_corr(
     let plan = Plan { starts, ends };
     let outputs = figures.len().min(present.len());
     let place = PearsonMoment::PLACE;
-    let n = match check_byte_pair(
-        x,
-        x_readings.len(),
-        x_has_map,
-        x_map,
-        y,
-        y_readings.len(),
-        y_has_map,
-        y_map,
-        plan,
-        outputs,
-        place,
-        work.len(),
-    ) {
-        Ok(n) => n,
-        Err(refusal) => return u32::from(refusal),
+    let pair = BytePair {
+        x: ByteTrace {
+            bytes: x,
+            map: lent_map(x_has_map, x_map),
+        },
+        y: ByteTrace {
+            bytes: y,
+            map: lent_map(y_has_map, y_map),
+        },
     };
-    float::decode(x, x_readings);
-    float::decode(y, y_readings);
-    let pair = Pair {
-        x: Trace::lent(&x_readings[..n], x_has_map, x_map),
-        y: Trace::lent(&y_readings[..n], y_has_map, y_map),
-    };
-    number(rolling::plan_pearson_corr(pair, plan, min_periods, work, figures, present))
+    let room = work.len();
+    let mut call = |pair: Pair| -> Result<(), Refusal>
+        ensures { Calls (query (planned plan.entry) min_periods Correlation) (paired pair.entry) (lending work figures present)
+            (outcome_number result) }
+    { rolling::plan_pearson_corr(pair, plan, min_periods, work, figures, present) };
+    number(on_byte_pair(
+        pair, x_readings, y_readings, plan, outputs, place, room, &mut call,
+    ))
+}
+
+// Two traces as C lends them.
+fn lent_pair<'a>(
+    x: &'a [f64],
+    x_has_map: bool,
+    x_map: &'a [u8],
+    y: &'a [f64],
+    y_has_map: bool,
+    y_map: &'a [u8],
+) -> Pair<'a>
+    ensures x_lent { LentAs x.now x_has_map x_map.now (traced result.x) }
+    ensures y_lent { LentAs y.now y_has_map y_map.now (traced result.y) }
+{
+    Pair {
+        x: Trace::lent(x, x_has_map, x_map),
+        y: Trace::lent(y, y_has_map, y_map),
+    }
 }
 
 // Fixed windows, the trace as doubles.
@@ -434,10 +496,7 @@ pub fn moments_rolling_cov(
     ensures { CallsFixed center window_size min_periods (Covariance ddof) (pairing x x_has_map x_map y y_has_map y_map)
         (lending work figures present) result }
 {
-    let pair = Pair {
-        x: Trace::lent(x, x_has_map, x_map),
-        y: Trace::lent(y, y_has_map, y_map),
-    };
+    let pair = lent_pair(x, x_has_map, x_map, y, y_has_map, y_map);
     number(rolling::rolling_cov(
         pair,
         Fixed {
@@ -469,10 +528,7 @@ pub fn moments_rolling_pearson_corr(
     ensures { CallsFixed center window_size min_periods Correlation (pairing x x_has_map x_map y y_has_map y_map)
         (lending work figures present) result }
 {
-    let pair = Pair {
-        x: Trace::lent(x, x_has_map, x_map),
-        y: Trace::lent(y, y_has_map, y_map),
-    };
+    let pair = lent_pair(x, x_has_map, x_map, y, y_has_map, y_map);
     number(rolling::rolling_pearson_corr(
         pair,
         Fixed {
@@ -589,10 +645,7 @@ pub fn moments_cov(
     ensures { StateResult cov_list (cov_answer (tracing x x_has_map x_map) (tracing y y_has_map y_map))
         state.old result state.new }
 {
-    let pair = Pair {
-        x: Trace::lent(x, x_has_map, x_map),
-        y: Trace::lent(y, y_has_map, y_map),
-    };
+    let pair = lent_pair(x, x_has_map, x_map, y, y_has_map, y_map);
     store(moment::cov(pair), state)
 }
 
@@ -608,10 +661,7 @@ pub fn moments_pearson_corr(
     ensures { StateResult pearson_list (pearson_answer (tracing x x_has_map x_map) (tracing y y_has_map y_map))
         state.old result state.new }
 {
-    let pair = Pair {
-        x: Trace::lent(x, x_has_map, x_map),
-        y: Trace::lent(y, y_has_map, y_map),
-    };
+    let pair = lent_pair(x, x_has_map, x_map, y, y_has_map, y_map);
     store(moment::pearson_corr(pair), state)
 }
 

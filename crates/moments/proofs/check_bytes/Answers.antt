@@ -6,16 +6,16 @@ use Rattle.moments.proofs.HostCalls.{stops_odd, stops_plan, passes, decoded_many
 use Rattle.moments.proofs.check_bytes.Goals as goal
 
 pub returns-in_err-when : goal.returns-in_err-when
-returns-in_err-when c = stops_odd Readings _ _ _ _ _ _ _ _ _ c.from_residual.ensures.1 c.in_err-when.ensures
+returns-in_err-when c has map a = stops_odd Readings _ _ _ _ _ _ _ _ _ c.from_residual.ensures.1 c.in_err-when.ensures
 
 pub returns-in_err-check_plan : goal.returns-in_err-check_plan
-returns-in_err-check_plan c =
-    let t : ByteTrace = record { bytes = c.args.bytes.now; mapped = c.args.has_map; map = c.args.map.now } in
-    stops_plan Readings t _ _ _ _ _ _ c.in_ok-when.ensures (c.check_array-given.ensures ∙ trace_given t _ c.lent_map.ensures) (decoded_many t)
+returns-in_err-check_plan c has map a =
+    let t : ByteTrace = record { bytes = c.args.trace.bytes.now; mapped = has; map = map } in
+    stops_plan Readings t _ _ _ _ _ _ c.in_ok-when.ensures (c.check_array-given.ensures ∙ trace_given t _ a) (decoded_many t)
     c.in_err-check_plan.ensures _ c.from_residual-in_err-check_plan.ensures.1
 
 pub returns : goal.returns
-returns c =
-    let t : ByteTrace = record { bytes = c.args.bytes.now; mapped = c.args.has_map; map = c.args.map.now } in
-    passes Readings t _ _ _ _ _ _ c.in_ok-when.ensures (c.check_array-given.ensures ∙ trace_given t _ c.lent_map.ensures) (decoded_many t)
+returns c has map a =
+    let t : ByteTrace = record { bytes = c.args.trace.bytes.now; mapped = has; map = map } in
+    passes Readings t _ _ _ _ _ _ c.in_ok-when.ensures (c.check_array-given.ensures ∙ trace_given t _ a) (decoded_many t)
     c.in_ok-check_plan.ensures _ (refl, ltb-false c.args.readings (reading_count t) c.in_ok-check_plan.ensures.accepted.readings_fit)

@@ -5,4 +5,4 @@ use Rattle.moments.proofs.moments_cov.Goals as goal
 
 pub returns : goal.returns
 returns c =
-    rw (← pair_lent c.lent.ensures c.lent-2.ensures cov_whole, ← c.cov.ensures) (c.store.ensures cov_list (λ s members e. e))
+    rw (← pair_lent c.lent_pair-pair.ensures.x_lent c.lent_pair-pair.ensures.y_lent cov_whole, ← c.cov.ensures) (c.store.ensures cov_list (λ s members e. e))

@@ -5,4 +5,4 @@ use Rattle.moments.proofs.moments_pearson_corr.Goals as goal
 
 pub returns : goal.returns
 returns c =
-    rw (← pair_lent c.lent.ensures c.lent-2.ensures pearson_whole, ← c.pearson_corr.ensures) (c.store.ensures pearson_list (λ s members e. e))
+    rw (← pair_lent c.lent_pair-pair.ensures.x_lent c.lent_pair-pair.ensures.y_lent pearson_whole, ← c.pearson_corr.ensures) (c.store.ensures pearson_list (λ s members e. e))
