@@ -1,6 +1,6 @@
 // Covariance: the source's `CovState`.
 ghost use Rattle.std.specs.Prelude.{◌≡◌, false, refl, [], ◌∷◌};
-ghost use Rattle.moment.specs.Cov.{cov_empty, cov_about, cov_new, cov_insert, cov_merge, cov_combine, cov_finalize};
+ghost use Rattle.moment.specs.Cov.{cov_about, cov_new, cov_insert, cov_merge, cov_combine, cov_finalize};
 ghost use Rattle.moment.specs.Arrays.{cov_list};
 ghost use Rattle.moment.specs.Code.Entrywise.{cov_with, cov_about_more, cov_new_is, cov_combine_is};
 
@@ -8,26 +8,12 @@ use crate::states::State;
 use crate::{Figure, states};
 
 #[repr(C)]
-#[derive(Clone, Copy, Debug, PartialEq)]
+#[derive(Clone, Copy, Debug, Default, PartialEq)]
 pub struct CovState {
     pub weight: f64,
     pub mean_x: f64,
     pub mean_y: f64,
     pub dp_xy: f64,
-}
-
-// By hand: a derive ensures the same member by member, and callers cite the empty state whole.
-impl Default for CovState {
-    ghost is_default = { λ s. s ≡ cov_empty };
-
-    fn default() -> CovState {
-        CovState {
-            weight: 0.0,
-            mean_x: 0.0,
-            mean_y: 0.0,
-            dp_xy: 0.0,
-        }
-    }
 }
 
 // Its members, in the order of the source's struct.

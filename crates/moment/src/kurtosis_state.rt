@@ -1,7 +1,7 @@
 // Kurtosis: the source's `KurtosisState`.
 ghost use Rattle.std.specs.Prelude.{◌≡◌, false, refl};
 ghost use Rattle.trace.specs.Lent.{traced};
-ghost use Rattle.moment.specs.Kurtosis.{kurtosis_empty, kurtosis_about, kurtosis_new, kurtosis_clear, kurtosis_inserted, kurtosis_insert};
+ghost use Rattle.moment.specs.Kurtosis.{kurtosis_about, kurtosis_new, kurtosis_clear, kurtosis_inserted, kurtosis_insert};
 ghost use Rattle.moment.specs.Kurtosis.{kurtosis_merged, kurtosis_merge, kurtosis_combine};
 ghost use Rattle.moment.specs.Kurtosis.{kurtosis_biased, kurtosis_unbiased, less_three, kurtosis_finalize};
 ghost use Rattle.moment.specs.Arrays.{kurtosis_list, answered, kurtosis_range};
@@ -12,28 +12,13 @@ use crate::{Figure, is_zero, states};
 use trace::{Refusal, Trace};
 
 #[repr(C)]
-#[derive(Clone, Copy, Debug, PartialEq)]
+#[derive(Clone, Copy, Debug, Default, PartialEq)]
 pub struct KurtosisState {
     pub weight: f64,
     pub mean: f64,
     pub m2: f64,
     pub m3: f64,
     pub m4: f64,
-}
-
-// By hand: a derive ensures the same member by member, and callers cite the empty state whole.
-impl Default for KurtosisState {
-    ghost is_default = { λ s. s ≡ kurtosis_empty };
-
-    fn default() -> KurtosisState {
-        KurtosisState {
-            weight: 0.0,
-            mean: 0.0,
-            m2: 0.0,
-            m3: 0.0,
-            m4: 0.0,
-        }
-    }
 }
 
 // Its members, in the order of the source's struct.

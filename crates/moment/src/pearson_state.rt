@@ -1,6 +1,6 @@
 // Correlation: the source's `PearsonState`.
 ghost use Rattle.std.specs.Prelude.{◌≡◌, false, refl, [], ◌∷◌};
-ghost use Rattle.moment.specs.Pearson.{square_x, square_y, pearson_empty, pearson_about, pearson_new, pearson_insert, pearson_merge};
+ghost use Rattle.moment.specs.Pearson.{square_x, square_y, pearson_about, pearson_new, pearson_insert, pearson_merge};
 ghost use Rattle.moment.specs.Pearson.{pearson_combine, pearson_finalize};
 ghost use Rattle.moment.specs.Arrays.{pearson_list};
 ghost use Rattle.moment.specs.Code.Entrywise.{pearson_with, pearson_about_more, pearson_new_is, pearson_combine_is};
@@ -9,7 +9,7 @@ use crate::states;
 use crate::states::State;
 
 #[repr(C)]
-#[derive(Clone, Copy, Debug, PartialEq)]
+#[derive(Clone, Copy, Debug, Default, PartialEq)]
 pub struct PearsonState {
     pub weight: f64,
     pub mean_x: f64,
@@ -17,22 +17,6 @@ pub struct PearsonState {
     pub dp_xx: f64,
     pub dp_xy: f64,
     pub dp_yy: f64,
-}
-
-// By hand: a derive ensures the same member by member, and callers cite the empty state whole.
-impl Default for PearsonState {
-    ghost is_default = { λ s. s ≡ pearson_empty };
-
-    fn default() -> PearsonState {
-        PearsonState {
-            weight: 0.0,
-            mean_x: 0.0,
-            mean_y: 0.0,
-            dp_xx: 0.0,
-            dp_xy: 0.0,
-            dp_yy: 0.0,
-        }
-    }
 }
 
 // Its members, in the order of the source's struct.

@@ -1,7 +1,7 @@
 // Skewness: the source's `SkewState`.
 ghost use Rattle.std.specs.Prelude.{◌≡◌, false, refl};
 ghost use Rattle.trace.specs.Lent.{traced};
-ghost use Rattle.moment.specs.Skew.{skew_empty, skew_about, skew_new, skew_clear, skew_inserted, skew_insert};
+ghost use Rattle.moment.specs.Skew.{skew_about, skew_new, skew_clear, skew_inserted, skew_insert};
 ghost use Rattle.moment.specs.Skew.{skew_merged, skew_merge, skew_combine, skew_biased, skew_correction, skew_finalize};
 ghost use Rattle.moment.specs.Arrays.{skew_list, answered, skew_range};
 ghost use Rattle.moment.specs.Code.Entrywise.{skew_with, skew_about_more, skew_new_is, skew_combine_is};
@@ -11,26 +11,12 @@ use crate::{Figure, is_zero, states};
 use trace::{Refusal, Trace};
 
 #[repr(C)]
-#[derive(Clone, Copy, Debug, PartialEq)]
+#[derive(Clone, Copy, Debug, Default, PartialEq)]
 pub struct SkewState {
     pub weight: f64,
     pub mean: f64,
     pub m2: f64,
     pub m3: f64,
-}
-
-// By hand: a derive ensures the same member by member, and callers cite the empty state whole.
-impl Default for SkewState {
-    ghost is_default = { λ s. s ≡ skew_empty };
-
-    fn default() -> SkewState {
-        SkewState {
-            weight: 0.0,
-            mean: 0.0,
-            m2: 0.0,
-            m3: 0.0,
-        }
-    }
 }
 
 // Its members, in the order of the source's struct.

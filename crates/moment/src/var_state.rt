@@ -1,6 +1,6 @@
 // Variance: the source's `VarState`.
 ghost use Rattle.std.specs.Prelude.{◌≡◌, true, refl};
-ghost use Rattle.moment.specs.Var.{var_empty, var_about, var_new, var_clear, var_inserted, var_insert, var_merged, var_merge, var_combine};
+ghost use Rattle.moment.specs.Var.{var_about, var_new, var_clear, var_inserted, var_insert, var_merged, var_merge, var_combine};
 ghost use Rattle.moment.specs.Var.{not_negative, var_finalize};
 ghost use Rattle.moment.specs.Arrays.{var_list};
 ghost use Rattle.moment.specs.Code.Entrywise.{var_with, var_about_more, var_new_is, var_combine_is};
@@ -9,24 +9,11 @@ use crate::states::State;
 use crate::{Figure, states};
 
 #[repr(C)]
-#[derive(Clone, Copy, Debug, PartialEq)]
+#[derive(Clone, Copy, Debug, Default, PartialEq)]
 pub struct VarState {
     pub weight: f64,
     pub mean: f64,
     pub dp: f64,
-}
-
-// By hand: a derive ensures the same member by member, and callers cite the empty state whole.
-impl Default for VarState {
-    ghost is_default = { λ s. s ≡ var_empty };
-
-    fn default() -> VarState {
-        VarState {
-            weight: 0.0,
-            mean: 0.0,
-            dp: 0.0,
-        }
-    }
 }
 
 // Its members, in the order of the source's struct.
