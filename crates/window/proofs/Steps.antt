@@ -27,7 +27,7 @@ module _ {C A : Type 0} (M : Stored C A) (t : Series A) where
         Trimmed M t base s w work w' agg' work'
     trim-flips z {work'} f {agg'} e =
         let d = out-flipped M t base s w w' flips agg work p.held trims p.starts p.flippable.front_room p.flippable.back_room z work'
-        (f (back t (account w)) (back-many t w p.held.numbers) p.held.back_at) agg' e in
+        (f (back t (account w)) p.held.back_at) agg' e in
         record { held = d.0; to = trims.to; rest = d.1 }
 
     pub trim-flip-empties : flips ≡ true → w'.back ≡ 0
