@@ -4,7 +4,7 @@ ghost use Rattle.trace.specs.Outcomes.{outcome_number};
 ghost use Rattle.plan.specs.Plan.{planned};
 ghost use Rattle.rolling.specs.Moments.{Variance, Skewness, Kurtosis, Covariance, Correlation};
 ghost use Rattle.rolling.specs.Calls.{query, lending, lending_three};
-ghost use Rattle.rolling.specs.Code.Rows.{paired};
+ghost use Rattle.window.specs.Pairs.{paired};
 ghost use Rattle.demands.specs.Meets.{MeetsPlan, MeetTwoPlans};
 
 use plan::Plan;
