@@ -3,9 +3,9 @@ ghost use Rattle.trace.specs.Lent.{traced};
 ghost use Rattle.trace.specs.Outcomes.{outcome_number};
 ghost use Rattle.plan.specs.Plan.{planned};
 ghost use Rattle.window.specs.Given.{Given};
+ghost use Rattle.window.specs.Pairs.{paired};
 ghost use Rattle.rolling.specs.Moments.{Statistic, Variance, Skewness, Kurtosis, Covariance, Correlation, kind_of};
 ghost use Rattle.rolling.specs.Calls.{query};
-ghost use Rattle.rolling.specs.Code.Rows.{paired};
 ghost use Rattle.demands.specs.Meets.{MeetsPlan, MeetTwoPlans};
 
 use crate::lent::{Answers, Figures, Variances};

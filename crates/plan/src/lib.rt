@@ -41,8 +41,8 @@ fn is_too_little(work: usize, width: usize, widest: usize) -> bool
 }
 
 // The widest window of a call with a plan over n places, or why it is refused. `given` is what is known of what the call is given; the
-// caller does not test it, so that the order of all numbers is one contract. `short` says that a list of readings is too short, `outputs` is the length of the shortest output list, and a place needs `width` doubles of the
-// work slice.
+// caller does not test it, so that the order of all numbers is one contract. `short` says that a list of readings is too short, `outputs`
+// is the length of the shortest output list, and a place needs `width` doubles of the work slice.
 pub fn check_plan(
     given: Result<(), Refusal>,
     plan: Plan,

@@ -6,7 +6,7 @@ ghost use Rattle.moment.specs.Cov.{cov_finalize};
 ghost use Rattle.plan.specs.Plan.{planned};
 ghost use Rattle.rolling.specs.Calls.{query, lending, Calls};
 ghost use Rattle.rolling.specs.Fixed.{CallsFixed};
-ghost use Rattle.rolling.specs.Code.Rows.{paired};
+ghost use Rattle.window.specs.Pairs.{paired};
 ghost use Rattle.rolling.specs.Moments.{Covariance, covariance};
 ghost use Rattle.rolling.specs.Code.Ops.{ops_of};
 ghost use Rattle.rolling.specs.Code.Layouts.{cov_layout};
@@ -44,6 +44,8 @@ impl InMemory for CovState {
 
     ghost wide = { refl };
 
+    ghost some = { Prim.search rules };
+
     ghost narrow = { Prim.search rules };
 }
 
@@ -79,7 +81,7 @@ pub struct CovMoment {
 
 impl CovMoment {
     // Doubles of a place of the window, in both stacks.
-    pub const PLACE: usize = 6;
+    pub const PLACE: usize = CovState::WIDTH + <(f64, f64)>::WIDTH;
 }
 
 impl Finalize<CovState> for CovMoment {

@@ -28,14 +28,14 @@ pub struct VarExtremes {
 fn no_lowest() -> f64
     ensures { result ≡ inf false }
 {
-    1.0 / 0.0
+    f64::INFINITY
 }
 
 // The same below every one.
 fn no_highest() -> f64
     ensures { result ≡ inf true }
 {
-    -1.0 / 0.0
+    f64::NEG_INFINITY
 }
 
 // Not std's `min` and `max`: which of two equal numbers stays, and of a NaN, is the definition's.
@@ -93,6 +93,8 @@ impl InMemory for VarExtremes {
     }
 
     ghost wide = { refl };
+
+    ghost some = { Prim.search rules };
 
     ghost narrow = { Prim.search rules };
 }

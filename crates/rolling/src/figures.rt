@@ -1,4 +1,5 @@
-// The rows of a call that gives one figure. Its two lists stay apart, since C lends them one by one.
+// The rows of a call that gives one figure. Its two lists stay apart: C lends them one by one, and with a struct of both, by which the
+// weighted call was proved, contracts name each list's old and new as here.
 ghost use Rattle.std.specs.Prelude.{min, length};
 ghost use Rattle.trace.specs.Outcomes.{outcome_number};
 ghost use Rattle.plan.specs.Plan.{planned};
@@ -41,7 +42,8 @@ pub(crate) fn rows<S: WindowState, T: Series<S::Entry>, F: Finalize<S>>(
     }
 }
 
-// A plan call of one figure: what refuses it, else its rows.
+// A plan call of one figure: what refuses it, else its rows. Variance and skewness have this frame too, each with its own rows and
+// variance with six lists: a trait of both would have these rows for its one method, and its contract no fewer clauses.
 pub(crate) fn plan<S: WindowState, T: Series<S::Entry>, F: Finalize<S>>(
     moment: F,
     x: T,

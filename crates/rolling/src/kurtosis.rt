@@ -46,6 +46,8 @@ impl InMemory for KurtosisState {
 
     ghost wide = { refl };
 
+    ghost some = { Prim.search rules };
+
     ghost narrow = { Prim.search rules };
 }
 
@@ -81,7 +83,7 @@ pub struct KurtosisMoment {
 
 impl KurtosisMoment {
     // Doubles of a place of the window, in both stacks.
-    pub const PLACE: usize = 6;
+    pub const PLACE: usize = KurtosisState::WIDTH + f64::WIDTH;
 }
 
 impl Finalize<KurtosisState> for KurtosisMoment {
@@ -121,8 +123,8 @@ pub fn rolling_kurtosis(
     figures: &mut [f64],
     present: &mut [u8],
 ) -> Result<(), Refusal>
-    ensures { CallsFixed windows.center windows.window_size min_periods (Kurtosis fisher bias) (traced x.entry) (lending work figures present)
-        (outcome_number result) }
+    ensures { CallsFixed windows.center windows.window_size min_periods (Kurtosis fisher bias) (traced x.entry)
+        (lending work figures present) (outcome_number result) }
 {
     let moment = KurtosisMoment { fisher, bias };
     figures::fixed(moment, x, windows, min_periods, work, figures, present)

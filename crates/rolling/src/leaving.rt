@@ -104,11 +104,9 @@ pub(crate) fn trimmed(w: Window, start: usize, leaving: Tally) -> Trim
         return Trim {
             window: Window {
                 start,
-                end,
-                split: w.split,
                 front: w.front - leaving.valid,
-                back: w.back,
                 nonfinite: w.nonfinite - leaving.nonfinite,
+                ..w
             },
             flips: false,
         };

@@ -1,5 +1,6 @@
 // Figures over moving windows: document 01's 001 to 006, driven by a plan or by fixed windows, one file for each figure. A public
-// function takes any lists; what is below it is kept inside the crate.
+// function takes any lists, has the Rust's name and names its figure in its contract, if it only hands on to `figures`; what is below it is
+// kept inside the crate.
 #![tactic(auto)]
 
 mod cov;

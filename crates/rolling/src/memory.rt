@@ -22,6 +22,8 @@ pub(crate) trait InMemory: Copy {
 
     ghost wide: { layout.width ≡ WIDTH };
 
+    ghost some: { 0 < WIDTH };
+
     ghost narrow: { WIDTH < 256 };
 }
 
@@ -42,6 +44,8 @@ impl InMemory for f64 {
     }
 
     ghost wide = { refl };
+
+    ghost some = { Prim.search rules };
 
     ghost narrow = { Prim.search rules };
 }
@@ -64,6 +68,8 @@ impl InMemory for (f64, f64) {
     }
 
     ghost wide = { refl };
+
+    ghost some = { Prim.search rules };
 
     ghost narrow = { Prim.search rules };
 }

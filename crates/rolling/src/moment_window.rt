@@ -12,7 +12,7 @@ use crate::series::Series;
 use plan::Offsets;
 use window::Window;
 
-// A state that a window keeps of its entries.
+// A state that a window keeps of its entries. Counts of entries are told for the states that need no test by them; the others let them be.
 pub(crate) trait WindowState: InMemory {
     type Entry: InMemory;
 
@@ -68,6 +68,28 @@ impl<S: WindowState> Appended<S> {
             agg_back: self.agg_back.insert(self.back, x),
         }
     }
+
+    // The entries of the valid places from a up to b, each pushed.
+    fn append<T: Series<S::Entry>>(self, back: &mut [f64], series: T, a: usize, b: usize) -> Self
+        requires appendable { Appendable (stored_by S.Entry.layout S.layout S.ops) (series_by (T.places series) (T.entries series))
+            a b (T.have series) self.back self.nonfinite back.old }
+        requires counted { S.counts self.agg_back self.back }
+        ensures { AppendedTo (stored_by S.Entry.layout S.layout S.ops) (series_by (T.places series) (T.entries series))
+            back.old self.back self.nonfinite self.agg_back a b back.new result.back result.nonfinite result.agg_back }
+    {
+        let mut appended = self;
+        for i in a..b {
+            if series.is_valid(i) {
+                // Two arms that say the same: a branch that is rarely taken costs less than an entry that is chosen.
+                appended = if series.is_nonfinite(i) {
+                    appended.push(back, series.entry(i), 1)
+                } else {
+                    appended.push(back, series.entry(i), 0)
+                };
+            }
+        }
+        appended
+    }
 }
 
 impl<S: WindowState> MomentWindow<S> {
@@ -93,40 +115,6 @@ impl<S: WindowState> MomentWindow<S> {
             agg = agg.insert(k, x);
             agg.store(work, S::WIDTH * k);
         }
-    }
-
-    // The entries of the valid places from a up to b, appended to the n that stand in the back stack.
-    fn append<T: Series<S::Entry>>(
-        back: &mut [f64],
-        n: usize,
-        series: T,
-        a: usize,
-        b: usize,
-        nonfinite: usize,
-        agg_back: S,
-    ) -> Appended<S>
-        requires appendable { Appendable (stored_by S.Entry.layout S.layout S.ops) (series_by (T.places series) (T.entries series))
-            a b (T.have series) n nonfinite back.old }
-        requires counted { S.counts agg_back n }
-        ensures { AppendedTo (stored_by S.Entry.layout S.layout S.ops) (series_by (T.places series) (T.entries series))
-            back.old n nonfinite agg_back a b back.new result.back result.nonfinite result.agg_back }
-    {
-        let mut appended = Appended {
-            back: n,
-            nonfinite,
-            agg_back,
-        };
-        for i in a..b {
-            if series.is_valid(i) {
-                // Two arms that say the same: a branch that is rarely taken costs less than an entry that is chosen.
-                appended = if series.is_nonfinite(i) {
-                    appended.push(back, series.entry(i), 1)
-                } else {
-                    appended.push(back, series.entry(i), 0)
-                };
-            }
-        }
-        appended
     }
 
     // The state on the top of the front stack's n, or the empty one.
@@ -185,15 +173,12 @@ impl<S: WindowState> MomentWindow<S> {
             base widest end self.window work.old result.window result.agg_back work.new }
     {
         let window = self.window;
-        let appended = Self::append(
-            &mut work[base..],
-            window.back,
-            series,
-            window.end,
-            end,
-            window.nonfinite,
-            self.agg_back,
-        );
+        let stack = Appended {
+            back: window.back,
+            nonfinite: window.nonfinite,
+            agg_back: self.agg_back,
+        };
+        let appended = stack.append(&mut work[base..], series, window.end, end);
         MomentWindow {
             window: window.extended(end, appended.back, appended.nonfinite),
             agg_back: appended.agg_back,

@@ -5,7 +5,7 @@ ghost use Rattle.trace.specs.Outcomes.{outcome_number};
 ghost use Rattle.plan.specs.Plan.{planned};
 ghost use Rattle.rolling.specs.Calls.{query, lending, Calls};
 ghost use Rattle.rolling.specs.Fixed.{CallsFixed};
-ghost use Rattle.rolling.specs.Code.Rows.{paired};
+ghost use Rattle.window.specs.Pairs.{paired};
 ghost use Rattle.rolling.specs.Moments.{Correlation, correlation, correlation_finalize};
 ghost use Rattle.rolling.specs.Code.Ops.{ops_of};
 ghost use Rattle.rolling.specs.Code.Layouts.{pearson_layout};
@@ -47,6 +47,8 @@ impl InMemory for PearsonState {
 
     ghost wide = { refl };
 
+    ghost some = { Prim.search rules };
+
     ghost narrow = { Prim.search rules };
 }
 
@@ -80,7 +82,7 @@ pub struct PearsonMoment {}
 
 impl PearsonMoment {
     // Doubles of a place of the window, in both stacks.
-    pub const PLACE: usize = 8;
+    pub const PLACE: usize = PearsonState::WIDTH + <(f64, f64)>::WIDTH;
 }
 
 impl Finalize<PearsonState> for PearsonMoment {

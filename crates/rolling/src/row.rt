@@ -175,9 +175,9 @@ pub(crate) fn write(figures: &mut [f64], present: &mut [u8], row: usize, figure:
         return;
     };
     present[row] = 1;
-    if x == x {
+    if !x.is_nan() {
         figures[row] = x;
         return;
     }
-    figures[row] = 0.0 / 0.0;
+    figures[row] = f64::NAN;
 }

@@ -10,6 +10,7 @@ ghost use Rattle.window.specs.Readings.{places_by, nonfinite_at, inserted_at};
 
 use trace::{Refusal, Trace};
 
+// moment's `Places` are a list's, whose entries are all there to be read; these are asked what a place is before anything enters of it.
 pub(crate) trait Places: Copy {
     ghost places: { Self → PlacesOf };
 

@@ -55,6 +55,8 @@ impl InMemory for SkewState {
 
     ghost wide = { refl };
 
+    ghost some = { Prim.search rules };
+
     ghost narrow = { Prim.search rules };
 }
 
@@ -100,7 +102,8 @@ const KEPT: usize = 256;
 // Rows that are finalised together: their roots, taken side by side, hide their time behind one another.
 const BLOCK: usize = 32;
 
-// Corrections that are kept by the count of readings: in each place a count and its correction.
+// Corrections that are kept by the count of readings: in each place a count and its correction. Here and in the slots lists stand side by
+// side, not one of structs: roots are taken of a list. Issue 18 takes both away.
 #[derive(Drop)]
 struct Corrections {
     counts: [u64; KEPT],
@@ -163,6 +166,7 @@ impl Slots {
         ensures { figures.new ≡ table (λ i. estimate bias (slice_index_or self.now.m2s i nan) (slice_index_or self.now.m3s i nan)
             (slice_index_or self.now.factors i nan) (slice_index_or figures.old i nan)) (length figures.old) }
     {
+        // By index: three lists and the figures are read at one place.
         for i in 0..figures.len() {
             let biased = self.m3s[i] / (self.m2s[i] * figures[i]);
             let estimate = if bias {
@@ -193,7 +197,7 @@ struct Standing {
 
 impl SkewMoment {
     // Doubles of a place of the window, in both stacks.
-    pub const PLACE: usize = 5;
+    pub const PLACE: usize = SkewState::WIDTH + f64::WIDTH;
 
     // Whether a state of so many readings has a figure.
     fn has_figure(self, valid: usize) -> bool
@@ -213,7 +217,8 @@ impl SkewMoment {
         at: Offsets,
     ) -> Option<SkewState>
         requires { CanPend w.window w.agg_back work.now at }
-        ensures { result ≡ pending_of self.bias mapped rows.entry.min_periods at w.window (state_by skew_stored w.window w.agg_back work.now) }
+        ensures { result ≡ pending_of self.bias mapped rows.entry.min_periods at w.window
+            (state_by skew_stored w.window w.agg_back work.now) }
     {
         let valid = w.window.front + w.window.back;
         if rows.is_valid(mapped, valid, at) && self.has_figure(valid) {

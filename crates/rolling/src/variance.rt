@@ -13,6 +13,7 @@ ghost use Rattle.rolling.specs.Fixed.{CallsFixed};
 ghost use Rattle.rolling.specs.Code.Rows.{shortest_three, driven_query, Leaves, Driven};
 
 use crate::extremes::{VarExtremes, extreme};
+use crate::memory::InMemory;
 use crate::moment_window::MomentWindow;
 use crate::row::{self, Finalize, Rows};
 use crate::series::{Places, Series};
@@ -20,7 +21,8 @@ use moment::Figure;
 use plan::{Fixed, Plan};
 use trace::{Refusal, Trace};
 
-// A trace whose readings enter as they are, so that a flip can tell which are not finite.
+// A trace whose readings enter as they are, so that a flip can tell which are not finite. The trace's own methods are written out: Rattle
+// has no way to take an impl over but for one of them.
 #[derive(Clone, Copy)]
 pub(crate) struct Raw<'a>(pub(crate) Trace<'a>);
 
@@ -81,7 +83,7 @@ impl Finalize<VarExtremes> for VarianceMoment {
 
 impl VarianceMoment {
     // Doubles of a place of the window, in both stacks.
-    pub const PLACE: usize = 6;
+    pub const PLACE: usize = VarExtremes::WIDTH + f64::WIDTH;
 
     // The length of the shortest of a call's six lists.
     pub fn shortest(

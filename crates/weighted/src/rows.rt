@@ -32,6 +32,7 @@ fn create_validity(n: usize, left: usize, right: usize, min_periods: usize, pres
         start: 0,
         end: n.min(right),
     };
+    // By index: a row's number steps its window on.
     for row in 0..n {
         present[row] = u8::from(min_periods <= at.end - at.start);
         at = plan::next_offsets(row, at, left, n);
@@ -96,6 +97,7 @@ pub(crate) fn write_rows(
     let right = windows.right_window();
     let left = weights.len() - right;
     create_validity(values.len(), left, right, min_periods, present);
+    // By number, not by `chunks_mut`: the lists may be longer than the trace, and a block's rows are cut from both.
     for k in 0..values.len().div_ceil(BLOCK) {
         let first = k * BLOCK;
         let until = plan::end_of(BLOCK, values.len(), first);

@@ -1,11 +1,12 @@
 -- Values one behind another in a list of doubles: where each lies, and what is left when one is written behind them; the front
 -- stack, whose top is dropped with the entries that leave; and the turns of the two loops that build the stacks. Assumes nothing.
-use Prim.Native.Nat.{ℕ, zero, suc, ◌+◌, ◌-◌, ◌*◌, ◌≤◌, ◌<◌}
+use Prim.Native.Nat.{ℕ, zero, suc, ◌+◌, ◌-◌, ◌*◌, ◌/◌, ◌≤◌, ◌<◌}
 use mathlib.Core.Path.{◌≡◌, refl, sym, ap, ◌∙◌, subst}
 use mathlib.Core.Bool.{Bool, true, false}
 use mathlib.Core.List.{List, [], ◌∷◌, ◌++◌, append_assoc, append-nil, foldl-append}
 use native.Mathlib.Nat.{mul-zero, mul-add, mul-suc, mul-le-mul_left, add-zero}
 use native.Mathlib.Numerals.{add-one}
+use Rattle.std.proofs.Math.Nat.{mul-div_cancel_left}
 use native.Mathlib.Omega.{arith}
 use mir.Val.{bool_byte}
 use lib.ListN.{length, take, drop, length-append, length-drop, length-take, drop_of_length-le, take-append-drop}
@@ -45,6 +46,14 @@ module _ {C A : Type 0} (L : Layout C A) where
       let p : length (in_memory L l) ≡ at = memory-length l ∙ sym e in
       rw (memory-append l (x ∷ m), append_assoc, append_assoc, drop_at (in_memory L l) (L.store x ++ (in_memory L m ++ rest)) at p)
       (L.loaded x (in_memory L m ++ rest))
+
+  -- as many values lie in a part as it has room for
+  pub as-many : (base n : ℕ) (work : List C) (B : List A) → 0 < L.width → base + L.width * n ≤ length work
+      → take (L.width * n) (drop base work) ≡ in_memory L B → n ≡ length B
+  as-many base n work B some room standing =
+      let p : length (take (L.width * n) (drop base work)) ≡ L.width * n = rw (length-take, length-drop) (omega arith) in
+      let e : L.width * n ≡ L.width * length B = sym p ∙ ap length standing ∙ memory-length B in
+      sym (mul-div_cancel_left n some) ∙ ap (λ k. k / L.width) e ∙ mul-div_cancel_left (length B) some
 
   -- a value written behind those of l
   memory-push : (l : List A) (x : A) (rest : List C) (at : ℕ) → at ≡ L.width * length l → L.width ≤ length rest →

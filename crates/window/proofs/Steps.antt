@@ -16,7 +16,7 @@ use Rattle.window.specs.Rows.{moves, answer_at}
 use Rattle.window.specs.Code.Memory.{Stored}
 use Rattle.window.specs.Code.Stacks.{grown, account, Trims, Held, Appended, answer_by, Movable, Flipped, Trimmable, Extendable, Appendable, Trimmed, Extended, Updated, Stepped, Workable, Worked, base_of, place_width}
 use Rattle.window.specs.declared.Window.{Window}
-use Rattle.window.proofs.Moves.{back-many, flip-empties, out-emptied, out-kept, out-flipped, in-fits, in_appended, held_counts, trimmed_ends, rest_both}
+use Rattle.window.proofs.Moves.{flip-empties, out-emptied, out-kept, out-flipped, in-fits, in_appended, held_counts, trimmed_ends, rest_both}
 use Rattle.window.proofs.Rows.{stand-next, row-ready, row_fits, row_inside, row-answer}
 
 module _ {C A : Type 0} (M : Stored C A) (t : Series A) where
@@ -27,7 +27,7 @@ module _ {C A : Type 0} (M : Stored C A) (t : Series A) where
         Trimmed M t base s w work w' agg' work'
     trim-flips z {work'} f {agg'} e =
         let d = out-flipped M t base s w w' flips agg work p.held trims p.starts p.flippable.front_room p.flippable.back_room z work'
-        (f (back t (account w)) (back-many t w p.held.numbers) p.held.back_at) agg' e in
+        (f (back t (account w)) p.held.back_at) agg' e in
         record { held = d.0; to = trims.to; rest = d.1 }
 
     pub trim-flip-empties : flips ≡ true → w'.back ≡ 0

@@ -4,6 +4,8 @@ use Rattle.std.specs.Float.Ieee.Scale.{finite}
 use Rattle.float.specs.Operators.{zero64}
 use Rattle.trace.specs.Slices.{Slice}
 use Rattle.trace.specs.Trace.{Trace, tracing, both_at}
+use Rattle.trace.specs.Lent.{traced}
+use Rattle.trace.specs.declared.Pair as code
 use Rattle.window.specs.Places.{Places, Series}
 use Rattle.window.specs.Readings.{reading_of}
 
@@ -15,6 +17,10 @@ pub record TracePair : Type 0 where
 -- the two traces that a call's parameters are
 abbrev pub pairing : Slice Float → Bool → Slice ℕ → Slice Float → Bool → Slice ℕ → TracePair
 pairing x has_x map_x y has_y map_y = record { x = tracing x has_x map_x; y = tracing y has_y map_y }
+
+-- the two traces that a value of the code's type is
+abbrev pub paired : code.Pair → TracePair
+paired p = record { x = traced p.x; y = traced p.y }
 
 -- the pair at a place
 abbrev pub pair_of : List Float → List Float → ℕ → Float × Float

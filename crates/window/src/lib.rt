@@ -39,12 +39,10 @@ impl Window {
         ensures { result ≡ grown self end back nonfinite }
     {
         Window {
-            start: self.start,
             end,
-            split: self.split,
-            front: self.front,
             back,
             nonfinite,
+            ..self
         }
     }
 }
@@ -59,5 +57,5 @@ pub fn or_nan(figure: Figure, nonfinite: usize) -> Figure
     let Figure::Present(_) = figure else {
         return Figure::Missing;
     };
-    Figure::Present(0.0 / 0.0)
+    Figure::Present(f64::NAN)
 }

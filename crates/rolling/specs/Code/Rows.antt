@@ -1,8 +1,6 @@
 -- What the row loops of every moment say of a call's rows: where they may begin, and what they leave. Assumes nothing.
 use Rattle.std.specs.Prelude.{◌≡◌, ℕ, ◌+◌, ◌-◌, ◌*◌, ◌^◌, ◌<◌, ◌≤◌, min, Bool, false, List, [], ◌∷◌, length, Float}
 use Rattle.trace.specs.Slices.{MutSlice, entering_mut, leaving}
-use Rattle.trace.specs.Lent.{traced}
-use Rattle.trace.specs.declared.Pair.{Pair as CodePair}
 use Rattle.moment.specs.declared.Figure.{Figure}
 use Rattle.plan.specs.Plan.{Plan, rows, row_start, row_end, planned}
 use Rattle.plan.specs.Bounds.{bounds}
@@ -11,7 +9,6 @@ use Rattle.plan.specs.Code.Accepted.{Planned}
 use Rattle.plan.specs.Code.Reaching.{reaching, right_of}
 use Rattle.plan.specs.declared.bounds.Offsets.{Offsets}
 use Rattle.window.specs.Places.{Places, Series, nonfinite_count}
-use Rattle.window.specs.Pairs.{TracePair}
 use Rattle.window.specs.Rows.{answer_at}
 use Rattle.window.specs.Code.Memory.{Stored}
 use Rattle.window.specs.Outputs.{Column, Lent, column, answered, kept, shortest_of, answer_lengths}
@@ -24,10 +21,6 @@ use Rattle.plan.specs.declared.Plan.{Plan as CodePlan}
 use Rattle.rolling.specs.declared.row.Rows.{Rows}
 use Rattle.rolling.specs.declared.row.Windows.{Windows}
 use Rattle.rolling.specs.declared.row.Windows.TheVariants.{Reaching, Listed}
-
--- the two traces that a value of the code's type is
-abbrev pub paired : CodePair → TracePair
-paired p = record { x = traced p.x; y = traced p.y }
 
 -- how many places two lists of readings both have
 abbrev pub both_have : List Float → List Float → ℕ

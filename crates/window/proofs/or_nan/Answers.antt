@@ -1,5 +1,5 @@
 -- By the count and the figure's case. Assumes nothing.
-use lib.Ieee.{div, of_bits}
+use lib.Ieee.{of_bits}
 use borrow.Author.Tests.{eq-eqb, ne_eqb}
 use Rattle.window.specs.Window.{or_nan}
 use Rattle.window.proofs.or_nan.Goals as goal
@@ -13,5 +13,5 @@ unfolding or_nan
 returns-in_default c = rw (ne_eqb _ _ c.if-nonfinite-eq0.false, c.in_default.is)
 
 pub returns : goal.returns
-unfolding or_nan div of_bits
+unfolding or_nan of_bits
 returns c = rw (ne_eqb _ _ c.if-nonfinite-eq0.false, c.in-Present.is)

@@ -112,7 +112,7 @@ pub record Flippable {C A : Type 0} (M : Stored C A) (base n : ℕ) (work : List
 -- they have: whatever entries stood in the back stack, their states stand in the front stack, the last entry's at its bottom
 abbrev pub Flipped : {C A : Type 0} (M : Stored C A) → ℕ → ℕ → List C → List C → Type 0
 Flipped {C} {A} M base n work₀ work =
-    (B : List A) → n ≡ length B → take (M.in_back.width * n) (drop base work₀) ≡ in_memory M.in_back B
+    (B : List A) → take (M.in_back.width * n) (drop base work₀) ≡ in_memory M.in_back B
     → work ≡ in_memory M.in_front (front_stack M.moment B) ++ drop (M.in_front.width * n) work₀
 
 -- where a window may lose the places below s: a flip of its back stack has room

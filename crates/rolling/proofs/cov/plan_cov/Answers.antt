@@ -2,7 +2,7 @@
 use Rattle.std.proofs.Common.{refl, ◌∙◌}
 use Rattle.rolling.proofs.Calls.{both_are}
 use Rattle.rolling.proofs.OneFigure.{plan_same}
-use Rattle.rolling.specs.Code.Rows.{paired}
+use Rattle.window.specs.Pairs.{paired}
 use Rattle.rolling.proofs.cov.plan_cov.Goals as goal
 
 pub returns : goal.returns

@@ -1,8 +1,8 @@
--- Minus one over zero is minus infinity, computed. Assumes nothing.
+-- By the constant's bits. Assumes nothing.
 use Rattle.std.proofs.Common.{refl}
-use lib.Ieee.{of_bits, div, neg}
+use lib.Ieee.{of_bits}
 use Rattle.rolling.proofs.extremes.no_highest.Goals as goal
 
 pub returns : goal.returns
-unfolding of_bits div neg
+unfolding of_bits
 returns c = refl

@@ -1,8 +1,8 @@
--- One over zero is plus infinity, computed. Assumes nothing.
+-- By the constant's bits. Assumes nothing.
 use Rattle.std.proofs.Common.{refl}
-use lib.Ieee.{of_bits, div}
+use lib.Ieee.{of_bits}
 use Rattle.rolling.proofs.extremes.no_lowest.Goals as goal
 
 pub returns : goal.returns
-unfolding of_bits div
+unfolding of_bits
 returns c = refl

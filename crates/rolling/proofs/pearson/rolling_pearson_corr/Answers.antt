@@ -3,7 +3,7 @@ use Rattle.std.proofs.Common.{refl, sym, ap, ◌∙◌}
 use Rattle.plan.specs.Bounds.{bounds}
 use Rattle.rolling.proofs.Calls.{both_are, fixed_call}
 use Rattle.rolling.proofs.OneFigure.{fixed_same, fixed_none, leaves_same}
-use Rattle.rolling.specs.Code.Rows.{paired}
+use Rattle.window.specs.Pairs.{paired}
 use Rattle.rolling.proofs.pearson.rolling_pearson_corr.Goals as goal
 
 pub returns : goal.returns

@@ -1,6 +1,6 @@
 -- One entry more is turned over. Assumes nothing.
 use Rattle.std.proofs.Common.{◌∙◌, arith}
-use Rattle.window.proofs.Stacks.{flip-start, flip-turn, flip-done}
+use Rattle.window.proofs.Stacks.{as-many, flip-start, flip-turn, flip-done}
 use Rattle.rolling.proofs.moment_window.MomentWindow.flip.Goals as goal
 
 pub loop-k-init : goal.loop-k-init
@@ -18,4 +18,6 @@ loop-k-preserved g c =
     )
 
 pub returns : goal.returns
-returns g c = λ B many standing. flip-done many (c.loop-k.invariant.1 B many standing) (omega arith)
+returns g c = λ B standing.
+    let many = as-many g.S.Entry.InMemory.layout _ _ _ _ (rw (← g.met.S.Entry.InMemory.wide) at g.met.S.Entry.InMemory.some) c.requires.back_room standing in
+    flip-done many (c.loop-k.invariant.1 B many standing) (omega arith)

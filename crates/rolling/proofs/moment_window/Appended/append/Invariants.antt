@@ -1,7 +1,7 @@
 -- One place more: an entry appended, or a place passed over. Assumes nothing.
 use Rattle.window.specs.Code.Stacks.{Appended}
 use Rattle.rolling.specs.Code.Ops.{stored_by, series_by}
-use Rattle.rolling.proofs.moment_window.MomentWindow.append.Given as goal
+use Rattle.rolling.proofs.moment_window.Appended.append.Given as goal
 
 abbrev pub invariant-loop-i : goal.invariant-loop-i
 invariant-loop-i g l =
@@ -9,4 +9,4 @@ invariant-loop-i g l =
     g.S.WindowState.counts here.agg_back here.back
     × Appended (stored_by g.S.Entry.InMemory.layout g.S.InMemory.layout g.S.WindowState.ops)
     (series_by (g.T.Places.places l.series) (g.T.Series.entries l.series))
-    l.initial.back l.n l.nonfinite l.fn.agg_back l.a l.i l.back here.back here.nonfinite here.agg_back
+    l.initial.back l.fn.self.back l.fn.self.nonfinite l.fn.self.agg_back l.a l.i l.back here.back here.nonfinite here.agg_back

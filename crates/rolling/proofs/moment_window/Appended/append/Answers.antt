@@ -1,8 +1,8 @@
 -- One place more: an entry appended, or a place passed over. Assumes nothing.
 use Rattle.std.proofs.Common.{sym, true, false, arith}
 use Rattle.window.proofs.Stacks.{append-start, append_le, append-room, append-hit, append-miss}
-use Rattle.rolling.proofs.moment_window.MomentWindow.append.Goals as goal
-use Rattle.rolling.proofs.moment_window.MomentWindow.append.Goals.{then-is_valid+then-is_nonfinite, then-is_valid+else-is_nonfinite, else-is_valid}
+use Rattle.rolling.proofs.moment_window.Appended.append.Goals as goal
+use Rattle.rolling.proofs.moment_window.Appended.append.Goals.{then-is_valid+then-is_nonfinite, then-is_valid+else-is_nonfinite, else-is_valid}
 
 pub loop-i-init : goal.loop-i-init
 loop-i-init g c = (c.requires.counted, append-start)
