@@ -41,7 +41,6 @@ use Rattle.weighted.specs.Weights.{CalledWeights}
 use Rattle.moments.specs.HostCall.{Host, decoded_of, ReadingLists, CalledBytes}
 use Rattle.moments.specs.Results.{FigureResult}
 use Rattle.promises.specs.DemandThree.{Alike, SameAnswers, IsSetting}
-use Rattle.promises.specs.Calls.{CallsVar, CallsSkew, CallsKurtosis, CallsCov, CallsPearson, CallsSkewRange, CallsKurtosisRange}
 use Rattle.promises.specs.Calls.{OfOneTrace, OfTwoTraces, AcceptedCall, plan_call, host_call, fixed_call}
 use Rattle.promises.proofs.DemandOne.{demand_one}
 use Rattle.promises.proofs.DemandTwo.{demand_two}

@@ -35,7 +35,8 @@ use Rattle.promises.specs.Calls.{CallsVar, CallsSkew, CallsKurtosis, CallsCov, C
 use Rattle.promises.specs.Calls.{OfOneTrace, OfTwoTraces}
 use Rattle.promises.specs.DemandOne.{Check, trace_checks, pair_checks, range_checks, plan_checks, host_checks, fixed_checks, weights_checks}
 use Rattle.promises.specs.DemandOne.{Answered, HostLeft}
-use Rattle.promises.specs.DemandTwo.{source_var, source_skew, source_kurtosis, source_cov, source_pearson, source_skew_range, source_kurtosis_range}
+use Rattle.promises.specs.DemandTwo.{source_var, source_skew, source_kurtosis, source_cov, source_pearson}
+use Rattle.promises.specs.DemandTwo.{source_skew_range, source_kurtosis_range}
 use Rattle.promises.specs.DemandTwo.{RowsEqual, FixedRowsEqual, WeightedRowsEqual, CorrectRoot}
 use Rattle.promises.specs.DemandThree.{Alike, SameAnswers, Yielded}
 use Rattle.promises.specs.LowestHighest.{WhereExtremes, SameExtremes}
