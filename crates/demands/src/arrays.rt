@@ -1,5 +1,5 @@
 // Whole arrays, pairs and ranges, of which demands 1 and 2 speak; and two calls of a kind, of which the law of maps does.
-ghost use Rattle.demands.specs.Given.{doubles};
+ghost use Rattle.demands.specs.Lent.{doubles};
 ghost use Rattle.promises.specs.Calls.{ArrayCall, of_var, of_skew, of_kurtosis, of_cov, of_pearson, of_skew_range, of_kurtosis_range};
 ghost use Rattle.demands.specs.Meets.{MeetsArray, MeetTwoArrays};
 

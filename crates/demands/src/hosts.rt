@@ -4,7 +4,7 @@ ghost use Rattle.plan.specs.Plan.{planned};
 ghost use Rattle.rolling.specs.Moments.{Statistic, Variance, Skewness, Kurtosis, Covariance, Correlation, kind_of};
 ghost use Rattle.rolling.specs.Calls.{query};
 ghost use Rattle.moments.specs.HostCall.{Host, ReadingLists};
-ghost use Rattle.demands.specs.Given.{hosted, hosted_pair, decoded, decoded_pair};
+ghost use Rattle.demands.specs.Lent.{hosted, hosted_pair, decoded, decoded_pair};
 ghost use Rattle.demands.specs.Meets.{MeetsHost, MeetTwoHosts};
 
 use crate::lent::{Answers, BytePair, Bytes, Figures, ReadingPair, Readings, Variances};

@@ -1,6 +1,6 @@
 // What C gives and lends to a call. A map is looked at where the flag says so; where it says no, a map of any bytes may be lent.
 ghost use Rattle.window.specs.Outputs.{Lent};
-ghost use Rattle.demands.specs.Given.{lent, lent_three};
+ghost use Rattle.demands.specs.Lent.{lent, lent_three};
 
 // A trace as doubles.
 #[derive(Clone, Copy)]
@@ -40,6 +40,13 @@ pub struct Readings<'a> {
 pub struct ReadingPair<'a> {
     pub x: &'a mut [f64],
     pub y: &'a mut [f64],
+}
+
+// The two lists of a figure, which with weights takes no work slice.
+#[derive(Drop)]
+pub struct Column<'a> {
+    pub figures: &'a mut [f64],
+    pub present: &'a mut [u8],
 }
 
 // A work slice, and two lists for each answer of a row.

@@ -13,6 +13,7 @@ use plan::Plan;
 use rolling::{CovMoment, KurtosisMoment, PearsonMoment, SkewMoment, VarianceMoment};
 use trace::{Pair, Refusal, Trace};
 
+// The call of a figure, of what is given as a T and answered in an L.
 pub trait PlanCall<T: Copy, L: Answers>: Copy {
     ghost statistic: { Self → Statistic };
 

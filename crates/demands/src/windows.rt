@@ -2,11 +2,10 @@
 // from a row's bounds to the next row's.
 ghost use Rattle.window.specs.Given.{Given};
 ghost use Rattle.rolling.specs.Moments.{Statistic, Variance, Skewness, Kurtosis, Covariance, Correlation, kind_of};
-ghost use Rattle.weighted.specs.Weights.{lending_column};
-ghost use Rattle.demands.specs.Given.{doubles, double_pair};
+ghost use Rattle.demands.specs.Lent.{doubles, double_pair, lent_column};
 ghost use Rattle.demands.specs.Meets.{MeetsFixed, MeetTwoFixed, MeetsWeights, MeetTwoWeights, MeetsStep};
 
-use crate::lent::{Answers, DoublePair, Doubles, Figures, Variances};
+use crate::lent::{Answers, Column, DoublePair, Doubles, Figures, Variances};
 use plan::Offsets;
 use rolling::{CovMoment, KurtosisMoment, PearsonMoment, SkewMoment, VarianceMoment};
 
@@ -18,6 +17,7 @@ pub struct Windows {
     pub center: bool,
 }
 
+// The call of a figure, of what is given as a T and answered in an L.
 pub trait FixedCall<T: Copy, L: Answers>: Copy {
     ghost statistic: { Self → Statistic };
 
@@ -164,15 +164,9 @@ pub fn two_fixed<T: Copy, L: Answers, F: FixedCall<T, L>>(
     (first, second)
 }
 
-pub fn rolling_var_weights(
-    x: Doubles,
-    windows: Windows,
-    weights: &[f64],
-    figures: &mut [f64],
-    present: &mut [u8],
-) -> u32
+pub fn rolling_var_weights(x: Doubles, windows: Windows, weights: &[f64], lists: &mut Column) -> u32
     ensures { MeetsWeights windows.center windows.window_size windows.min_periods weights.now (doubles x.entry)
-        (lending_column figures present) result }
+        (lent_column lists.old, lent_column lists.new) result }
 {
     moments::moments_rolling_var_weights(
         x.values,
@@ -182,8 +176,8 @@ pub fn rolling_var_weights(
         windows.min_periods,
         windows.center,
         weights,
-        figures,
-        present,
+        lists.figures,
+        lists.present,
     )
 }
 
@@ -193,16 +187,14 @@ pub fn two_rolling_var_weights(
     y: Doubles,
     windows: Windows,
     weights: &[f64],
-    x_figures: &mut [f64],
-    x_present: &mut [u8],
-    y_figures: &mut [f64],
-    y_present: &mut [u8],
+    x_lists: &mut Column,
+    y_lists: &mut Column,
 ) -> (u32, u32)
     ensures { MeetTwoWeights windows.center windows.window_size windows.min_periods weights.now (doubles x.entry) (doubles y.entry)
-        (lending_column x_figures x_present) (lending_column y_figures y_present) result.0 result.1 }
+        (lent_column x_lists.old, lent_column x_lists.new) (lent_column y_lists.old, lent_column y_lists.new) result.0 result.1 }
 {
-    let first = rolling_var_weights(x, windows, weights, x_figures, x_present);
-    let second = rolling_var_weights(y, windows, weights, y_figures, y_present);
+    let first = rolling_var_weights(x, windows, weights, x_lists);
+    let second = rolling_var_weights(y, windows, weights, y_lists);
     (first, second)
 }
 

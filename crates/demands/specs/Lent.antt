@@ -34,6 +34,10 @@ lent_all work cs = record { outputs = outputs_of cs []; work = work }
 abbrev pub lent : code.Figures.Figures → Lent
 lent l = lent_all l.work.now (column l.figures.now l.present.now ∷ [])
 
+-- of one figure with weights, which has no work slice
+abbrev pub lent_column : code.Column.Column → Column
+lent_column c = column c.figures.now c.present.now
+
 -- of a variance, its lowest and its highest reading
 abbrev pub lent_three : code.Variances.Variances → Lent
 lent_three l =
