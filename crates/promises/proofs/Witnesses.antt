@@ -2,12 +2,14 @@
 -- agree in one row's window, rows of every sort. And what would be said too much: where a hypothesis of demand 3 is left out or
 -- weakened, two accepted calls give other bits. Assumes nothing.
 use Prim.Native.Nat.{ℕ, zero, suc, ◌+◌, ◌-◌, ◌%◌, ◌^◌, ◌≤◌, ◌<◌}
-use mathlib.Core.Path.{◌≡◌, refl, sym, ap}
-use mathlib.Core.Bool.{Bool, true, false, cond}
+use mathlib.Core.Path.{◌≡◌, refl, sym, ap, ◌∙◌}
+use mathlib.Core.Bool.{Bool, true, false, not, cond, ◌&&◌}
 use mathlib.Core.List.{List, [], ◌∷◌}
 use mathlib.Core.Logic.{inl, inr, ⊎_elim}
 use native.Mathlib.Omega.{arith}
-use lib.Dec.{T, eqb, lit≤}
+use lib.Dec.{T, leb, eqb, lit≤}
+use lib.Ieee.Scale.{finite}
+use borrow.Author.Tests.{le-leb}
 use lib.ListN.{length}
 use lib.Ieee.{Float, nan, is_nan, fits, binary64, of_bits, to_bits, of_int, add, sub, mul, div, eq, lt, le}
 use Rattle.float.specs.Operators.{zero64, one64, two64, of_nat64}
@@ -38,7 +40,7 @@ use Rattle.moments.specs.HostCall.{CalledBytes}
 use Rattle.promises.specs.Rust.{Rust, some_rust}
 use Rattle.promises.specs.Calls.{figures_in, AcceptedCall, plan_call, host_call, fixed_call}
 use Rattle.promises.specs.DemandTwo.{RowsEqual, FixedRowsEqual, WeightedRowsEqual, CorrectRoot}
-use Rattle.promises.specs.DemandThree.{Alike, Agree, TooFew, SomeNotFinite, VarianceRow, VarianceIn, Yielded}
+use Rattle.promises.specs.DemandThree.{Alike, Agree, TooFew, SomeNotFinite, FigureRow, VarianceRow, VarianceIn, Yielded}
 use Rattle.promises.specs.Table.{variance_by, p7, trace7, p8, trace8, p9, trace9}
 use Rattle.promises.proofs.FigureRows.{missing_row}
 use Rattle.promises.proofs.Spans.{each_place}
@@ -550,21 +552,37 @@ pub not_few : TooFew Readings trace7 0 2 1 1 → ⊥
 unfolding entries_from valid_at
 not_few few = ⊎_elim (λ h. omega arith) (λ h. omega arith) few
 
+-- a place from s on that is valid and holds what is not finite; where there is none below e, `SomeNotFinite` is not so
+abbrev not_finite_from : Trace → ℕ → ℕ → Bool
+not_finite_from t s i = leb s i && (valid_at t.mapped t.map i && not (finite (reading_of t.readings i)))
+
+all_finite : (t : Trace) (s e : ℕ) → table (not_finite_from t s) e ≡ table (λ i. false) e → SomeNotFinite Readings t s e → ⊥
+all_finite t s e h (i, low, high, v, f) =
+    let there : not_finite_from t s i ≡ true = rw (le-leb s i low, v, f) in
+    apart (sym (each_place (not_finite_from t s) (λ i. false) e h i high) ∙ there)
+
 -- `SomeNotFinite`: P8's row 0, and not its row 1
 pub nan_in_row : SomeNotFinite Readings trace8 0 2
 unfolding valid_at
 nan_in_row = (0, omega arith, omega arith, refl, refl)
 
 pub finite_row : SomeNotFinite Readings trace8 1 3 → ⊥
-unfolding valid_at of_int
-finite_row (zero, s, e, v, f) = absurd (omega arith)
-finite_row (suc zero, s, e, v, f) = apart (sym f)
-finite_row (suc (suc zero), s, e, v, f) = apart (sym f)
-finite_row (suc (suc (suc i)), s, e, v, f) = absurd (omega arith)
+unfolding table valid_at of_int
+finite_row = all_finite trace8 1 3 refl
 
 -- an answer of its parts
 abbrev pub answer : Float → ℕ → Answer
 answer double byte = record { double = double; byte = byte }
+
+-- a row whose figure is there, of readings that are finite
+finite_figure : {t : Trace} {s e min_periods ddof : ℕ} (x : Float) → ¬ TooFew Readings t s e min_periods ddof
+    → ¬ SomeNotFinite Readings t s e → FigureRow Readings t s e min_periods ddof (answer x 1)
+finite_figure x enough finite =
+    record {
+      byte-is = inr refl;
+      missing = (λ z. absurd (omega arith), λ few. absurd (enough few));
+      not_finite = λ b f. absurd (finite f);
+    }
 
 -- `VarianceRow`, computed: missing since the valid count is ddof, P7's row 2
 pub ddof_row : VarianceRow trace7 3 4 1 1 (answer zero64 0)
@@ -586,21 +604,14 @@ minimum_row =
 
 -- present, its valid count the minimum, P9 with minimum 2
 no_nan9 : SomeNotFinite Readings trace9 0 3 → ⊥
-unfolding valid_at of_int
-no_nan9 (zero, s, e, v, f) = apart (sym f)
-no_nan9 (suc zero, s, e, v, f) = apart v
-no_nan9 (suc (suc zero), s, e, v, f) = apart (sym f)
-no_nan9 (suc (suc (suc i)), s, e, v, f) = absurd (omega arith)
+unfolding table valid_at of_int
+no_nan9 = all_finite trace9 0 3 refl
 
 pub least_row : VarianceRow trace9 0 3 2 1 (answer two64 1)
 unfolding entries_from valid_at of_bits le
 least_row =
     record {
-      figure = record {
-        byte-is = inr refl;
-        missing = (λ z. absurd (omega arith), λ few. absurd (⊎_elim (λ h. omega arith) (λ h. omega arith) few));
-        not_finite = λ b f. absurd (no_nan9 f);
-      };
+      figure = finite_figure _ (λ few. ⊎_elim (λ h. omega arith) (λ h. omega arith) few) no_nan9;
       not-below = λ b. inr refl;
     }
 
@@ -622,41 +633,27 @@ abbrev trace55 : Trace
 trace55 = trace_of (of_nat64 5 ∷ of_nat64 5 ∷ []) false []
 
 no_nan55 : SomeNotFinite Readings trace55 0 2 → ⊥
-unfolding valid_at of_int
-no_nan55 (zero, s, e, v, f) = apart (sym f)
-no_nan55 (suc zero, s, e, v, f) = apart (sym f)
-no_nan55 (suc (suc i), s, e, v, f) = absurd (omega arith)
+unfolding table valid_at of_int
+no_nan55 = all_finite trace55 0 2 refl
 
 pub zero_row : VarianceRow trace55 0 2 1 1 (answer zero64 1)
 unfolding entries_from valid_at of_bits le
 zero_row =
     record {
-      figure = record {
-        byte-is = inr refl;
-        missing = (λ z. absurd (omega arith), λ few. absurd (⊎_elim (λ h. omega arith) (λ h. omega arith) few));
-        not_finite = λ b f. absurd (no_nan55 f);
-      };
+      figure = finite_figure _ (λ few. ⊎_elim (λ h. omega arith) (λ h. omega arith) few) no_nan55;
       not-below = λ b. inr refl;
     }
 
 -- `Yielded`, computed: row 2 of the call with a map of ones, whose window is in two parts
 no_nan_ones : SomeNotFinite Readings ones 1 4 → ⊥
-unfolding valid_at of_int
-no_nan_ones (zero, s, e, v, f) = absurd (omega arith)
-no_nan_ones (suc zero, s, e, v, f) = apart (sym f)
-no_nan_ones (suc (suc zero), s, e, v, f) = apart (sym f)
-no_nan_ones (suc (suc (suc zero)), s, e, v, f) = apart (sym f)
-no_nan_ones (suc (suc (suc (suc i))), s, e, v, f) = absurd (omega arith)
+unfolding table valid_at of_int
+no_nan_ones = all_finite ones 1 4 refl
 
 ones_row : VarianceRow ones 1 4 3 1 (answer (of_bits binary64 0x4002AAAAAAAAAAAB) 1)
 unfolding entries_from valid_at of_bits le
 ones_row =
     record {
-      figure = record {
-        byte-is = inr refl;
-        missing = (λ z. absurd (omega arith), λ few. absurd (⊎_elim (λ h. omega arith) (λ h. omega arith) few));
-        not_finite = λ b f. absurd (no_nan_ones f);
-      };
+      figure = finite_figure _ (λ few. ⊎_elim (λ h. omega arith) (λ h. omega arith) few) no_nan_ones;
       not-below = λ b. inr refl;
     }
 

@@ -38,16 +38,6 @@ abbrev pub powf15 : Float → Float
 powf15 x = x ⊗ root x
 
 -- ---- `VarState`
--- a store to each member
-abbrev pub VarState-set_weight : VarState → Float → VarState
-VarState-set_weight self v = record { weight = v; mean = self.mean; dp = self.dp }
-
-abbrev pub VarState-set_mean : VarState → Float → VarState
-VarState-set_mean self v = record { weight = self.weight; mean = v; dp = self.dp }
-
-abbrev pub VarState-set_dp : VarState → Float → VarState
-VarState-set_dp self v = record { weight = self.weight; mean = self.mean; dp = v }
-
 -- `default`, which `#[derive(Default)]` makes
 abbrev pub VarState-default : VarState
 VarState-default = record { weight = zero64; mean = zero64; dp = zero64 }
@@ -66,8 +56,8 @@ VarState-new x =
 -- `clear_zero_weight_nan`
 unfoldable pub VarState-clear_zero_weight_nan : VarState → VarState
 VarState-clear_zero_weight_nan self =
-    let self₁ = VarState-set_mean self zero64 in
-    let self₂ = VarState-set_dp self₁ zero64 in
+    let self₁ = record self { mean = zero64 } in
+    let self₂ = record self₁ { dp = zero64 } in
     cond (eq self.weight zero64) self₂ self
 
 -- `insert_one`
@@ -77,9 +67,9 @@ VarState-insert_one self x =
     let new_weight = self.weight ⊕ one64 in
     let delta_mean = x ⊖ self.mean in
     let new_mean = self.mean ⊕ delta_mean ⊘ new_weight in
-    let self₁ = VarState-set_dp self (self.dp ⊕ (x ⊖ new_mean) ⊗ delta_mean) in
-    let self₂ = VarState-set_weight self₁ new_weight in
-    let self₃ = VarState-set_mean self₂ new_mean in
+    let self₁ = record self { dp = self.dp ⊕ (x ⊖ new_mean) ⊗ delta_mean } in
+    let self₂ = record self₁ { weight = new_weight } in
+    let self₃ = record self₂ { mean = new_mean } in
     VarState-clear_zero_weight_nan self₃
 
 -- `combine`
@@ -90,9 +80,9 @@ VarState-combine self other =
     let other_weight_frac = other.weight ⊘ new_weight in
     let delta_mean = other.mean ⊖ self.mean in
     let new_mean = self.mean ⊕ delta_mean ⊗ other_weight_frac in
-    let self₁ = VarState-set_dp self (self.dp ⊕ (other.dp ⊕ other.weight ⊗ (other.mean ⊖ new_mean) ⊗ delta_mean)) in
-    let self₂ = VarState-set_weight self₁ new_weight in
-    let self₃ = VarState-set_mean self₂ new_mean in
+    let self₁ = record self { dp = self.dp ⊕ (other.dp ⊕ other.weight ⊗ (other.mean ⊖ new_mean) ⊗ delta_mean) } in
+    let self₂ = record self₁ { weight = new_weight } in
+    let self₃ = record self₂ { mean = new_mean } in
     cond (eq other.weight zero64) self (VarState-clear_zero_weight_nan self₃)
 
 -- `finalize`
@@ -102,19 +92,6 @@ VarState-finalize self ddof =
     cond (le self.weight (of_nat64 ddof)) Missing (Present (cond (lt var zero64) zero64 var))
 
 -- ---- `CovState`
--- a store to each member
-abbrev pub CovState-set_weight : CovState → Float → CovState
-CovState-set_weight self v = record { weight = v; mean_x = self.mean_x; mean_y = self.mean_y; dp_xy = self.dp_xy }
-
-abbrev pub CovState-set_mean_x : CovState → Float → CovState
-CovState-set_mean_x self v = record { weight = self.weight; mean_x = v; mean_y = self.mean_y; dp_xy = self.dp_xy }
-
-abbrev pub CovState-set_mean_y : CovState → Float → CovState
-CovState-set_mean_y self v = record { weight = self.weight; mean_x = self.mean_x; mean_y = v; dp_xy = self.dp_xy }
-
-abbrev pub CovState-set_dp_xy : CovState → Float → CovState
-CovState-set_dp_xy self v = record { weight = self.weight; mean_x = self.mean_x; mean_y = self.mean_y; dp_xy = v }
-
 -- `default`
 abbrev pub CovState-default : CovState
 CovState-default = record { weight = zero64; mean_x = zero64; mean_y = zero64; dp_xy = zero64 }
@@ -143,10 +120,10 @@ CovState-insert_one self x y =
     let delta_mean_y = y ⊖ self.mean_y in
     let new_mean_x = self.mean_x ⊕ delta_mean_x ⊗ new_weight_frac in
     let new_mean_y = self.mean_y ⊕ delta_mean_y ⊗ new_weight_frac in
-    let self₁ = CovState-set_dp_xy self (self.dp_xy ⊕ (x ⊖ new_mean_x) ⊗ delta_mean_y) in
-    let self₂ = CovState-set_weight self₁ new_weight in
-    let self₃ = CovState-set_mean_x self₂ new_mean_x in
-    CovState-set_mean_y self₃ new_mean_y
+    let self₁ = record self { dp_xy = self.dp_xy ⊕ (x ⊖ new_mean_x) ⊗ delta_mean_y } in
+    let self₂ = record self₁ { weight = new_weight } in
+    let self₃ = record self₂ { mean_x = new_mean_x } in
+    record self₃ { mean_y = new_mean_y }
 
 -- `combine`
 unfoldable pub CovState-combine : CovState → CovState → CovState
@@ -157,11 +134,10 @@ CovState-combine self other =
     let delta_mean_y = other.mean_y ⊖ self.mean_y in
     let new_mean_x = self.mean_x ⊕ delta_mean_x ⊗ other_weight_frac in
     let new_mean_y = self.mean_y ⊕ delta_mean_y ⊗ other_weight_frac in
-    let self₁ = CovState-set_dp_xy self
-    (self.dp_xy ⊕ (other.dp_xy ⊕ other.weight ⊗ (other.mean_x ⊖ new_mean_x) ⊗ delta_mean_y)) in
-    let self₂ = CovState-set_weight self₁ new_weight in
-    let self₃ = CovState-set_mean_x self₂ new_mean_x in
-    let self₄ = CovState-set_mean_y self₃ new_mean_y in
+    let self₁ = record self { dp_xy = self.dp_xy ⊕ (other.dp_xy ⊕ other.weight ⊗ (other.mean_x ⊖ new_mean_x) ⊗ delta_mean_y) } in
+    let self₂ = record self₁ { weight = new_weight } in
+    let self₃ = record self₂ { mean_x = new_mean_x } in
+    let self₄ = record self₃ { mean_y = new_mean_y } in
     cond (eq other.weight zero64) self (cond (eq self.weight zero64) other self₄)
 
 -- `finalize`
@@ -174,25 +150,6 @@ CovState-finalize self ddof =
 abbrev pub PearsonState-of : Float → Float → Float → Float → Float → Float → PearsonState
 PearsonState-of weight mean_x mean_y dp_xx dp_xy dp_yy =
     record { weight = weight; mean_x = mean_x; mean_y = mean_y; dp_xx = dp_xx; dp_xy = dp_xy; dp_yy = dp_yy }
-
--- a store to each member
-abbrev pub PearsonState-set_weight : PearsonState → Float → PearsonState
-PearsonState-set_weight self v = PearsonState-of v self.mean_x self.mean_y self.dp_xx self.dp_xy self.dp_yy
-
-abbrev pub PearsonState-set_mean_x : PearsonState → Float → PearsonState
-PearsonState-set_mean_x self v = PearsonState-of self.weight v self.mean_y self.dp_xx self.dp_xy self.dp_yy
-
-abbrev pub PearsonState-set_mean_y : PearsonState → Float → PearsonState
-PearsonState-set_mean_y self v = PearsonState-of self.weight self.mean_x v self.dp_xx self.dp_xy self.dp_yy
-
-abbrev pub PearsonState-set_dp_xx : PearsonState → Float → PearsonState
-PearsonState-set_dp_xx self v = PearsonState-of self.weight self.mean_x self.mean_y v self.dp_xy self.dp_yy
-
-abbrev pub PearsonState-set_dp_xy : PearsonState → Float → PearsonState
-PearsonState-set_dp_xy self v = PearsonState-of self.weight self.mean_x self.mean_y self.dp_xx v self.dp_yy
-
-abbrev pub PearsonState-set_dp_yy : PearsonState → Float → PearsonState
-PearsonState-set_dp_yy self v = PearsonState-of self.weight self.mean_x self.mean_y self.dp_xx self.dp_xy v
 
 -- `default`
 abbrev pub PearsonState-default : PearsonState
@@ -226,12 +183,12 @@ PearsonState-insert_one self x y =
     let delta_mean_y = y ⊖ self.mean_y in
     let new_mean_x = self.mean_x ⊕ delta_mean_x ⊗ new_weight_frac in
     let new_mean_y = self.mean_y ⊕ delta_mean_y ⊗ new_weight_frac in
-    let self₁ = PearsonState-set_dp_xx self (self.dp_xx ⊕ (x ⊖ new_mean_x) ⊗ delta_mean_x) in
-    let self₂ = PearsonState-set_dp_xy self₁ (self₁.dp_xy ⊕ (x ⊖ new_mean_x) ⊗ delta_mean_y) in
-    let self₃ = PearsonState-set_dp_yy self₂ (self₂.dp_yy ⊕ (y ⊖ new_mean_y) ⊗ delta_mean_y) in
-    let self₄ = PearsonState-set_weight self₃ new_weight in
-    let self₅ = PearsonState-set_mean_x self₄ new_mean_x in
-    PearsonState-set_mean_y self₅ new_mean_y
+    let self₁ = record self { dp_xx = self.dp_xx ⊕ (x ⊖ new_mean_x) ⊗ delta_mean_x } in
+    let self₂ = record self₁ { dp_xy = self₁.dp_xy ⊕ (x ⊖ new_mean_x) ⊗ delta_mean_y } in
+    let self₃ = record self₂ { dp_yy = self₂.dp_yy ⊕ (y ⊖ new_mean_y) ⊗ delta_mean_y } in
+    let self₄ = record self₃ { weight = new_weight } in
+    let self₅ = record self₄ { mean_x = new_mean_x } in
+    record self₅ { mean_y = new_mean_y }
 
 -- `combine`
 unfoldable pub PearsonState-combine : PearsonState → PearsonState → PearsonState
@@ -242,15 +199,12 @@ PearsonState-combine self other =
     let delta_mean_y = other.mean_y ⊖ self.mean_y in
     let new_mean_x = self.mean_x ⊕ delta_mean_x ⊗ other_weight_frac in
     let new_mean_y = self.mean_y ⊕ delta_mean_y ⊗ other_weight_frac in
-    let self₁ = PearsonState-set_dp_xx self
-    (self.dp_xx ⊕ (other.dp_xx ⊕ other.weight ⊗ (other.mean_x ⊖ new_mean_x) ⊗ delta_mean_x)) in
-    let self₂ = PearsonState-set_dp_xy self₁
-    (self₁.dp_xy ⊕ (other.dp_xy ⊕ other.weight ⊗ (other.mean_x ⊖ new_mean_x) ⊗ delta_mean_y)) in
-    let self₃ = PearsonState-set_dp_yy self₂
-    (self₂.dp_yy ⊕ (other.dp_yy ⊕ other.weight ⊗ (other.mean_y ⊖ new_mean_y) ⊗ delta_mean_y)) in
-    let self₄ = PearsonState-set_weight self₃ new_weight in
-    let self₅ = PearsonState-set_mean_x self₄ new_mean_x in
-    let self₆ = PearsonState-set_mean_y self₅ new_mean_y in
+    let self₁ = record self { dp_xx = self.dp_xx ⊕ (other.dp_xx ⊕ other.weight ⊗ (other.mean_x ⊖ new_mean_x) ⊗ delta_mean_x) } in
+    let self₂ = record self₁ { dp_xy = self₁.dp_xy ⊕ (other.dp_xy ⊕ other.weight ⊗ (other.mean_x ⊖ new_mean_x) ⊗ delta_mean_y) } in
+    let self₃ = record self₂ { dp_yy = self₂.dp_yy ⊕ (other.dp_yy ⊕ other.weight ⊗ (other.mean_y ⊖ new_mean_y) ⊗ delta_mean_y) } in
+    let self₄ = record self₃ { weight = new_weight } in
+    let self₅ = record self₄ { mean_x = new_mean_x } in
+    let self₆ = record self₅ { mean_y = new_mean_y } in
     cond (eq other.weight zero64) self (cond (eq self.weight zero64) other self₆)
 
 -- `finalize`
@@ -260,19 +214,6 @@ PearsonState-finalize self =
     cond (lt zero64 denom_sq) (self.dp_xy ⊘ root denom_sq) nan
 
 -- ---- `SkewState`
--- a store to each member
-abbrev pub SkewState-set_weight : SkewState → Float → SkewState
-SkewState-set_weight self v = record { weight = v; mean = self.mean; m2 = self.m2; m3 = self.m3 }
-
-abbrev pub SkewState-set_mean : SkewState → Float → SkewState
-SkewState-set_mean self v = record { weight = self.weight; mean = v; m2 = self.m2; m3 = self.m3 }
-
-abbrev pub SkewState-set_m2 : SkewState → Float → SkewState
-SkewState-set_m2 self v = record { weight = self.weight; mean = self.mean; m2 = v; m3 = self.m3 }
-
-abbrev pub SkewState-set_m3 : SkewState → Float → SkewState
-SkewState-set_m3 self v = record { weight = self.weight; mean = self.mean; m2 = self.m2; m3 = v }
-
 -- `default`
 abbrev pub SkewState-default : SkewState
 SkewState-default = record { weight = zero64; mean = zero64; m2 = zero64; m3 = zero64 }
@@ -300,9 +241,9 @@ SkewState-new x = SkewState-from_iter x (length x)
 -- `clear_zero_weight_nan`
 unfoldable pub SkewState-clear_zero_weight_nan : SkewState → SkewState
 SkewState-clear_zero_weight_nan self =
-    let self₁ = SkewState-set_mean self zero64 in
-    let self₂ = SkewState-set_m2 self₁ zero64 in
-    let self₃ = SkewState-set_m3 self₂ zero64 in
+    let self₁ = record self { mean = zero64 } in
+    let self₂ = record self₁ { m2 = zero64 } in
+    let self₃ = record self₂ { m3 = zero64 } in
     cond (eq self.weight zero64) self₃ self
 
 -- `insert_one`
@@ -317,10 +258,10 @@ SkewState-insert_one self x =
     let m2_update = (x ⊖ new_mean) ⊗ delta_mean in
     let new_m2 = self.m2 ⊕ m2_update in
     let new_m3 = self.m3 ⊕ delta_mean_weight ⊗ (m2_update ⊗ weight_diff ⊖ three64 ⊗ self.m2) in
-    let self₁ = SkewState-set_weight self new_weight in
-    let self₂ = SkewState-set_mean self₁ new_mean in
-    let self₃ = SkewState-set_m2 self₂ new_m2 in
-    let self₄ = SkewState-set_m3 self₃ new_m3 in
+    let self₁ = record self { weight = new_weight } in
+    let self₂ = record self₁ { mean = new_mean } in
+    let self₃ = record self₂ { m2 = new_m2 } in
+    let self₄ = record self₃ { m3 = new_m3 } in
     SkewState-clear_zero_weight_nan self₄
 
 -- `combine`
@@ -337,10 +278,10 @@ SkewState-combine self other =
     let m2_update = other.weight ⊗ (other.mean ⊖ new_mean) ⊗ delta_mean in
     let new_m2 = self.m2 ⊕ other.m2 ⊕ m2_update in
     let new_m3 = self.m3 ⊕ other.m3 ⊕ delta_mean_weight ⊗ (m2_update ⊗ weight_diff ⊕ three64 ⊗ (self_weight_other_m2 ⊖ other_weight_self_m2)) in
-    let self₁ = SkewState-set_weight self new_weight in
-    let self₂ = SkewState-set_mean self₁ new_mean in
-    let self₃ = SkewState-set_m2 self₂ new_m2 in
-    let self₄ = SkewState-set_m3 self₃ new_m3 in
+    let self₁ = record self { weight = new_weight } in
+    let self₂ = record self₁ { mean = new_mean } in
+    let self₃ = record self₂ { m2 = new_m2 } in
+    let self₄ = record self₃ { m3 = new_m3 } in
     cond (eq other.weight zero64) self (cond (eq self.weight zero64) other (SkewState-clear_zero_weight_nan self₄))
 
 -- `finalize`
@@ -358,22 +299,6 @@ SkewState-finalize self bias =
 -- of its members
 abbrev pub KurtosisState-of : Float → Float → Float → Float → Float → KurtosisState
 KurtosisState-of weight mean m2 m3 m4 = record { weight = weight; mean = mean; m2 = m2; m3 = m3; m4 = m4 }
-
--- a store to each member
-abbrev pub KurtosisState-set_weight : KurtosisState → Float → KurtosisState
-KurtosisState-set_weight self v = KurtosisState-of v self.mean self.m2 self.m3 self.m4
-
-abbrev pub KurtosisState-set_mean : KurtosisState → Float → KurtosisState
-KurtosisState-set_mean self v = KurtosisState-of self.weight v self.m2 self.m3 self.m4
-
-abbrev pub KurtosisState-set_m2 : KurtosisState → Float → KurtosisState
-KurtosisState-set_m2 self v = KurtosisState-of self.weight self.mean v self.m3 self.m4
-
-abbrev pub KurtosisState-set_m3 : KurtosisState → Float → KurtosisState
-KurtosisState-set_m3 self v = KurtosisState-of self.weight self.mean self.m2 v self.m4
-
-abbrev pub KurtosisState-set_m4 : KurtosisState → Float → KurtosisState
-KurtosisState-set_m4 self v = KurtosisState-of self.weight self.mean self.m2 self.m3 v
 
 -- `default`
 abbrev pub KurtosisState-default : KurtosisState
@@ -403,10 +328,10 @@ KurtosisState-new x = KurtosisState-from_iter x (length x)
 -- `clear_zero_weight_nan`
 unfoldable pub KurtosisState-clear_zero_weight_nan : KurtosisState → KurtosisState
 KurtosisState-clear_zero_weight_nan self =
-    let self₁ = KurtosisState-set_mean self zero64 in
-    let self₂ = KurtosisState-set_m2 self₁ zero64 in
-    let self₃ = KurtosisState-set_m3 self₂ zero64 in
-    let self₄ = KurtosisState-set_m4 self₃ zero64 in
+    let self₁ = record self { mean = zero64 } in
+    let self₂ = record self₁ { m2 = zero64 } in
+    let self₃ = record self₂ { m3 = zero64 } in
+    let self₄ = record self₃ { m4 = zero64 } in
     cond (eq self.weight zero64) self₄ self
 
 -- `insert_one`
@@ -423,11 +348,11 @@ KurtosisState-insert_one self x =
     let new_m3 = self.m3 ⊕ delta_mean_weight ⊗ (m2_update ⊗ weight_diff ⊖ three64 ⊗ self.m2) in
     let new_m4 = self.m4
     ⊕ delta_mean_weight ⊗ (delta_mean_weight ⊗ (m2_update ⊗ (self.weight ⊗ weight_diff ⊕ one64) ⊕ six64 ⊗ self.m2) ⊖ four64 ⊗ self.m3) in
-    let self₁ = KurtosisState-set_weight self new_weight in
-    let self₂ = KurtosisState-set_mean self₁ new_mean in
-    let self₃ = KurtosisState-set_m2 self₂ new_m2 in
-    let self₄ = KurtosisState-set_m3 self₃ new_m3 in
-    let self₅ = KurtosisState-set_m4 self₄ new_m4 in
+    let self₁ = record self { weight = new_weight } in
+    let self₂ = record self₁ { mean = new_mean } in
+    let self₃ = record self₂ { m2 = new_m2 } in
+    let self₄ = record self₃ { m3 = new_m3 } in
+    let self₅ = record self₄ { m4 = new_m4 } in
     KurtosisState-clear_zero_weight_nan self₅
 
 -- `combine`
@@ -451,11 +376,11 @@ KurtosisState-combine self other =
     ⊗ (m2_update ⊗ (self.weight ⊗ weight_diff ⊕ other.weight ⊗ other.weight)
     ⊕ six64 ⊗ (self.weight ⊗ self_weight_other_m2 ⊕ other.weight ⊗ other_weight_self_m2))
     ⊕ four64 ⊗ (self.weight ⊗ other.m3 ⊖ other.weight ⊗ self.m3)) in
-    let self₁ = KurtosisState-set_weight self new_weight in
-    let self₂ = KurtosisState-set_mean self₁ new_mean in
-    let self₃ = KurtosisState-set_m2 self₂ new_m2 in
-    let self₄ = KurtosisState-set_m3 self₃ new_m3 in
-    let self₅ = KurtosisState-set_m4 self₄ new_m4 in
+    let self₁ = record self { weight = new_weight } in
+    let self₂ = record self₁ { mean = new_mean } in
+    let self₃ = record self₂ { m2 = new_m2 } in
+    let self₄ = record self₃ { m3 = new_m3 } in
+    let self₅ = record self₄ { m4 = new_m4 } in
     cond (eq other.weight zero64) self (cond (eq self.weight zero64) other (KurtosisState-clear_zero_weight_nan self₅))
 
 -- the end of `finalize`, which its two early returns of `None` pass by

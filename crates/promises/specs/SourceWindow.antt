@@ -55,88 +55,25 @@ pub record MomentWindow (M : Moment Float) : Type 0 where
 module _ {M : Moment Float} where
   -- ---- a store to each member
   abbrev pub set_non_finite_count : MomentWindow M → ℕ → MomentWindow M
-  set_non_finite_count w n =
-      record {
-        non_finite_count = n;
-        null_count = w.null_count;
-        start = w.start;
-        end = w.end;
-        front = w.front;
-        back = w.back;
-        agg_back = w.agg_back;
-      }
+  set_non_finite_count w n = record w { non_finite_count = n }
 
   abbrev pub set_null_count : MomentWindow M → ℕ → MomentWindow M
-  set_null_count w n =
-      record {
-        non_finite_count = w.non_finite_count;
-        null_count = n;
-        start = w.start;
-        end = w.end;
-        front = w.front;
-        back = w.back;
-        agg_back = w.agg_back;
-      }
+  set_null_count w n = record w { null_count = n }
 
   abbrev pub set_start : MomentWindow M → ℕ → MomentWindow M
-  set_start w n =
-      record {
-        non_finite_count = w.non_finite_count;
-        null_count = w.null_count;
-        start = n;
-        end = w.end;
-        front = w.front;
-        back = w.back;
-        agg_back = w.agg_back;
-      }
+  set_start w n = record w { start = n }
 
   abbrev pub set_end : MomentWindow M → ℕ → MomentWindow M
-  set_end w n =
-      record {
-        non_finite_count = w.non_finite_count;
-        null_count = w.null_count;
-        start = w.start;
-        end = n;
-        front = w.front;
-        back = w.back;
-        agg_back = w.agg_back;
-      }
+  set_end w n = record w { end = n }
 
   abbrev pub set_front : MomentWindow M → List M.State → MomentWindow M
-  set_front w states =
-      record {
-        non_finite_count = w.non_finite_count;
-        null_count = w.null_count;
-        start = w.start;
-        end = w.end;
-        front = states;
-        back = w.back;
-        agg_back = w.agg_back;
-      }
+  set_front w states = record w { front = states }
 
   abbrev pub set_back : MomentWindow M → List Float → MomentWindow M
-  set_back w xs =
-      record {
-        non_finite_count = w.non_finite_count;
-        null_count = w.null_count;
-        start = w.start;
-        end = w.end;
-        front = w.front;
-        back = xs;
-        agg_back = w.agg_back;
-      }
+  set_back w xs = record w { back = xs }
 
   abbrev pub set_agg_back : MomentWindow M → M.State → MomentWindow M
-  set_agg_back w state =
-      record {
-        non_finite_count = w.non_finite_count;
-        null_count = w.null_count;
-        start = w.start;
-        end = w.end;
-        front = w.front;
-        back = w.back;
-        agg_back = state;
-      }
+  set_agg_back w state = record w { agg_back = state }
 
   -- ---- `impl MomentWindow`
   -- `new_impl`
