@@ -21,7 +21,7 @@ ghost use Rattle.trace.specs.Lent.{traced, LentAs};
 ghost use Rattle.window.specs.Pairs.{pairing};
 ghost use Rattle.rolling.specs.Moments.{Variance, Skewness, Kurtosis, Covariance, Correlation};
 ghost use Rattle.rolling.specs.Calls.{query, querying, lending, lending_three, Calls};
-ghost use Rattle.rolling.specs.Code.Rows.{paired};
+ghost use Rattle.window.specs.Pairs.{paired};
 ghost use Rattle.rolling.specs.Fixed.{CallsFixed};
 ghost use Rattle.weighted.specs.Weights.{CallsWeights, lending_column};
 ghost use Rattle.plan.specs.Plan.{planned};
