@@ -1,5 +1,5 @@
 -- A chunk is filled place by place: what it holds, with the valid entries that are left, is all of them. Assumes nothing.
-use Rattle.std.proofs.Common.{◌≡◌, ℕ, ◌+◌, ◌<◌, ◌≤◌, Bool, true, false, List, ◌∷◌, ◌++◌, length, get_or, take, set, sym, refl, ◌∙◌}
+use Rattle.std.proofs.Common.{◌≡◌, ℕ, ◌+◌, ◌<◌, ◌≤◌, Bool, true, false, List, ◌∷◌, ◌++◌, length, get_or, take, set, sym, ◌∙◌}
 use Rattle.std.proofs.Common.{append_assoc, append-nil, add-zero, add-one, arith, length-set, drop_of_length-le, length-take}
 use Rattle.std.proofs.Common.{take_all, take-suc-set, take_at, drop_at}
 use lib.Seq.{take-set-le}
@@ -20,9 +20,6 @@ pub record Filling {A : Type 0} (valid : ℕ → Bool) (entries : List A) (i : �
   pub with_rest : take n chunk ++ rest valid entries j ≡ rest valid entries i
 
 module _ {A : Type 0} {valid : ℕ → Bool} {entries : List A} {i : ℕ} {chunk : List A} where
-  pub filling_start : length chunk ≡ 128 → Filling valid entries i chunk i 0
-  filling_start h = record { within = omega arith; passed = omega arith; room = h; with_rest = refl }
-
   -- a place of either kind: its entry is put past those held, and is held if it is valid
   pub filling_step : {j n : ℕ} {x : A} (t : Bool) → Filling valid entries i chunk j n → j < length entries → (n ≡ 128 → ⊥)
       → x ≡ get_or entries j x → t ≡ valid j → Filling valid entries i (set chunk n x) (j + 1) (n + from_bool t)

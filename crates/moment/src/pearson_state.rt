@@ -1,6 +1,6 @@
 // Correlation: the source's `PearsonState`.
 ghost use Rattle.std.specs.Prelude.{◌≡◌, false, refl, [], ◌∷◌};
-ghost use Rattle.moment.specs.Pearson.{square_x, square_y, pearson_about, pearson_new, pearson_insert, pearson_merge};
+ghost use Rattle.moment.specs.Pearson.{pearson_about, pearson_new, pearson_insert, pearson_merge};
 ghost use Rattle.moment.specs.Pearson.{pearson_combine, pearson_finalize};
 ghost use Rattle.moment.specs.Arrays.{pearson_list};
 ghost use Rattle.moment.specs.Code.Entrywise.{pearson_with, pearson_about_more, pearson_new_is, pearson_combine_is};

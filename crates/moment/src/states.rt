@@ -1,4 +1,5 @@
-// What the five states have in common: how one is made of entries, and of two.
+// What the five states have in common: how one is made of entries, and of two. Their public `new`, `combine`, `of_pair` and `from_array`
+// only hand on to what stands here: they are the source's methods, and no caller outside needs the trait.
 ghost use Rattle.std.specs.Prelude.{◌≡◌, Bool, cond, List, [], ◌∷◌, ◌++◌, Float};
 ghost use Rattle.std.specs.Float.Ieee.{eq};
 ghost use Rattle.float.specs.Operators.{zero64};

@@ -137,6 +137,7 @@ impl<'a> Trace<'a> {
 
 impl Pair<'_> {
     // Whether both traces have place i.
+    #[tactic(auto, unfolding(crate::specs::Trace::both_at))]
     pub fn is_valid(self, i: usize) -> bool
         ensures { result ≡ both_at (traced self.entry.x).mapped (traced self.entry.x).map
             (traced self.entry.y).mapped (traced self.entry.y).map i }

@@ -1,9 +1,6 @@
 -- Filled place by place (`Filling`). Assumes nothing.
-use Rattle.moment.proofs.Filling.{filling_start, filling_step, filled_full, filled_end}
+use Rattle.moment.proofs.Filling.{filling_step, filled_full, filled_end}
 use Rattle.moment.proofs.chunk.fill.Goals as goal
-
-pub loop-at-init : goal.loop-at-init
-loop-at-init g c = filling_start c.requires
 
 pub returns-then-count-eq-CHUNK_SIZE : goal.returns-then-count-eq-CHUNK_SIZE
 returns-then-count-eq-CHUNK_SIZE g c = filled_full c.loop-at.invariant c.if-count-eq-CHUNK_SIZE.true
