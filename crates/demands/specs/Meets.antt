@@ -1,10 +1,10 @@
 -- What the three demands, the statement for pairs of traces, that of a window's lowest and highest reading and the law of maps say of
--- calls, each as the contract of a function of this crate that makes them, beside the entry's own, `called`, from which the law of two
--- calls is drawn: demands 1, 2 and 3 of a call without weights, 3 also of two such
+-- calls, each as the contract of a function of this crate that makes them: demands 1, 2 and 3 of a call without weights, 3 also of two such
 -- calls, or for 2 and 3 the statement for pairs, where the figure is of two traces; of a variance the other statement too; 1 and 2 of the
 -- others, and the law of any two that are lent maps; what is shown of a step from row to row, and of a skewness state beside a kurtosis
 -- state. What they mean is in `promises` DemandOne, DemandTwo, DemandThree, TwoTraces, LowestHighest, Maps, KeptBounds and SkewInKurtosis.
--- Lists that are lent come as (before, after). Assumes nothing.
+-- Beside them stands the entry's own contract, `called`: of two calls what is said of each is enough for what is said of both. Lists that
+-- are lent come as (before, after). Assumes nothing.
 use Rattle.std.specs.Prelude.{ℕ, ◌+◌, ◌<◌, ◌≡◌, Bool, List, [], ◌∷◌, length, Float}
 use Rattle.root.specs.Root.{root}
 use Rattle.trace.specs.Trace.{Trace}
