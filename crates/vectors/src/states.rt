@@ -1,7 +1,7 @@
 // Records of insert, combine and finalize. Word 1 is the state's kind, from 2 on the state's six words. Insert: 8 and 9 what is inserted,
 // from 10 on the answer. Combine: from 8 on the other state, from 14 on the answer. Finalize: 8 ddof, 9 biased, 10 fisher, 11 present, 12
 // the figure.
-use crate::words::Record;
+use crate::words::{Record, UnknownWord};
 use moment::{CovState, KurtosisState, PearsonState, SkewState, VarState};
 
 #[derive(Clone, Copy, Debug, PartialEq, Eq)]
@@ -14,21 +14,22 @@ pub enum Kind {
 }
 
 impl TryFrom<u64> for Kind {
-    type Error = u64;
+    type Error = UnknownWord;
 
-    fn try_from(word: u64) -> Result<Kind, u64> {
+    fn try_from(word: u64) -> Result<Kind, UnknownWord> {
         match word {
             0 => Ok(Kind::Var),
             1 => Ok(Kind::Cov),
             2 => Ok(Kind::Pearson),
             3 => Ok(Kind::Skew),
             4 => Ok(Kind::Kurtosis),
-            _ => Err(word),
+            _ => Err(UnknownWord(word)),
         }
     }
 }
 
-// A state as its members from a word on, in the source's order. Each is a struct of its own (document 01), so each names its members.
+// A state as its members from a word on, in the source's order. Each is a struct of its own (document 01), so each names its members. One
+// `stands_at` over every `Into<[f64; N]>` was not proved: that N doubles fit the address space is known of no N alone.
 pub trait State: Copy {
     fn at(rec: Record, k: usize) -> Self;
 
@@ -42,7 +43,8 @@ impl State for VarState {
     }
 
     fn stands_at(self, rec: Record, k: usize) -> bool {
-        rec.are(k, &[self.weight, self.mean, self.dp])
+        let members: [f64; 3] = self.into();
+        rec.are(k, &members)
     }
 }
 
@@ -58,7 +60,8 @@ impl State for CovState {
     }
 
     fn stands_at(self, rec: Record, k: usize) -> bool {
-        rec.are(k, &[self.weight, self.mean_x, self.mean_y, self.dp_xy])
+        let members: [f64; 4] = self.into();
+        rec.are(k, &members)
     }
 }
 
@@ -76,15 +79,8 @@ impl State for PearsonState {
     }
 
     fn stands_at(self, rec: Record, k: usize) -> bool {
-        let PearsonState {
-            weight,
-            mean_x,
-            mean_y,
-            dp_xx,
-            dp_xy,
-            dp_yy,
-        } = self;
-        rec.are(k, &[weight, mean_x, mean_y, dp_xx, dp_xy, dp_yy])
+        let members: [f64; 6] = self.into();
+        rec.are(k, &members)
     }
 }
 
@@ -100,7 +96,8 @@ impl State for SkewState {
     }
 
     fn stands_at(self, rec: Record, k: usize) -> bool {
-        rec.are(k, &[self.weight, self.mean, self.m2, self.m3])
+        let members: [f64; 4] = self.into();
+        rec.are(k, &members)
     }
 }
 
@@ -117,7 +114,8 @@ impl State for KurtosisState {
     }
 
     fn stands_at(self, rec: Record, k: usize) -> bool {
-        rec.are(k, &[self.weight, self.mean, self.m2, self.m3, self.m4])
+        let members: [f64; 5] = self.into();
+        rec.are(k, &members)
     }
 }
 

@@ -8,7 +8,7 @@
 // no readings are decoded. Paired and paired_fixed have those of plan and of fixed, which are the first trace's, but for: 3 whether the
 // second trace's map is lent; from 25 on stand the second trace, its map (27) and its readings (29).
 use crate::arrays::Trace;
-use crate::words::{Record, Word};
+use crate::words::{Record, UnknownWord, Word};
 use std::alloc::AllocError;
 
 #[derive(Clone, Copy, Debug, PartialEq, Eq)]
@@ -19,14 +19,14 @@ enum Figure {
 }
 
 impl TryFrom<u64> for Figure {
-    type Error = u64;
+    type Error = UnknownWord;
 
-    fn try_from(word: u64) -> Result<Figure, u64> {
+    fn try_from(word: u64) -> Result<Figure, UnknownWord> {
         match word {
             0 => Ok(Figure::Var),
             1 => Ok(Figure::Skew),
             2 => Ok(Figure::Kurtosis),
-            _ => Err(word),
+            _ => Err(UnknownWord(word)),
         }
     }
 }
@@ -38,13 +38,13 @@ enum PairFigure {
 }
 
 impl TryFrom<u64> for PairFigure {
-    type Error = u64;
+    type Error = UnknownWord;
 
-    fn try_from(word: u64) -> Result<PairFigure, u64> {
+    fn try_from(word: u64) -> Result<PairFigure, UnknownWord> {
         match word {
             0 => Ok(PairFigure::Cov),
             1 => Ok(PairFigure::Pearson),
-            _ => Err(word),
+            _ => Err(UnknownWord(word)),
         }
     }
 }

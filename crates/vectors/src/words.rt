@@ -19,6 +19,10 @@ fn part(words: &[u64], k: usize, n: usize) -> &[u64] {
     words.get(k..).and_then(|rest| rest.get(..n)).unwrap_or(&[])
 }
 
+// A word that stands for no kind and no figure.
+#[derive(Clone, Copy, Debug, PartialEq, Eq)]
+pub struct UnknownWord(pub u64);
+
 // What a word stands for.
 pub trait Word: Copy {
     fn from_word(word: u64) -> Self;
@@ -36,6 +40,7 @@ impl Word for usize {
     }
 }
 
+// Of a narrower type the low bits, by a mask: an `as` is to lose none.
 impl Word for u32 {
     fn from_word(word: u64) -> Self {
         (word & 0xffff_ffff) as u32
