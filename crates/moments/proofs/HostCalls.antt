@@ -24,7 +24,7 @@ use Rattle.rolling.specs.Calls.{Query, GivenTo, Fits, Left, Called}
 use Rattle.rolling.proofs.Calls.{refused_left}
 use Rattle.moments.specs.HostCall.{ByteTrace, reading_count, decoded, BytePair, Host, decoded_of, odd_bytes, ReadingLists, decoded_lists, CalledBytes}
 use Rattle.moments.specs.Code.Checks.{ByPlan, ChecksHost}
-use Rattle.moments.specs.Code.Hosts.{Hosts, FirstNumber}
+use Rattle.moments.specs.Code.Hosts.{Hosts, first_number}
 
 if_ok_of : {A : Type 0} (r : Result A Refusal) (e : Refusal) (P : A → Type 0) → IsErrAnd r (λ x. x ≡ e) → IfOk r P
 if_ok_of {A = A} (Ok _) e P h = elim h [ ]
@@ -93,7 +93,7 @@ both_lists e f = rw (e, f)
 
 -- what a host call says where its check refuses it
 pub refuses : (kind : Kind) (h : Host kind) (p : Plan) (outputs width work : ℕ) {A Made Same : Type 0} {r₀ r₁ : ReadingLists kind} (r : Result A Refusal)
-    (e : Refusal) → IsErrAnd r (λ x. x ≡ e) → number_of e ≡ FirstNumber kind h p outputs width work r₀ → r₁ ≡ r₀ → Same
+    (e : Refusal) → IsErrAnd r (λ x. x ≡ e) → number_of e ≡ first_number kind h p outputs width work r₀ → r₁ ≡ r₀ → Same
     → Hosts kind h p outputs width work Made Same r₀ r₁ (outcome_number r)
 refuses kind h p outputs width work r e i n k s =
     let o = handed_on r e i in

@@ -69,7 +69,8 @@ fn check_bytes(
     Ok(n)
 }
 
-// The same of two traces, which have one length where none is refused.
+// The same of two traces, which have one length where none is refused. `|` and not `||`: its tests are at hand, and of a branch the proof
+// would have each way apart.
 fn check_byte_pair(
     pair: BytePair,
     x_readings: usize,

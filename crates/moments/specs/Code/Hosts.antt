@@ -32,13 +32,13 @@ CallOnPair h Made = (xy : code_pair.Pair)
     × LentAs (table (reading_at h.y.bytes) (reading_count h.y)) h.y.mapped h.y.map (traced xy.y) × Made xy
 
 -- the first number of a host call, before anything is decoded
-abbrev pub FirstNumber : (kind : Kind) → Host kind → Plan → ℕ → ℕ → ℕ → ReadingLists kind → ℕ
-FirstNumber kind h p outputs width work r = refusal 14 (odd_bytes kind h) or_else ByPlan kind h p outputs width work (short_lists kind h r)
+abbrev pub first_number : (kind : Kind) → Host kind → Plan → ℕ → ℕ → ℕ → ReadingLists kind → ℕ
+first_number kind h p outputs width work r = refusal 14 (odd_bytes kind h) or_else ByPlan kind h p outputs width work (short_lists kind h r)
 
 -- It refuses before anything is decoded, and what it has in hand is as it was (`Same`), or it decodes and makes the plan call (`Made`).
 pub data Hosts (kind : Kind) (h : Host kind) (p : Plan) (outputs width work : ℕ) (Made Same : Type 0) (before after : ReadingLists kind)
     (number : ℕ) : Type 0 where
-  refused : (number ≡ 0 → ⊥) → number ≡ FirstNumber kind h p outputs width work before → after ≡ before → Same
+  refused : (number ≡ 0 → ⊥) → number ≡ first_number kind h p outputs width work before → after ≡ before → Same
       → Hosts kind h p outputs width work Made Same before after number
-  made : 0 ≡ FirstNumber kind h p outputs width work before → ByPlan kind h p outputs width work false ≡ 0
+  made : 0 ≡ first_number kind h p outputs width work before → ByPlan kind h p outputs width work false ≡ 0
       → after ≡ decoded_lists kind 0 h before → Made → Hosts kind h p outputs width work Made Same before after number
