@@ -45,7 +45,7 @@ use Rattle.promises.proofs.TwoTraces.{pair_statement}
 use Rattle.promises.proofs.Maps.{map_law}
 use Rattle.promises.proofs.FigureRows.{missing_row}
 use Rattle.promises.proofs.Examples.{reals, whole}
-use Rattle.promises.proofs.Witnesses.{◌past◌, four_lent, four_left, leaves, first_bits, answer}
+use Rattle.promises.proofs.Witnesses.{four_lent, four_left, leaves, first_bits, answer}
 
 -- ---- two traces
 abbrev both : Trace → Trace → TracePair
@@ -503,7 +503,7 @@ uneven_refused = record { number_is = refl; left = leaves refl refl refl refl re
 
 pub two_before_three : FirstApplies (plan_checks (covariance_by p7 1 1) uneven (four_lent 12)) 2
 unfolding rows_checks
-two_before_three = (λ h. ⊎_elim (λ g. omega arith) (λ g. omega arith) h) past inl (refl, λ h. omega arith)
+two_before_three = inr (λ h. ⊎_elim (λ g. omega arith) (λ g. omega arith) h, inl (refl, λ h. omega arith))
 
 pub uneven_fixed : CalledFixed true 2 1 Correlation uneven (four_lent 0) (four_lent 0) 2
 unfolding table refusal ◌or_else◌ wrong_map plan_refusal bounds fixed_refusal filled kept
@@ -515,7 +515,7 @@ no_bytes = both (whole (1 ∷ 3 ∷ [])) (trace_of (reals (1 ∷ 3 ∷ [])) true
 
 pub second_map_short : FirstApplies (fixed_checks 2 Correlation no_bytes (four_lent 0)) 3
 second_map_short =
-    (λ h. ⊎_elim (λ g. omega arith) (λ g. omega arith) h) past (λ h. h refl) past inl (refl, inr (refl, omega arith))
+    inr (λ h. ⊎_elim (λ g. omega arith) (λ g. omega arith) h, inr (λ h. h refl, inl (refl, inr (refl, omega arith))))
 
 -- nine bytes of the second trace: 14
 abbrev nine_bytes : Host Pairs
@@ -545,12 +545,19 @@ short_list_refused = record { number_is = refl; readings_are = refl; left = leav
 pub second_list : FirstApplies (host_checks (covariance_by (plan_of [] []) 1 1) nan_bytes short_second (four_lent 12)) 12
 unfolding table rows_checks
 second_list =
-    (λ h. ⊎_elim (λ g. g refl) (λ g. g refl) h)
-    past (λ h. ⊎_elim (λ g. omega arith) (λ g. omega arith) h)
-    past (λ h. h refl)
-    past (λ h. ⊎_elim (λ g. apart g.0) (λ g. apart g.0) h)
-    past (λ h. ⊎_elim (λ g. g refl) (λ g. omega arith) h)
-    past inl (refl, inl (inr (omega arith)))
+    inr (
+      λ h. ⊎_elim (λ g. g refl) (λ g. g refl) h,
+      inr (
+        λ h. ⊎_elim (λ g. omega arith) (λ g. omega arith) h,
+        inr (
+          λ h. h refl,
+          inr (
+            λ h. ⊎_elim (λ g. apart g.0) (λ g. apart g.0) h,
+            inr (λ h. ⊎_elim (λ g. g refl) (λ g. omega arith) h, inl (refl, inl (inr (omega arith)))),
+          ),
+        ),
+      ),
+    )
 
 -- demand 1 said of it: among others, neither list of readings is changed
 pub short_list_answered :

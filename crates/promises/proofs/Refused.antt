@@ -41,7 +41,7 @@ use Rattle.promises.specs.Table.{variance_by, p7, trace7, p9, trace9}
 use Rattle.promises.proofs.DemandOne.{demand_one}
 use Rattle.promises.proofs.DemandTwo.{demand_two}
 use Rattle.promises.proofs.Examples.{reals, whole}
-use Rattle.promises.proofs.Witnesses.{◌past◌, four_column, var_lent, leaves, trace13, p9_left, p9_accepted}
+use Rattle.promises.proofs.Witnesses.{four_column, var_lent, leaves, trace13, p9_left, p9_accepted}
 
 -- ---- traces
 -- two readings, and a map of no bytes
@@ -133,27 +133,37 @@ weights_refused = record { number_is = refl; column-is = refl }
 -- ---- `FirstApplies`, from the checks alone
 -- 3 of a whole array, 2 of a pair, 11 of a range
 pub three_first : FirstApplies (trace_checks no_bytes) 3
-three_first = (λ h. omega arith) past inl (refl, (refl, omega arith))
+three_first = inr (λ h. omega arith, inl (refl, (refl, omega arith)))
 
 pub two_first : FirstApplies (pair_checks trace13 (whole (1 ∷ []))) 2
-two_first = (λ h. ⊎_elim (λ g. omega arith) (λ g. omega arith) h) past inl (refl, λ h. omega arith)
+two_first = inr (λ h. ⊎_elim (λ g. omega arith) (λ g. omega arith) h, inl (refl, λ h. omega arith))
 
 pub eleven_first : FirstApplies (range_checks trace13 1 2) 11
-eleven_first = (λ h. omega arith) past (λ h. apart h.0) past inl (refl, omega arith)
+eleven_first = inr (λ h. omega arith, inr (λ h. apart h.0, inl (refl, omega arith)))
 
 -- 7 of the crooked plan: nothing of row 0 applies, and of row 1 only 7
 pub seven_first : FirstApplies (plan_checks (variance_by crooked 1) trace7 (var_lent 12)) 7
 unfolding rows_checks
 seven_first =
-    (λ h. omega arith)
-    past (λ h. apart h.0)
-    past (λ h. ⊎_elim (λ g. g refl) (λ g. omega arith) h)
-    past (λ h. omega arith)
-    past (λ h. omega arith)
-    past (λ h. h)
-    past (λ h. omega arith)
-    past (λ h. omega arith)
-    past inl (refl, inl (omega arith))
+    inr (
+      λ h. omega arith,
+      inr (
+        λ h. apart h.0,
+        inr (
+          λ h. ⊎_elim (λ g. g refl) (λ g. omega arith) h,
+          inr (
+            λ h. omega arith,
+            inr (
+              λ h. omega arith,
+              inr (
+                λ h. h,
+                inr (λ h. omega arith, inr (λ h. omega arith, inl (refl, inl (omega arith)))),
+              ),
+            ),
+          ),
+        ),
+      ),
+    )
 
 -- Rows (1,3), (2,1): row 1 starts past its end, and ends below row 0. 5 is first.
 abbrev backwards : Plan
@@ -162,13 +172,16 @@ backwards = plan_of (1 ∷ 2 ∷ []) (3 ∷ 1 ∷ [])
 pub five_first : FirstApplies (plan_checks (variance_by backwards 1) trace7 (var_lent 12)) 5
 unfolding rows_checks
 five_first =
-    (λ h. omega arith)
-    past (λ h. apart h.0)
-    past (λ h. ⊎_elim (λ g. g refl) (λ g. omega arith) h)
-    past (λ h. omega arith)
-    past (λ h. omega arith)
-    past (λ h. h)
-    past inl (refl, omega arith)
+    inr (
+      λ h. omega arith,
+      inr (
+        λ h. apart h.0,
+        inr (
+          λ h. ⊎_elim (λ g. g refl) (λ g. omega arith) h,
+          inr (λ h. omega arith, inr (λ h. omega arith, inr (λ h. h, inl (refl, omega arith)))),
+        ),
+      ),
+    )
 
 -- 14 of nine bytes, 13 of the work slice, 9 of the weights
 pub fourteen_first : FirstApplies (host_checks (variance_by p7 1) nine_bytes (table (λ i. one64) 4) (var_lent 12)) 14
@@ -188,11 +201,17 @@ none_short n h k =
 pub thirteen_first : FirstApplies (fixed_checks 2 (Variance 1) trace13 (var_lent 11)) 13
 unfolding table
 thirteen_first =
-    (λ h. omega arith) past (λ h. apart h.0) past (λ h. none_short 2 h (omega arith)) past inl (refl, omega arith)
+    inr (
+      λ h. omega arith,
+      inr (
+        λ h. apart h.0,
+        inr (λ h. none_short 2 h (omega arith), inl (refl, omega arith)),
+      ),
+    )
 
 pub nine_first : FirstApplies (weights_checks 2 opposed trace13 four_column) 9
 unfolding of_bits add eq
-nine_first = (λ h. omega arith) past (λ h. apart h.0) past (λ h. apart h) past inl (refl, refl)
+nine_first = inr (λ h. omega arith, inr (λ h. apart h.0, inr (λ h. apart h, inl (refl, refl))))
 
 -- `NoneApplies`: P9 with minimum 2
 pub none_apply : NoneApplies (plan_checks (variance_by p9 2) trace9 (var_lent 18))

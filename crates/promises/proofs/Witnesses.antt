@@ -5,7 +5,7 @@ use Prim.Native.Nat.{ℕ, zero, suc, ◌+◌, ◌-◌, ◌%◌, ◌^◌, ◌≤�
 use mathlib.Core.Path.{◌≡◌, refl, sym, ap, ◌∙◌}
 use mathlib.Core.Bool.{Bool, true, false, not, cond, ◌&&◌}
 use mathlib.Core.List.{List, [], ◌∷◌}
-use mathlib.Core.Logic.{◌⊎◌, inl, inr, ⊎_elim}
+use mathlib.Core.Logic.{inl, inr, ⊎_elim}
 use native.Mathlib.Omega.{arith}
 use lib.Dec.{T, leb, eqb, lit≤}
 use lib.Ieee.Scale.{finite}
@@ -99,11 +99,6 @@ leaves a b c d k =
       written = record { answers_are = c; counts_are = d };
       work_kept = k;
     }
-
--- of `FirstApplies`: a check that does not apply, before the others
-infixr 5 ◌past◌
-pub ◌past◌ : {A B C : Type 0} → ¬ A → B → C ⊎ ((¬ A) × B)
-a past b = inr (a, b)
 
 -- ---- `Called` and `AcceptedCall`: calls that are accepted
 -- P7, which keeps what stands in the place past the last row
