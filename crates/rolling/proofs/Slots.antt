@@ -1,8 +1,10 @@
 -- The weight of a window's state is its count, so a correction that is kept by the count is the weight's; a slot comes to the double
 -- of its row's answer. Assumes nothing.
-use Rattle.std.proofs.Common.{◌≡◌, ◌≢◌, ℕ, ◌+◌, ◌-◌, ◌^◌, ◌<◌, ◌≤◌, Bool, true, false, cond, eqb, leb, List, map, length, get_or, take, replicate, sym, refl, ap, ◌∙◌, arith, Option, Some, None, length-take, get_or-set_other, get_or-take, get_or-set_same, eq-eqb, ne_eqb, le-leb, leb-false, leb-true}
+use Rattle.std.proofs.Common.{◌≡◌, ◌≢◌, ℕ, ◌+◌, ◌-◌, ◌^◌, ◌<◌, ◌≤◌, Bool, true, false, cond, eqb, leb, List, ◌++◌, map, length, get_or, take, drop, replicate, sym, refl, ap, ◌∙◌, arith, Option, Some, None, length-take, get_or-set_other, get_or-take, get_or-set_same, eq-eqb, ne_eqb, le-leb, leb-false, leb-true}
 use borrow.Author.Tests.{lt-leb}
-use lib.ListN.{get_or-map, get_or-replicate}
+use lib.ListN.{length-map, get_or-append, get_or-map, get_or-replicate, drop_of_length-le}
+use mathlib.Core.List.{append-nil}
+use lib.Seq.{take-length}
 use lib.Ieee.{Float, nan, inf, fin, add, sub, mul, div, of_bits}
 use Rattle.float.specs.Operators.{◌⊗◌, ◌⊘◌, zero64, one64, of_nat64}
 use Rattle.float.specs.Tables.{table}
@@ -190,13 +192,25 @@ module _ (bias mapped : Bool) (min_periods : ℕ) {w : Window} {agg : SkewState}
 
 -- ---- a block of slots
 -- the root of slot i, of the roots r that are taken of the first slots
-root_at_lem : (m2s figures r : List Float) (i : ℕ) → length figures ≤ length m2s
-    → r ≡ roots_into (take (length figures) m2s) figures → i < length figures → get_or r i nan ≡ root (get_or m2s i nan)
+root_at_lem : (m2s roots r : List Float) (n i : ℕ) → n ≤ length m2s → n ≤ length roots → r ≡ roots_into (take n m2s) (take n roots) → i < n
+    → get_or (r ++ drop n roots) i nan ≡ root (get_or m2s i nan)
 unfolding roots_into root
-root_at_lem m2s figures r i h e l =
-    let a : length (take (length figures) m2s) ≡ length figures = rw length-take (omega arith) in
-    let q : r ≡ map root (take (length figures) m2s) = e ∙ rw (a, eq-eqb (length figures) (length figures) refl) in
-    rw q (get_or-map root (take (length figures) m2s) i nan) ∙ ap root (get_or-take (length figures) m2s i nan l)
+root_at_lem m2s roots r n i h k e l =
+    let a : length (take n m2s) ≡ n = rw length-take (omega arith) in
+    let b : length (take n roots) ≡ n = rw length-take (omega arith) in
+    let q : r ≡ map root (take n m2s) = e ∙ rw (a, b, eq-eqb n n refl) in
+    let m : i < length r = rw (q, length-map) (omega arith) in
+    get_or-append r (drop n roots) nan i m ∙ rw q (get_or-map root (take n m2s) i nan) ∙ ap root (get_or-take n m2s i nan l)
+
+-- of roots that fill the whole list
+all_roots : (m2s figures r : List Float) (i : ℕ) → length figures ≤ length m2s → r ≡ roots_into (take (length figures) m2s) figures
+    → i < length figures → get_or r i nan ≡ root (get_or m2s i nan)
+all_roots m2s figures r i h e l =
+    let whole : roots_into (take (length figures) m2s) (take (length figures) figures) ≡ roots_into (take (length figures) m2s) figures =
+        ap (roots_into (take (length figures) m2s)) (take-length figures) in
+    let past : length figures ≤ length figures = omega arith in
+    let none : r ++ drop (length figures) figures ≡ r = rw (drop_of_length-le figures past) (append-nil r) in
+    ap (λ f. get_or f i nan) (sym none) ∙ root_at_lem m2s figures r (length figures) i h (omega arith) (e ∙ sym whole) l
 
 pub finished : (bias : Bool) (s : Slots) (figures r : List Float) (n : ℕ) → n ≡ length figures → length figures ≤ length s.m2s
     → r ≡ roots_into (take (length figures) s.m2s) figures
@@ -205,7 +219,7 @@ pub finished : (bias : Bool) (s : Slots) (figures r : List Float) (n : ℕ) → 
 finished bias s figures r n m h e =
     rw m
     (table_same _ _ (length figures) (λ i l.
-    ap (estimate bias (get_or s.m2s i nan) (get_or s.m3s i nan) (get_or s.factors i nan)) (root_at_lem s.m2s figures r i h e l)))
+    ap (estimate bias (get_or s.m2s i nan) (get_or s.m3s i nan) (get_or s.factors i nan)) (all_roots s.m2s figures r i h e l)))
 
 -- ---- corrections
 -- every place holds the count 0
