@@ -37,7 +37,8 @@ pub handed_on : {A : Type 0} (r : Result A Refusal) (e : Refusal) → IsErrAnd r
 handed_on {A = A} (Ok _) e h = elim h [ ]
 handed_on (Err x) e h = ap number_of h
 
-pub stops : {A : Type 0} (r : Result A Refusal) (e : Refusal) (a b : ℕ) → IsErrAnd r (λ x. x ≡ e) → number_of e ≡ a → outcome_number r ≡ a or_else b
+pub stops : {A : Type 0} (r : Result A Refusal) (e : Refusal) (a b : ℕ)
+    → IsErrAnd r (λ x. x ≡ e) → number_of e ≡ a → outcome_number r ≡ a or_else b
 stops r e a b h n = handed_on r e h ∙ stands e a b n
 
 -- a check that passes leaves the number to what is checked behind it

@@ -24,7 +24,8 @@ returns-in_err-when-2 c =
       | then-x_len-gt-MAX_READINGS w ↦ first_holds _ _ _ (lt-ltb _ _ w.if-x_len-gt-MAX_READINGS.true) w.when-is
       | else-x_len-gt-MAX_READINGS w ↦ second_tells _ _ _ (le-ltb _ _ w.if-x_len-gt-MAX_READINGS.false) w.when-is
     ] in
-    stops _ _ _ _ c.from_residual-in_err-when-2.ensures.1 (goes_on _ _ _ (c.in_ok-when.ensures ∙ ap (λ t. refusal 1 t) many) c.in_err-when-2.ensures)
+    stops _ _ _ _ c.from_residual-in_err-when-2.ensures.1
+    (goes_on _ _ _ (c.in_ok-when.ensures ∙ ap (λ t. refusal 1 t) many) c.in_err-when-2.ensures)
 
 pub returns : goal.returns
 returns c =
