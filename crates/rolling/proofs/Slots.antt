@@ -207,7 +207,7 @@ all_roots : (m2s figures r : List Float) (i : ℕ) → length figures ≤ length
     → i < length figures → get_or r i nan ≡ root (get_or m2s i nan)
 all_roots m2s figures r i h e l =
     let whole : roots_into (take (length figures) m2s) (take (length figures) figures) ≡ roots_into (take (length figures) m2s) figures =
-        ap (roots_into (take (length figures) m2s)) (take-length figures) in
+    ap (roots_into (take (length figures) m2s)) (take-length figures) in
     let past : length figures ≤ length figures = omega arith in
     let none : r ++ drop (length figures) figures ≡ r = rw (drop_of_length-le figures past) (append-nil r) in
     ap (λ f. get_or f i nan) (sym none) ∙ root_at_lem m2s figures r (length figures) i h (omega arith) (e ∙ sym whole) l
