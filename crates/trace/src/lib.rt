@@ -40,12 +40,12 @@ pub fn is_valid(map: Option<&[u8]>, i: usize) -> bool
     })
 }
 
-// Whether a map has no bit for some of n places. Their bytes are n / 8 rounded up, by a sum that cannot wrap.
+// Whether a map has no bit for some of n places.
 #[tactic(auto, unfolding(crate::specs::Refusals::wrong_map))]
 pub fn is_too_short(map: Option<&[u8]>, n: usize) -> bool
     ensures { result ≡ wrong_map n (mapped map.entry) (bytes_of map.entry) }
 {
-    map.is_some_and(|map| map.len() < n / 8 + (n % 8 + 7) / 8)
+    map.is_some_and(|map| map.len() < n.div_ceil(8))
 }
 
 // What refuses n readings with a map.
