@@ -7,12 +7,12 @@ ghost use Rattle.moments.specs.HostCall.{Host, ReadingLists};
 ghost use Rattle.demands.specs.Lent.{hosted, hosted_pair, decoded, decoded_pair};
 ghost use Rattle.demands.specs.Meets.{MeetsHost, MeetTwoHosts};
 
-use crate::lent::{Answers, BytePair, Bytes, Figures, ReadingPair, Readings, Variances};
+use crate::lent::{Answers, BytePair, Bytes, Figures, Lists, ReadingPair, Readings, Variances};
 use plan::Plan;
 use rolling::{CovMoment, KurtosisMoment, PearsonMoment, SkewMoment, VarianceMoment};
 
 // The call of a figure, of what is given as a B, decoded into an R and answered in an L.
-pub trait HostCall<B: Copy, R, L: Answers>: Copy {
+pub trait HostCall<B: Copy, R: Lists, L: Answers>: Copy {
     ghost statistic: { Self → Statistic };
 
     ghost hosted: { (f : Self) → B → Host (kind_of (statistic f)) };
@@ -20,7 +20,8 @@ pub trait HostCall<B: Copy, R, L: Answers>: Copy {
     ghost decoded: { (f : Self) → R → ReadingLists (kind_of (statistic f)) };
 
     fn call(self, given: B, plan: Plan, min_periods: usize, readings: &mut R, lists: &mut L) -> u32
-        ensures { MeetsHost (query (planned plan.entry) min_periods (statistic self)) (hosted self given)
+        ensures same { R.same readings.old readings.new × L.same lists.old lists.new }
+        ensures meets { MeetsHost (query (planned plan.entry) min_periods (statistic self)) (hosted self given)
             (decoded self readings.old, decoded self readings.new) (L.lent lists.old, L.lent lists.new) result };
 }
 
@@ -196,7 +197,7 @@ impl HostCall<BytePair<'_>, ReadingPair<'_>, Figures<'_>> for PearsonMoment {
 }
 
 // Two, of the same plan, setting and figure.
-pub fn two_hosts<B: Copy, R, L: Answers, F: HostCall<B, R, L>>(
+pub fn two_hosts<B: Copy, R: Lists, L: Answers, F: HostCall<B, R, L>>(
     figure: F,
     x: B,
     y: B,
@@ -207,7 +208,9 @@ pub fn two_hosts<B: Copy, R, L: Answers, F: HostCall<B, R, L>>(
     x_lists: &mut L,
     y_lists: &mut L,
 ) -> (u32, u32)
-    ensures { MeetTwoHosts (query (planned plan.entry) min_periods (F.statistic figure)) (F.hosted figure x) (F.hosted figure y)
+    ensures first_same { R.same x_readings.old x_readings.new × L.same x_lists.old x_lists.new }
+    ensures second_same { R.same y_readings.old y_readings.new × L.same y_lists.old y_lists.new }
+    ensures meet { MeetTwoHosts (query (planned plan.entry) min_periods (F.statistic figure)) (F.hosted figure x) (F.hosted figure y)
         (F.decoded figure x_readings.old, F.decoded figure x_readings.new)
         (F.decoded figure y_readings.old, F.decoded figure y_readings.new)
         (L.lent x_lists.old, L.lent x_lists.new) (L.lent y_lists.old, L.lent y_lists.new) result.0 result.1 }

@@ -1,6 +1,6 @@
 // What C gives and lends to a call. A map is looked at where the flag says so; where it says no, a map of any bytes may be lent.
 ghost use Rattle.window.specs.Outputs.{Lent};
-ghost use Rattle.demands.specs.Lent.{lent, lent_three};
+ghost use Rattle.demands.specs.Lent.{lent, lent_three, same_readings, same_reading_pair, same_figures, same_variances};
 
 // A trace as doubles.
 #[derive(Clone, Copy)]
@@ -30,16 +30,29 @@ pub struct BytePair<'a> {
     pub y: Bytes<'a>,
 }
 
+// Lists that are lent: a call hands back the very lists, so that what it says of them is said of the lender's.
+pub trait Lists {
+    ghost same: { Self → Self → Type 0 };
+}
+
 // The list that a trace of bytes is decoded into.
 #[derive(Drop)]
 pub struct Readings<'a> {
     pub list: &'a mut [f64],
 }
 
+impl Lists for Readings<'_> {
+    ghost same = { same_readings };
+}
+
 #[derive(Drop)]
 pub struct ReadingPair<'a> {
     pub x: &'a mut [f64],
     pub y: &'a mut [f64],
+}
+
+impl Lists for ReadingPair<'_> {
+    ghost same = { same_reading_pair };
 }
 
 // The two lists of a figure, which with weights takes no work slice.
@@ -50,7 +63,7 @@ pub struct Column<'a> {
 }
 
 // A work slice, and two lists for each answer of a row.
-pub trait Answers {
+pub trait Answers: Lists {
     ghost lent: { Self → Lent };
 }
 
@@ -59,6 +72,10 @@ pub struct Figures<'a> {
     pub work: &'a mut [f64],
     pub figures: &'a mut [f64],
     pub present: &'a mut [u8],
+}
+
+impl Lists for Figures<'_> {
+    ghost same = { same_figures };
 }
 
 impl Answers for Figures<'_> {
@@ -75,6 +92,10 @@ pub struct Variances<'a> {
     pub lowest_present: &'a mut [u8],
     pub highest: &'a mut [f64],
     pub highest_present: &'a mut [u8],
+}
+
+impl Lists for Variances<'_> {
+    ghost same = { same_variances };
 }
 
 impl Answers for Variances<'_> {

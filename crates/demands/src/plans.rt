@@ -20,7 +20,8 @@ pub trait PlanCall<T: Copy, L: Answers>: Copy {
     ghost given: { (f : Self) → T → Given (kind_of (statistic f)) };
 
     fn call(self, x: T, plan: Plan, min_periods: usize, lists: &mut L) -> Result<(), Refusal>
-        ensures { MeetsPlan (query (planned plan.entry) min_periods (statistic self)) (given self x)
+        ensures same { L.same lists.old lists.new }
+        ensures meets { MeetsPlan (query (planned plan.entry) min_periods (statistic self)) (given self x)
             (L.lent lists.old, L.lent lists.new) (outcome_number result) };
 }
 
@@ -162,7 +163,8 @@ pub fn two_plans<T: Copy, L: Answers, F: PlanCall<T, L>>(
     x_lists: &mut L,
     y_lists: &mut L,
 ) -> (Result<(), Refusal>, Result<(), Refusal>)
-    ensures { MeetTwoPlans (query (planned plan.entry) min_periods (F.statistic figure)) (F.given figure x) (F.given figure y)
+    ensures same { L.same x_lists.old x_lists.new × L.same y_lists.old y_lists.new }
+    ensures meet { MeetTwoPlans (query (planned plan.entry) min_periods (F.statistic figure)) (F.given figure x) (F.given figure y)
         (L.lent x_lists.old, L.lent x_lists.new) (L.lent y_lists.old, L.lent y_lists.new)
         (outcome_number result.0) (outcome_number result.1) }
 {

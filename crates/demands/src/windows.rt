@@ -2,7 +2,7 @@
 // from a row's bounds to the next row's.
 ghost use Rattle.window.specs.Given.{Given};
 ghost use Rattle.rolling.specs.Moments.{Statistic, Variance, Skewness, Kurtosis, Covariance, Correlation, kind_of};
-ghost use Rattle.demands.specs.Lent.{doubles, double_pair, lent_column};
+ghost use Rattle.demands.specs.Lent.{doubles, double_pair, lent_column, same_column};
 ghost use Rattle.demands.specs.Meets.{MeetsFixed, MeetTwoFixed, MeetsWeights, MeetTwoWeights, MeetsStep};
 
 use crate::lent::{Answers, Column, DoublePair, Doubles, Figures, Variances};
@@ -24,7 +24,8 @@ pub trait FixedCall<T: Copy, L: Answers>: Copy {
     ghost given: { (f : Self) → T → Given (kind_of (statistic f)) };
 
     fn call(self, x: T, windows: Windows, lists: &mut L) -> u32
-        ensures { MeetsFixed windows.center windows.window_size windows.min_periods (statistic self) (given self x)
+        ensures same { L.same lists.old lists.new }
+        ensures meets { MeetsFixed windows.center windows.window_size windows.min_periods (statistic self) (given self x)
             (L.lent lists.old, L.lent lists.new) result };
 }
 
@@ -156,7 +157,8 @@ pub fn two_fixed<T: Copy, L: Answers, F: FixedCall<T, L>>(
     x_lists: &mut L,
     y_lists: &mut L,
 ) -> (u32, u32)
-    ensures { MeetTwoFixed windows.center windows.window_size windows.min_periods (F.statistic figure) (F.given figure x)
+    ensures same { L.same x_lists.old x_lists.new × L.same y_lists.old y_lists.new }
+    ensures meet { MeetTwoFixed windows.center windows.window_size windows.min_periods (F.statistic figure) (F.given figure x)
         (F.given figure y) (L.lent x_lists.old, L.lent x_lists.new) (L.lent y_lists.old, L.lent y_lists.new) result.0 result.1 }
 {
     let first = figure.call(x, windows, x_lists);
@@ -165,7 +167,8 @@ pub fn two_fixed<T: Copy, L: Answers, F: FixedCall<T, L>>(
 }
 
 pub fn rolling_var_weights(x: Doubles, windows: Windows, weights: &[f64], lists: &mut Column) -> u32
-    ensures { MeetsWeights windows.center windows.window_size windows.min_periods weights.now (doubles x.entry)
+    ensures same { same_column lists.old lists.new }
+    ensures meets { MeetsWeights windows.center windows.window_size windows.min_periods weights.now (doubles x.entry)
         (lent_column lists.old, lent_column lists.new) result }
 {
     moments::moments_rolling_var_weights(
@@ -190,7 +193,8 @@ pub fn two_rolling_var_weights(
     x_lists: &mut Column,
     y_lists: &mut Column,
 ) -> (u32, u32)
-    ensures { MeetTwoWeights windows.center windows.window_size windows.min_periods weights.now (doubles x.entry) (doubles y.entry)
+    ensures same { same_column x_lists.old x_lists.new × same_column y_lists.old y_lists.new }
+    ensures meet { MeetTwoWeights windows.center windows.window_size windows.min_periods weights.now (doubles x.entry) (doubles y.entry)
         (lent_column x_lists.old, lent_column x_lists.new) (lent_column y_lists.old, lent_column y_lists.new) result.0 result.1 }
 {
     let first = rolling_var_weights(x, windows, weights, x_lists);

@@ -3,4 +3,8 @@ use Rattle.demands.proofs.Demanded.{two_plans_meet}
 use Rattle.demands.proofs.plans.two_plans.Goals as goal
 
 pub returns : goal.returns
-returns g c = two_plans_meet c.call-first.ensures c.call-second.ensures
+returns g c =
+    record {
+      same = (c.call-first.ensures.same, c.call-second.ensures.same);
+      meet = two_plans_meet c.call-first.ensures.meets c.call-second.ensures.meets;
+    }

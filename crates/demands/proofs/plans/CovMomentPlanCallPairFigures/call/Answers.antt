@@ -1,7 +1,8 @@
 -- What the demands say of the call. Assumes nothing.
+use Rattle.std.proofs.Common.{refl}
 use native.Mathlib.Omega.{arith}
 use Rattle.demands.proofs.Demanded.{plan_meets}
 use Rattle.demands.proofs.plans.CovMomentPlanCallPairFigures.call.Goals as goal
 
 pub returns : goal.returns
-returns c = plan_meets c.plan_cov.ensures (omega arith)
+returns c = record { same = (refl, refl, refl); meets = plan_meets c.plan_cov.ensures (omega arith) }

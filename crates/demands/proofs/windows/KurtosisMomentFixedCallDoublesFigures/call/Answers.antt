@@ -1,7 +1,8 @@
 -- What the demands say of the call. Assumes nothing.
+use Rattle.std.proofs.Common.{refl}
 use native.Mathlib.Omega.{arith}
 use Rattle.demands.proofs.Demanded.{fixed-meets}
 use Rattle.demands.proofs.windows.KurtosisMomentFixedCallDoublesFigures.call.Goals as goal
 
 pub returns : goal.returns
-returns c = fixed-meets c.moments_rolling_kurtosis.ensures (omega arith) tt
+returns c = record { same = (refl, refl, refl); meets = fixed-meets c.moments_rolling_kurtosis.ensures (omega arith) tt }
