@@ -16,7 +16,7 @@ pub struct DoublePair<'a> {
     pub y: Doubles<'a>,
 }
 
-// A trace as bytes.
+// A trace as bytes: by a name of its own, as what is said of the two differs (`hosted`, `doubles`).
 #[derive(Clone, Copy)]
 pub struct Bytes<'a> {
     pub values: &'a [u8],

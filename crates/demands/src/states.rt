@@ -1,5 +1,5 @@
 // States and root, of which demands 1 and 2 speak: nothing refuses them. They are functions and no methods of a trait of states: those
-// would be as many, each with its definition and its source as members of the trait beside it.
+// would be as many, each with its definition and its source as members of the trait beside it. `finalize` answers C's byte.
 ghost use Rattle.moment.specs.Var.{var_insert, var_combine, var_finalize};
 ghost use Rattle.moment.specs.Cov.{cov_insert, cov_combine, cov_finalize};
 ghost use Rattle.moment.specs.Pearson.{pearson_insert, pearson_combine, pearson_finalize};

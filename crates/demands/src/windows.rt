@@ -166,6 +166,7 @@ pub fn two_fixed<T: Copy, L: Answers, F: FixedCall<T, L>>(
     (first, second)
 }
 
+// The call with weights, with the number that it answers C.
 pub fn rolling_var_weights(x: Doubles, windows: Windows, weights: &[f64], lists: &mut Column) -> u32
     ensures same { same_column lists.old lists.new }
     ensures meets { MeetsWeights windows.center windows.window_size windows.min_periods weights.now (doubles x.entry)

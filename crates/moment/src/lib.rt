@@ -61,6 +61,7 @@ fn of_pair<S: State<Entry = (f64, f64)>>(pair: Pair) -> Result<S, Refusal>
     Ok(chunk::whole(pair, &mut [(0.0, 0.0); CHUNK_SIZE]))
 }
 
+// The source's five names: of one generic function callers would have to name the state.
 pub fn var(x: Trace) -> Result<VarState, Refusal>
     ensures { answered result ≡ var_answer (traced x.entry) }
 {

@@ -1,5 +1,6 @@
 // What the five states have in common: how one is made of entries, and of two. Their public `new`, `combine`, `of_pair` and `from_array`
-// only hand on to what stands here: they are the source's methods, and no caller outside needs the trait.
+// only hand on to what stands here: they are the source's methods, and no caller outside needs the trait. `weight` is their member, and
+// `insert_one`, `inserted`, `merged`, `biased` and `finalize` are formulas of their own in each.
 ghost use Rattle.std.specs.Prelude.{◌≡◌, Bool, cond, List, [], ◌∷◌, ◌++◌, Float};
 ghost use Rattle.std.specs.Float.Ieee.{eq};
 ghost use Rattle.float.specs.Operators.{zero64};
@@ -64,6 +65,7 @@ struct Total<E> {
     sum: E,
 }
 
+// By place, here and in `about`: of places alone is it known which are valid.
 #[tactic(auto, using(crate::proofs::Folds::folding))]
 fn valid_total<P: Places>(places: P) -> Total<P::Entry>
     ensures { Totalled P.Entry.none P.Entry.plus (valid_from (P.valid places) 0 (P.entries places))

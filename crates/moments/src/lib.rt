@@ -51,7 +51,8 @@ struct BytePair<'a> {
     y: ByteTrace<'a>,
 }
 
-// What refuses a host call before anything is decoded; else how many readings its trace has.
+// What refuses a host call before anything is decoded; else how many readings its trace has. Of what is lent only lengths are known here:
+// `outputs`, `place`, `work` would be put in a struct to be taken out again by `plan::check_plan`.
 fn check_bytes(
     trace: ByteTrace,
     readings: usize,
@@ -69,7 +70,8 @@ fn check_bytes(
     Ok(n)
 }
 
-// The same of two traces, which have one length where none is refused. `|` and not `||`: its tests are at hand, and of a branch the proof
+// The same of two traces, which have one length where none is refused: two functions, here and below, since what a pair is checked for and
+// how many lists it is decoded into differ. `|` and not `||`: its tests are at hand, and of a branch the proof
 // would have each way apart.
 fn check_byte_pair(
     pair: BytePair,

@@ -1,5 +1,4 @@
-// The rows of a call that gives one figure. Its two lists stay apart: C lends them one by one, and with a struct of both, by which the
-// weighted call was proved, contracts name each list's old and new as here.
+// The rows of a call that gives one figure.
 ghost use Rattle.std.specs.Prelude.{min, length};
 ghost use Rattle.trace.specs.Outcomes.{outcome_number};
 ghost use Rattle.plan.specs.Plan.{planned};

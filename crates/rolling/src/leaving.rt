@@ -22,6 +22,7 @@ pub struct Tally {
 }
 
 // The tally of the places from a up to b.
+// By place, here and in what is below: a window moves over places, of which some are missing.
 #[inline(always)]
 fn tally_range<P: Places>(places: P, a: usize, b: usize) -> Tally
     requires { Range a b (P.have places) }

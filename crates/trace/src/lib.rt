@@ -48,7 +48,7 @@ pub fn is_too_short(map: Option<&[u8]>, n: usize) -> bool
     map.is_some_and(|map| map.len() < n.div_ceil(8))
 }
 
-// What refuses n readings with a map.
+// What refuses n readings with a map. By a length and not a `Trace`, here and below: readings may be bytes still.
 pub fn check_array(n: usize, map: Option<&[u8]>) -> Result<(), Refusal>
     ensures { outcome_number result ≡ array_refusal n (mapped map.entry) (bytes_of map.entry) }
 {
@@ -81,7 +81,7 @@ fn past(n: usize, start: usize, length: usize) -> bool
     length > n - start
 }
 
-// What refuses a range of n readings with a map.
+// What refuses a range of n readings with a map. A range comes as C gives it, its start and its length.
 pub fn check_range(n: usize, map: Option<&[u8]>, start: usize, len: usize) -> Result<(), Refusal>
     ensures { outcome_number result ≡ range_refusal n (mapped map.entry) (bytes_of map.entry) start len }
 {

@@ -1,5 +1,6 @@
 // Weighted rolling variance over fixed windows: 004's `rolling_var` with weights, by 002's `rolling_apply_weights` and
-// `compute_var_weights`. The public function takes any lists; what is below it is kept inside the crate.
+// `compute_var_weights`. The public function takes any lists; what is below it is kept inside the crate. The two lists of a figure stay
+// apart, as in `rolling`.
 #![tactic(auto)]
 
 ghost use Rattle.std.specs.Prelude.{◌≡◌, length};

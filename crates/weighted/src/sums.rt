@@ -84,7 +84,7 @@ impl BlockSums<'_> {
         }
     }
 
-    // Every weight.
+    // Every weight, by its place: the rows that it counts for hang on that.
     pub(crate) fn weigh_all(&mut self, block: Block)
         requires { Weighs block 0 self.old }
         ensures { Weighs block.entry (length block.entry.weights.now) self.new }

@@ -6,8 +6,8 @@ use Rattle.moment.specs.declared.skew_state.SkewState.{SkewState}
 use Rattle.moment.specs.declared.kurtosis_state.KurtosisState.{KurtosisState}
 use Rattle.moment.specs.declared.cov_state.CovState.{CovState}
 use Rattle.moment.specs.declared.pearson_state.PearsonState.{PearsonState}
-use Rattle.window.specs.Code.Memory.{Layout, Stored, ReadingStates, of_readings, PairStates, of_pairs}
-use Rattle.rolling.specs.Moments.{skewness, kurtosis, covariance, correlation}
+use Rattle.window.specs.Code.Memory.{Layout, Stored, ReadingStates, of_readings}
+use Rattle.rolling.specs.Moments.{skewness}
 use Rattle.rolling.specs.Code.Extremes.{variance_extremes}
 use Rattle.rolling.specs.declared.extremes.VarExtremes.{VarExtremes}
 
@@ -80,28 +80,9 @@ var_states = record { moment = variance_extremes; in_front = var_layout }
 abbrev pub skew_states : ReadingStates
 skew_states = record { moment = skewness; in_front = skew_layout }
 
-abbrev pub kurtosis_states : ReadingStates
-kurtosis_states = record { moment = kurtosis; in_front = kurtosis_layout }
-
 -- each with readings on the back stack
 abbrev pub var_stored : Stored Float Float
 var_stored = of_readings var_states
 
 abbrev pub skew_stored : Stored Float Float
 skew_stored = of_readings skew_states
-
-abbrev pub kurtosis_stored : Stored Float Float
-kurtosis_stored = of_readings kurtosis_states
-
-abbrev pub cov_states : PairStates
-cov_states = record { moment = covariance; in_front = cov_layout }
-
-abbrev pub pearson_states : PairStates
-pearson_states = record { moment = correlation; in_front = pearson_layout }
-
--- each with pairs on the back stack
-abbrev pub cov_stored : Stored Float (Float × Float)
-cov_stored = of_pairs cov_states
-
-abbrev pub pearson_stored : Stored Float (Float × Float)
-pearson_stored = of_pairs pearson_states

@@ -95,12 +95,6 @@ driven_query r n a = query (plan_by r n) r.min_periods a
 abbrev pub Leaves : (q : Query) → GivenTo q → Lent × Lent → Type 0
 Leaves q t l = Left q t l.0 l.1 0
 
--- a window whose front stack, of `width` doubles a state, lies in a work slice of so many, and a row from s up to e
-pub record Answerable (width : ℕ) (w : Window) (work s e : ℕ) : Type 0 where
-  pub front_in : width * w.front ≤ work
-  pub few : w.front + w.back ≤ 2 ^ 53
-  pub rises : s ≤ e
-
 -- a window whose readings can be counted, and a row from s up to e
 pub record Testable (w : Window) (s e : ℕ) : Type 0 where
   pub few : w.front + w.back ≤ 2 ^ 53
@@ -137,12 +131,6 @@ pub record WorksColumns {A : Type 0} (M : Stored Float A) (t : Series A) (n : �
     (w : Window) (agg : M.moment.State) (work : List Float) (cs : List Column) : Type 0 where
   pub worked : HasWorked M t n r until work₀ w agg work
   pub written : ColumnsFill fs first until cs₀ cs
-
--- the same, of the lists that are lent
-abbrev pub WorksLent : {A : Type 0} → (M : Stored Float A) → Series A → ℕ → Rows → List (ℕ → Figure) → ℕ → ℕ → Lent × Lent
-    → Window → M.moment.State → Type 0
-WorksLent M t n r fs first until l w agg =
-    WorksColumns M t n r fs first until l.0.work l.0.outputs.answers w agg l.1.work l.1.outputs.answers
 
 -- the same of one figure
 abbrev pub Works : {A : Type 0} → (M : Stored Float A) → (M.moment.State → Figure) → Series A → ℕ → Rows → ℕ → ℕ
