@@ -1,14 +1,13 @@
 -- The weight of a window's state is its count, so a correction that is kept by the count is the weight's; a slot comes to the double
 -- of its row's answer. Assumes nothing.
-use Rattle.std.proofs.Common.{◌≡◌, ◌≢◌, ℕ, ◌+◌, ◌-◌, ◌^◌, ◌<◌, ◌≤◌, Bool, true, false, cond, eqb, leb, List, ◌++◌, map, length, get_or, take, drop, replicate, sym, refl, ap, ◌∙◌, arith, Option, Some, None, length-take, get_or-set_other, get_or-take, get_or-set_same, eq-eqb, ne_eqb, le-leb, leb-false, leb-true}
+use Rattle.std.proofs.Common.{◌≡◌, ◌≢◌, ℕ, ◌+◌, ◌-◌, ◌^◌, ◌<◌, ◌≤◌, Bool, true, false, cond, eqb, leb, List, ◌++◌, map, length, get_or, take, drop, sym, refl, ap, ◌∙◌, arith, Option, Some, None, length-take, get_or-set_other, get_or-take, get_or-set_same, eq-eqb, ne_eqb, le-leb, leb-false, leb-true}
 use borrow.Author.Tests.{lt-leb}
-use lib.ListN.{length-map, get_or-append, get_or-map, get_or-replicate, drop_of_length-le}
+use lib.ListN.{length-map, get_or-append, get_or-map, drop_of_length-le}
 use mathlib.Core.List.{append-nil}
 use lib.Seq.{take-length}
-use lib.Ieee.{Float, nan, inf, fin, add, sub, mul, div, of_bits}
+use lib.Ieee.{Float, nan, inf, fin, mul, div, of_bits}
 use Rattle.float.specs.Operators.{◌⊗◌, ◌⊘◌, zero64, one64, of_nat64}
 use Rattle.float.specs.Tables.{table}
-use Rattle.float.proofs.Counts.{zero_is}
 use Rattle.float.proofs.Tables.{table_same}
 use Rattle.root.specs.Root.{root, roots_into}
 use Rattle.moment.specs.Figure.{double_of, byte_of}
@@ -220,10 +219,3 @@ finished bias s figures r n m h e =
     rw m
     (table_same _ _ (length figures) (λ i l.
     ap (estimate bias (get_or s.m2s i nan) (get_or s.m3s i nan) (get_or s.factors i nan)) (all_roots s.m2s figures r i h e l)))
-
--- ---- corrections
--- every place holds the count 0
-pub first_places : (i : ℕ) → i < 256
-    → get_or (replicate 256 zero64) i nan ≡ skew_correction (of_nat64 (get_or (replicate {A = ℕ} 256 0) i 0))
-unfolding root add sub mul div of_bits
-first_places i h = rw (get_or-replicate 256 i zero64 nan h, get_or-replicate {A = ℕ} 256 i 0 0 h, ← zero_is) refl

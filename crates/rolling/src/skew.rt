@@ -1,7 +1,7 @@
 // Skewness over moving windows: 001's `SkewMoment`. Its rows are finalised 32 at a time, so that their roots are taken side by side, and
 // rows of one count of readings share a correction.
 ghost use Rattle.std.proofs.Common.{rules};
-ghost use Rattle.std.specs.Prelude.{◌≡◌, ◌<◌, ◌≤◌, ℕ, refl, false, min, length, nat_le, slice_index, slice_index_or, if◌then◌else◌, Option};
+ghost use Rattle.std.specs.Prelude.{◌≡◌, ◌<◌, ◌≤◌, refl, false, min, length, nat_le, slice_index_or, if◌then◌else◌, Option};
 ghost use Rattle.std.specs.Float.{nan};
 ghost use Rattle.float.specs.Operators.{◌⊗◌, of_nat64};
 ghost use Rattle.float.specs.Tables.{table};
@@ -102,13 +102,29 @@ const KEPT: usize = 256;
 // Rows that are finalised together: their roots, taken side by side, hide their time behind one another.
 const BLOCK: usize = 32;
 
-// Corrections that are kept by the count of readings: in each place a count and its correction. Here and in the slots lists stand side by
-// side, not one of structs: roots are taken of a list. Issue 18 takes both away.
+// A count of readings and its correction.
+#[derive(Clone, Copy)]
+struct Correction {
+    count: u64,
+    factor: f64,
+    ghost of_count: { factor ≡ skew_correction (of_nat64 count) },
+}
+
+impl Correction {
+    fn of(count: u64) -> Self
+        ensures { result.count ≡ count }
+    {
+        Correction {
+            count,
+            factor: SkewState::correction(std::num::nearest_u64_to_f64(count)),
+        }
+    }
+}
+
+// Corrections that are kept, each in the place that its count modulo KEPT names.
 #[derive(Drop)]
 struct Corrections {
-    counts: [u64; KEPT],
-    factors: [f64; KEPT],
-    ghost kept: { (i : ℕ) → i < 256 → slice_index_or factors i nan ≡ skew_correction (of_nat64 (slice_index counts i)) },
+    kept: [Correction; KEPT],
 }
 
 impl Corrections {
@@ -118,17 +134,18 @@ impl Corrections {
     {
         let at = valid % KEPT;
         let n = valid as u64;
-        if self.counts[at] == n {
-            return self.factors[at];
+        let kept = self.kept[at];
+        if kept.count == n {
+            return kept.factor;
         }
-        let factor = SkewState::correction(std::num::nearest_u64_to_f64(n));
-        self.counts[at] = n;
-        self.factors[at] = factor;
-        factor
+        let correction = Correction::of(n);
+        self.kept[at] = correction;
+        correction.factor
     }
 }
 
-// What is left of a block's rows to finalise: of each its m2, its m3 and its correction.
+// What is left of a block's rows to finalise: of each its m2, its m3 and its correction. Roots are taken of `m2s` as a list of its own, so
+// that a struct for the other two would leave two lists side by side in place of three.
 #[derive(Drop)]
 struct Slots {
     m2s: [f64; BLOCK],
@@ -314,10 +331,9 @@ impl SkewMoment {
             w: MomentWindow::<SkewState>::new(),
             at: rows.first(n),
         };
-        // Every place holds the count 0, whose correction is 0.0.
+        // Every place opens with the count 0.
         let mut corrections = Corrections {
-            counts: [0; KEPT],
-            factors: [0.0; KEPT],
+            kept: [Correction::of(0); KEPT],
         };
         let mut slots = Slots {
             m2s: [0.0; BLOCK],

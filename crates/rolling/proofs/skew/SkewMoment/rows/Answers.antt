@@ -1,12 +1,8 @@
 -- Block after block the outputs hold the answers of the rows before. Assumes nothing.
 use Rattle.std.proofs.Common.{◌≡◌, ◌+◌, refl, arith}
 use Rattle.trace.specs.Lent.{traced}
-use Rattle.rolling.proofs.Slots.{first_places}
 use Rattle.rolling.proofs.Blocks.{blocks_start, blocks-can, blocks-next, blocks-done}
 use Rattle.rolling.proofs.skew.SkewMoment.rows.Goals as goal
-
-pub invariant_of-corrections : goal.invariant_of-corrections
-invariant_of-corrections c = record { kept = first_places }
 
 pub loop-first-init : goal.loop-first-init
 loop-first-init c = blocks_start _ (traced c.args.x) _ _ _ _ c.requires c.new.ensures.window c.new.ensures.agg_back c.first.ensures
