@@ -4,8 +4,8 @@ ghost use Rattle.std.specs.Prelude.{◌≡◌, ℕ, ◌+◌, ◌<◌, ◌≤◌,
 ghost use lib.Seq.{sets};
 ghost use Rattle.window.specs.Code.Memory.{Layout, reading, pair};
 
-// A value of WIDTH doubles. An `impl` names its members in `store` and in `load`: an array of them, as `From` gives, would be made only to be
-// copied, and `load` would name them all the same.
+// A value of WIDTH doubles. An `impl` names its members in `store` and in `load`: an array of them, as `From` gives, would be made only to
+// be copied, and `load` would name them all the same.
 pub(crate) trait InMemory: Copy {
     ghost WIDTH: { ℕ };
 

@@ -1,6 +1,6 @@
-// 001's `MomentWindow`, over any state, any kind of entry and any series of them. The two stacks lie in the work slice, states of the front
-// stack from its beginning, entries of the back stack from `base` on. Contracts say what a state and its entries are by the members of their
-// traits: a name for it would be a member more in each `impl`, and a law that it is this.
+// 001's `MomentWindow`, over any state, any kind of entry and any series of them. The two stacks lie in the work slice, states of the
+// front stack from its beginning, entries of the back stack from `base` on. Contracts say what a state and its entries are by the members
+// of their traits: a name for it would be a member more in each `impl`, and a law that it is this.
 ghost use Rattle.std.specs.Prelude.{◌≡◌, ℕ, ◌+◌, ◌*◌, ◌^◌, ◌<◌, ◌≤◌, length};
 ghost use Rattle.window.specs.Code.Stacks.{Flippable, Flipped, Appendable, Appended as AppendedTo, empty_at, top_of, state_by};
 ghost use Rattle.window.specs.Code.Stacks.{Trimmable, Trimmed, Extendable, Extended, Movable, Updated, Stepped};

@@ -100,9 +100,10 @@ impl<'a> Rows<'a> {
         }
     }
 
-    // Whether row `row` moves the window. Whether there is a map the places tell, and not the rows. Three tests stay: by one `||` the row is
-    // tested before its length, and covariance without a map takes 1.03 to 1.07 times as long. A row's length stays a difference that `start ≤ end` is asked for: one that is 0 where it would be
-    // negative lengthens the loop of covariance by 65 instructions, and takes 1.03 times as long.
+    // Whether row `row` moves the window. Whether there is a map the places tell, and not the rows. Three tests stay: by one `||` the row
+    // is tested before its length, and covariance without a map takes 1.03 to 1.07 times as long. A row's length stays a difference that
+    // `start ≤ end` is asked for: one that is 0 where it would be negative lengthens the loop of covariance by 65 instructions, and takes
+    // 1.03 times as long.
     pub(crate) fn moves(self, has_map: bool, row: usize, at: Offsets) -> bool
         requires { at.start ≤ at.end }
         ensures { result ≡ moves has_map self.entry.min_periods row at.start at.end }
