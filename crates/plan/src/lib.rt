@@ -5,7 +5,7 @@
 ghost use Rattle.std.specs.Prelude.{◌≡◌, ◌*◌, nat_lt};
 ghost use Rattle.trace.specs.Outcomes.{outcome_number};
 ghost use Rattle.plan.specs.Plan.{planned};
-ghost use Rattle.plan.specs.Code.Accepted.{ChecksPlan, ChecksWindows, WidestOf};
+ghost use Rattle.plan.specs.Code.Accepted.{Checks, ChecksFixed, ChecksPlan, ChecksWindows, WidestOf};
 
 use trace::Refusal;
 
@@ -77,4 +77,65 @@ pub fn check_fixed(
     let widest = windows.widest(n);
     Refusal::WorkTooShort.when(is_too_little(work, width, widest))?;
     Ok(widest)
+}
+
+// A call's number, or 0, and its widest window.
+#[derive(Clone, Copy)]
+pub struct Checked {
+    pub number: u32,
+    pub widest: usize,
+}
+
+// `check_plan` by numbers: of any number of what is given, and with the widest window where the lists that are lent refuse the call too.
+pub fn plan_refusal(
+    given: u32,
+    plan: Plan,
+    n: usize,
+    short: bool,
+    outputs: usize,
+    width: usize,
+    work: usize,
+) -> Checked
+    ensures { Checks given (planned plan.entry) n short outputs width work result.number result.widest }
+{
+    if given != 0 {
+        return Checked {
+            number: given,
+            widest: 0,
+        };
+    }
+    let rows = plan.starts.len();
+    match plan.widest(n) {
+        Err(refusal) => Checked {
+            number: u32::from(refusal),
+            widest: 0,
+        },
+        Ok(widest) => Checked {
+            number: trace::first(
+                trace::refuse(12, short | (outputs < rows)),
+                trace::refuse(13, is_too_little(work, width, widest)),
+            ),
+            widest,
+        },
+    }
+}
+
+// The same for fixed windows over n places, trailing or centred alike.
+pub fn fixed_refusal(
+    given: u32,
+    windows: Fixed,
+    n: usize,
+    outputs: usize,
+    width: usize,
+    work: usize,
+) -> Checked
+    ensures { ChecksFixed given n windows.window_size outputs width work result.number result.widest }
+{
+    let widest = windows.window_size.min(n);
+    let outputs = trace::refuse(12, outputs < n);
+    let work = trace::refuse(13, is_too_little(work, width, widest));
+    Checked {
+        number: trace::first(trace::first(given, outputs), work),
+        widest,
+    }
 }

@@ -10,7 +10,7 @@ ghost use Rattle.trace.specs.Lent.{mapped, bytes_of, traced, MapAs, LentAs};
 
 mod refusals;
 
-pub use refusals::{Refusal, number};
+pub use refusals::{Refusal, first, number, refuse};
 
 // The most readings that a trace may have.
 pub const MAX_READINGS: usize = 16777216;

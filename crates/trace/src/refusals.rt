@@ -1,7 +1,7 @@
 // Document 01, "Who can cause a refusal", its term for an error.
 ghost use Rattle.std.specs.Prelude.{◌≡◌};
 ghost use Rattle.trace.specs.Outcomes.{number_of, outcome_number};
-ghost use Rattle.trace.specs.Refusals.{refusal};
+ghost use Rattle.trace.specs.Refusals.{refusal, ◌or_else◌};
 
 // Why a call is refused, with document 01's number.
 #[derive(Clone, Copy, Debug, PartialEq, Eq)]
@@ -48,4 +48,19 @@ pub fn number(outcome: Result<(), Refusal>) -> u32
         Ok(()) => 0,
         Err(refusal) => u32::from(refusal),
     }
+}
+
+// The same by numbers, of any number and not document 01's alone: a number where its condition holds, else 0.
+#[tactic(auto, unfolding(crate::specs::Refusals::refusal))]
+pub fn refuse(number: u32, holds: bool) -> u32
+    ensures { result ≡ refusal number holds }
+{
+    if holds { number } else { 0 }
+}
+
+// The first of two numbers that is not 0, or 0.
+pub fn first(a: u32, b: u32) -> u32
+    ensures { result ≡ a or_else b }
+{
+    if a == 0 { b } else { a }
 }

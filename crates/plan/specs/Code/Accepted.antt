@@ -1,10 +1,11 @@
 -- What the code knows of a plan that is accepted. Assumes nothing.
-use Rattle.std.specs.Prelude.{◌≡◌, ℕ, ◌+◌, ◌-◌, ◌*◌, ◌<◌, ◌≤◌, min, Bool, false, List, length, Option, Result, IfSome, IfOk}
+use Rattle.std.specs.Prelude.{◌≡◌, ℕ, ◌+◌, ◌-◌, ◌*◌, ◌<◌, ◌≤◌, min, Bool, false, cond, List, length, ◌==◌, Option, Result, IfSome, IfOk}
 use Rattle.trace.specs.Outcomes.{outcome_number}
+use Rattle.trace.specs.Refusals.{refusal, ◌or_else◌}
 use Rattle.trace.specs.declared.refusals.Refusal.{Refusal}
 use Rattle.plan.specs.Plan.{Plan, rows, row_start, row_end}
 use Rattle.plan.specs.Bounds.{bounds}
-use Rattle.plan.specs.Refusals.{rows_refusal, listed_refusal, widest, plan_refusal, fixed_refusal}
+use Rattle.plan.specs.Refusals.{wrong_lists, rows_refusal, listed_refusal, widest, plan_refusal, fixed_refusal}
 
 -- an accepted plan over n places, with no window wider than `wide`
 pub record Planned (n wide : ℕ) (p : Plan) : Type 0 where
@@ -37,6 +38,26 @@ pub record ChecksWindows (given n size outputs width work : ℕ) (result : Resul
   pub number_is : outcome_number result ≡ fixed_refusal given n size outputs width work
   pub wide_is : IfOk result (λ wide. wide ≡ min size n)
   pub accepted : (center : Bool) → IfOk result (λ wide. Accepted given (bounds center size n) n false outputs width work wide)
+
+-- the number of a call as far as its plan tells, before the lists that it is lent are looked at
+abbrev pub plan_number : ℕ → Plan → ℕ → ℕ
+plan_number given p n = given or_else refusal 4 (wrong_lists p) or_else rows_refusal n p (rows p)
+
+-- the widest window where a number is 0, else 0
+abbrev pub widest_where : ℕ → Plan → ℕ
+widest_where number p = cond (number == 0) (widest p (rows p)) 0
+
+-- what a check of a call answers by numbers: its own, and the widest window of a plan that is not refused itself
+pub record Checks (given : ℕ) (p : Plan) (n : ℕ) (short : Bool) (outputs width work number wide : ℕ) : Type 0 where
+  pub number_is : number ≡ plan_refusal given p n short outputs width work
+  pub wide_is : wide ≡ widest_where (plan_number given p n) p
+  pub accepted : number ≡ 0 → Accepted given p n short outputs width work wide
+
+-- the same for fixed windows, trailing and centred
+pub record ChecksFixed (given n size outputs width work number wide : ℕ) : Type 0 where
+  pub number_is : number ≡ fixed_refusal given n size outputs width work
+  pub wide_is : wide ≡ min size n
+  pub accepted : number ≡ 0 → (center : Bool) → Accepted given (bounds center size n) n false outputs width work wide
 
 -- what a scan of a plan's rows answers: what refuses them, or the widest window
 pub record ScansRows (n : ℕ) (p : Plan) (result : Result ℕ Refusal) : Type 0 where
