@@ -66,6 +66,14 @@ impl Series<f64> for Raw<'_> {
     fn entry(self, i: usize) -> f64 {
         self.0.values[i]
     }
+
+    fn holds_nonfinite(self, i: usize) -> bool {
+        self.0.holds_nonfinite(i)
+    }
+
+    fn value(self, i: usize) -> f64 {
+        self.entry(i)
+    }
 }
 
 #[derive(Clone, Copy)]

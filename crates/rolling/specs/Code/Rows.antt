@@ -1,5 +1,5 @@
 -- What the row loops of every moment say of a call's rows: where they may begin, and what they leave. Assumes nothing.
-use Rattle.std.specs.Prelude.{◌≡◌, ℕ, ◌+◌, ◌-◌, ◌*◌, ◌^◌, ◌<◌, ◌≤◌, min, Bool, false, List, [], ◌∷◌, length, Float}
+use Rattle.std.specs.Prelude.{◌≡◌, ℕ, ◌+◌, ◌-◌, ◌*◌, ◌^◌, ◌<◌, ◌≤◌, min, Bool, true, false, List, [], ◌∷◌, length, Float}
 use Rattle.trace.specs.Slices.{MutSlice, entering_mut, leaving}
 use Rattle.moment.specs.declared.Figure.{Figure}
 use Rattle.plan.specs.Plan.{Plan, rows, row_start, row_end, planned}
@@ -30,6 +30,17 @@ both_have xs ys = min (length xs) (length ys)
 pub record Range (a b n : ℕ) : Type 0 where
   pub rises : a ≤ b
   pub inside : b ≤ n
+
+-- a valid place, of n
+pub record ValidPlace (t : Places) (n i : ℕ) : Type 0 where
+  pub inside : i < n
+  pub valid : t.valid i ≡ true
+
+-- and one that holds what is finite
+pub record FinitePlace (t : Places) (n i : ℕ) : Type 0 where
+  pub inside : i < n
+  pub valid : t.valid i ≡ true
+  pub finite : t.nonfinite i ≡ false
 
 -- a range that leaves a window with so many entries that are not finite: where there are none, the range has none
 pub record LeavingRange (t : Places) (a b n nonfinite : ℕ) : Type 0 where
