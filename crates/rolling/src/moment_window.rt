@@ -47,6 +47,13 @@ pub(crate) struct MomentWindow<S> {
     pub(crate) agg_back: S,
 }
 
+// What stands before a row: the window, and the row's bounds.
+#[derive(Clone, Copy)]
+pub(crate) struct Standing<S> {
+    pub(crate) w: MomentWindow<S>,
+    pub(crate) at: Offsets,
+}
+
 // The back stack grown: how many entries stand in it, how many in the window are not finite, and its state.
 #[derive(Clone, Copy)]
 pub(crate) struct Appended<S> {

@@ -150,6 +150,13 @@ Works M final t n r first until work₀ figures₀ present₀ w agg work figures
     WorksColumns M t n r ((λ k. row_answer M final t n r k) ∷ []) first until work₀ (column figures₀ present₀ ∷ [])
     w agg work (column figures present ∷ [])
 
+-- what the rows from `first` up to `until` of one figure leave, and what stands behind them
+pub record WorksBlock {A : Type 0} (M : Stored Float A) (final : M.moment.State → Figure) (t : Series A) (n : ℕ) (r : Rows)
+    (first until : ℕ) (work figures : MutSlice Float) (present : MutSlice ℕ) (at : Offsets) (w : Window) (agg : M.moment.State) : Type 0 where
+  pub ahead : Ahead (plan_by r n) until at
+  pub works : Works M final t n r first until (entering_mut work) (entering_mut figures) (entering_mut present) w agg
+      (leaving work) (leaving figures) (leaving present)
+
 -- the length of the shortest of three figures' lists
 abbrev pub shortest_three : List Float → List ℕ → List Float → List ℕ → List Float → List ℕ → ℕ
 shortest_three d b d' b' d'' b'' = shortest_of (answer_lengths (column d b ∷ column d' b' ∷ column d'' b'' ∷ []))
