@@ -244,6 +244,15 @@ columns_left M fs t n {outputs = outputs} {r} {work₀} e d v h =
     let d' : Driven r n outputs (place_width M) (length work₀) = rw e d in
     (rows-columns M t n r d' fs refl v h, rows-kept M t n r d' v.worked)
 
+-- the same of the block of all rows
+pub lists_left : {A : Type 0} (M : Stored Float A) (fs : List (ℕ → Figure)) (t : Series A) {n n' until outputs : ℕ} {r : Rows}
+    {work₀ : List Float} → n ≡ n' → Driven r n' outputs (place_width M) (length work₀) → until ≡ rows (plan_by r n) → {w : Window}
+    {agg : M.moment.State} {work : List Float} {cs₀ cs : List Column} → WorksColumns M t n' r fs 0 until work₀ cs₀ w agg work cs
+    → outputs ≤ shortest_of (answer_lengths cs₀)
+    → (cs ≡ answered 0 (rows (plan_by r n')) fs cs₀) × kept 0 (needed (place_width M) (plan_by r n')) work₀ work
+lists_left M fs t {n' = n'} {r = r} e d u v h =
+    (rows-columns M t n' r d fs (u ∙ ap (λ (m : ℕ). rows (plan_by r m)) e) v h, rows-kept M t n' r d v.worked)
+
 -- the rows of one figure, all worked, are what a call leaves of it
 pub figure_left : {A : Type 0} (M : Stored Float A) (final : M.moment.State → Figure) (t : Series A) (n : ℕ) {n' : ℕ} {r : Rows}
     {work₀ figures₀ : List Float} {present₀ : List ℕ} → n ≡ n'

@@ -1,5 +1,6 @@
 -- What the row loops of every moment say of a call's rows: where they may begin, and what they leave. Assumes nothing.
 use Rattle.std.specs.Prelude.{◌≡◌, ℕ, ◌+◌, ◌-◌, ◌*◌, ◌^◌, ◌<◌, ◌≤◌, min, Bool, true, false, List, [], ◌∷◌, length, Float}
+use Rattle.trace.specs.Trace.{Trace}
 use Rattle.trace.specs.Slices.{MutSlice, entering_mut, leaving}
 use Rattle.moment.specs.declared.Figure.{Figure}
 use Rattle.plan.specs.Plan.{Plan, rows, row_start, row_end, planned}
@@ -11,6 +12,7 @@ use Rattle.plan.specs.declared.bounds.Offsets.{Offsets}
 use Rattle.window.specs.Places.{Places, Series, nonfinite_count}
 use Rattle.window.specs.Rows.{answer_at}
 use Rattle.window.specs.Code.Memory.{Stored}
+use Rattle.window.specs.Code.Widening.{raw_series}
 use Rattle.window.specs.Outputs.{Column, Lent, column, answered, kept, shortest_of, answer_lengths}
 use Rattle.window.specs.Code.Stacks.{Counted, Tallied, Workable, Worked, place_width}
 use Rattle.window.specs.Code.Filling.{ColumnsFill}
@@ -156,6 +158,16 @@ pub record WorksBlock {A : Type 0} (M : Stored Float A) (final : M.moment.State 
   pub ahead : Ahead (plan_by r n) until at
   pub works : Works M final t n r first until (entering_mut work) (entering_mut figures) (entering_mut present) w agg
       (leaving work) (leaving figures) (leaving present)
+
+-- the same of several row functions, whose lists are lent together
+pub record WorksLists {A : Type 0} (M : Stored Float A) (t : Series A) (n : ℕ) (r : Rows) (fs : List (ℕ → Figure)) (first until : ℕ)
+    (l : Lent × Lent) (at : Offsets) (w : Window) (agg : M.moment.State) : Type 0 where
+  pub ahead : Ahead (plan_by r n) until at
+  pub works : WorksColumns M t n r fs first until l.0.work l.0.outputs.answers w agg l.1.work l.1.outputs.answers
+
+-- the readings of a trace as they are
+abbrev pub raw_of : Trace → Series Float
+raw_of t = raw_series t.mapped t.map t.readings
 
 -- the length of the shortest of three figures' lists
 abbrev pub shortest_three : List Float → List ℕ → List Float → List ℕ → List Float → List ℕ → ℕ
