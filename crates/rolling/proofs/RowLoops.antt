@@ -1,6 +1,6 @@
 -- The loops over rows, for any moment and any kind of entry: a row's bounds, its step and its answer go from row to row, and from the first row to
 -- the last they leave what a call leaves. Assumes nothing.
-use Rattle.std.proofs.Common.{◌≡◌, ℕ, ◌+◌, ◌*◌, ◌^◌, ◌<◌, ◌≤◌, min, List, [], ◌∷◌, length, sym, refl, ◌∙◌, subst, le_refl, arith}
+use Rattle.std.proofs.Common.{◌≡◌, ℕ, ◌+◌, ◌*◌, ◌^◌, ◌<◌, ◌≤◌, min, List, [], ◌∷◌, length, sym, refl, ◌∙◌, ap, subst, le_refl, arith}
 use lib.Ieee.{Float}
 use Rattle.moment.specs.declared.Figure.{Figure}
 use Rattle.plan.specs.Plan.{Plan, rows}
@@ -73,6 +73,12 @@ module _ {A : Type 0} (M : Stored Float A) (t : Series A) (n : ℕ) (r : Rows) (
 
     module _ {w : Window} {agg : M.moment.State} {at : Offsets} {work : List Float} {cs : List Column} {k : ℕ}
         (v : ColumnTurn w agg at work cs k) where
+      pub columns-end : until ≤ k → Ahead p until at
+      columns-end h =
+          let high = v.working.high in
+          let e : k ≡ until = omega arith in
+          subst (λ (j : ℕ). Ahead p j at) e v.ahead
+
       pub columns-done : until ≤ k → WorksColumns M t n r fs first until work₀ cs₀ w agg work cs
       columns-done h =
           let u = v.working.high in
@@ -143,6 +149,9 @@ module _ {A : Type 0} (M : Stored Float A) (final : M.moment.State → Figure) (
 
     module _ {w : Window} {agg : M.moment.State} {at : Offsets} {work figures : List Float} {present : List ℕ} {k : ℕ}
         (v : Turn w agg at work figures present k) where
+      pub turn-end : until ≤ k → Ahead (plan_by r n) until at
+      turn-end h = columns-end M t n r fs first until work₀ cs₀ can v h
+
       pub turn-done : until ≤ k → Works M final t n r first until work₀ figures₀ present₀ w agg work figures present
       turn-done h = columns-done M t n r fs first until work₀ cs₀ can v h
 
@@ -213,6 +222,18 @@ pub opened : {A : Type 0} (M : Stored Float A) (t : Series A) (n : ℕ) {n' outp
     → {at : Offsets} → Ahead (plan_by r n) 0 at → CanWork M t n r outputs 0 (rows (plan_by r n)) at w agg work₀
 opened M t n {r = r} e d g f h = rows-can M t n r (rw e d) g f refl h
 
+-- where the rows of a block may be worked, of a count of places that is the series's own
+pub told : {A : Type 0} (M : Stored Float A) (t : Series A) {n n' outputs first until : ℕ} {r : Rows} {at : Offsets} {w : Window}
+    {agg : M.moment.State} {work : List Float} → n ≡ n' → CanWork M t n' r outputs first until at w agg work
+    → CanWork M t n r outputs first until at w agg work
+told M t e can = rw e can
+
+-- the block of all rows, from a fresh window on
+pub opened_block : {A : Type 0} (M : Stored Float A) (t : Series A) {n n' outputs until : ℕ} {r : Rows} {work₀ : List Float} → n ≡ n'
+    → Driven r n' outputs (place_width M) (length work₀) → {w : Window} {agg : M.moment.State} → w ≡ empty_at 0 → agg ≡ M.moment.empty
+    → until ≡ rows (plan_by r n) → {at : Offsets} → Ahead (plan_by r n) 0 at → CanWork M t n' r outputs 0 until at w agg work₀
+opened_block M t {n} {r = r} e d g f u h = rw (← e) (rows-can M t n r (rw e d) g f u h)
+
 -- the rows of several row functions, all worked
 pub columns_left : {A : Type 0} (M : Stored Float A) (fs : List (ℕ → Figure)) (t : Series A) (n : ℕ) {n' outputs : ℕ} {r : Rows}
     {work₀ : List Float} → n ≡ n' → Driven r n' outputs (place_width M) (length work₀) → {w : Window} {agg : M.moment.State}
@@ -222,6 +243,15 @@ pub columns_left : {A : Type 0} (M : Stored Float A) (fs : List (ℕ → Figure)
 columns_left M fs t n {outputs = outputs} {r} {work₀} e d v h =
     let d' : Driven r n outputs (place_width M) (length work₀) = rw e d in
     (rows-columns M t n r d' fs refl v h, rows-kept M t n r d' v.worked)
+
+-- the same of the block of all rows
+pub lists_left : {A : Type 0} (M : Stored Float A) (fs : List (ℕ → Figure)) (t : Series A) {n n' until outputs : ℕ} {r : Rows}
+    {work₀ : List Float} → n ≡ n' → Driven r n' outputs (place_width M) (length work₀) → until ≡ rows (plan_by r n) → {w : Window}
+    {agg : M.moment.State} {work : List Float} {cs₀ cs : List Column} → WorksColumns M t n' r fs 0 until work₀ cs₀ w agg work cs
+    → outputs ≤ shortest_of (answer_lengths cs₀)
+    → (cs ≡ answered 0 (rows (plan_by r n')) fs cs₀) × kept 0 (needed (place_width M) (plan_by r n')) work₀ work
+lists_left M fs t {n' = n'} {r = r} e d u v h =
+    (rows-columns M t n' r d fs (u ∙ ap (λ (m : ℕ). rows (plan_by r m)) e) v h, rows-kept M t n' r d v.worked)
 
 -- the rows of one figure, all worked, are what a call leaves of it
 pub figure_left : {A : Type 0} (M : Stored Float A) (final : M.moment.State → Figure) (t : Series A) (n : ℕ) {n' : ℕ} {r : Rows}
@@ -237,3 +267,14 @@ figure_left M final t n {r = r} {work₀} {figures₀} {present₀} e d v =
       answers_are = rows-columns M t n r d' ((λ k. row_answer M final t n r k) ∷ []) refl v (le_refl _);
       work_kept = rows-kept M t n r d' v.worked;
     })
+
+-- the same of the block of all rows
+pub block_left : {A : Type 0} (M : Stored Float A) (final : M.moment.State → Figure) (t : Series A) {n n' until : ℕ} {r : Rows}
+    {work₀ figures₀ : List Float} {present₀ : List ℕ} → n ≡ n'
+    → Driven r n' (min (length figures₀) (length present₀)) (place_width M) (length work₀) → until ≡ rows (plan_by r n)
+    → {w : Window} {agg : M.moment.State} {work figures : List Float} {present : List ℕ}
+    → Works M final t n' r 0 until work₀ figures₀ present₀ w agg work figures present
+    → LeavesFigure M final t n' r work₀ work (column figures₀ present₀) (column figures present)
+block_left M final t {n' = n'} {r = r} {work₀} {figures₀} {present₀} e d u {w} {agg} {work} {figures} {present} v =
+    figure_left M final t n' refl d
+    (subst (λ (j : ℕ). Works M final t n' r 0 j work₀ figures₀ present₀ w agg work figures present) (u ∙ ap (λ (m : ℕ). rows (plan_by r m)) e) v)

@@ -4,18 +4,50 @@ ghost use Rattle.trace.specs.Outcomes.{outcome_number};
 ghost use Rattle.plan.specs.Plan.{planned};
 ghost use Rattle.window.specs.Code.Stacks.{place_width};
 ghost use Rattle.rolling.specs.Code.Ops.{stored_by, series_by};
-ghost use Rattle.rolling.specs.Code.Rows.{Driven, GivesFigure, PlanGives, FixedGives};
+ghost use Rattle.rolling.specs.Code.Rows.{Driven, CanWork, WorksBlock, GivesFigure, PlanGives, FixedGives};
 
 use crate::memory::InMemory;
-use crate::moment_window::{MomentWindow, WindowState};
+use crate::moment_window::{MomentWindow, Standing, WindowState};
 use crate::row::{self, Finalize, Rows};
 use crate::series::Series;
 use plan::{Fixed, Plan};
 use trace::Refusal;
 
-// From a fresh window on, each row is a step, an answer, and its two places in the lists. The next row's bounds are told before the row is
+// The rows from `first` up to `until`, from what stands before the first to what stands behind the last: so rows can be driven from the
+// middle of a plan. Each row is a step, an answer, and its two places in the lists. The next row's bounds are told before the row is
 // worked, which was measured to be quicker than after it.
-pub(crate) fn rows<S: WindowState, T: Series<S::Entry>, F: Finalize<S>>(
+fn block<S: WindowState, T: Series<S::Entry>, F: Finalize<S>>(
+    moment: F,
+    rows: Rows,
+    series: T,
+    work: &mut [f64],
+    figures: &mut [f64],
+    present: &mut [u8],
+    opening: Standing<S>,
+    first: usize,
+    until: usize,
+) -> Standing<S>
+    requires { CanWork (stored_by S.Entry.layout S.layout S.ops) (series_by (T.places series) (T.entries series)) (T.have series) rows
+        (min (length figures.old) (length present.old)) first until opening.at opening.w.window opening.w.agg_back work.old }
+    ensures { WorksBlock (stored_by S.Entry.layout S.layout S.ops) (F.finalize moment) (series_by (T.places series) (T.entries series))
+        (T.have series) rows.entry first until work figures present result.at result.w.window result.w.agg_back }
+{
+    let n = series.len();
+    let mut w = opening.w;
+    let mut next = opening.at;
+    for row in first..until {
+        let at = next;
+        next = rows.next(n, row, at);
+        w = w.step(work, rows, series, row, at);
+        let state = w.total(work);
+        let figure = rows.answer(moment, state, w.window, series.is_mapped(), at);
+        row::write(figures, present, row, figure);
+    }
+    Standing { w, at: next }
+}
+
+// Every row of an accepted plan, or of fixed windows: from a fresh window on.
+fn rows<S: WindowState, T: Series<S::Entry>, F: Finalize<S>>(
     moment: F,
     rows: Rows,
     series: T,
@@ -29,16 +61,21 @@ pub(crate) fn rows<S: WindowState, T: Series<S::Entry>, F: Finalize<S>>(
         (T.have series) rows.entry work figures present }
 {
     let n = series.len();
-    let mut w = MomentWindow::<S>::new();
-    let mut next = rows.first(n);
-    for row in 0..rows.len(n) {
-        let at = next;
-        next = rows.next(n, row, at);
-        w = w.step(work, rows, series, row, at);
-        let state = w.total(work);
-        let figure = rows.answer(moment, state, w.window, series.is_mapped(), at);
-        row::write(figures, present, row, figure);
-    }
+    let opening = Standing {
+        w: MomentWindow::<S>::new(),
+        at: rows.first(n),
+    };
+    block(
+        moment,
+        rows,
+        series,
+        work,
+        figures,
+        present,
+        opening,
+        0,
+        rows.len(n),
+    );
 }
 
 // A plan call of one figure: what refuses it, else its rows. Variance and skewness have this frame too, each with its own rows and

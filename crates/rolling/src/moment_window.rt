@@ -47,6 +47,13 @@ pub(crate) struct MomentWindow<S> {
     pub(crate) agg_back: S,
 }
 
+// What stands before a row: the window, and the row's bounds.
+#[derive(Clone, Copy)]
+pub(crate) struct Standing<S> {
+    pub(crate) w: MomentWindow<S>,
+    pub(crate) at: Offsets,
+}
+
 // The back stack grown: how many entries stand in it, how many in the window are not finite, and its state.
 #[derive(Clone, Copy)]
 pub(crate) struct Appended<S> {
@@ -81,11 +88,12 @@ impl<S: WindowState> Appended<S> {
         let mut appended = self;
         for i in a..b {
             if series.is_valid(i) {
-                // Two arms that say the same: a branch that is rarely taken costs less than an entry that is chosen.
-                appended = if series.is_nonfinite(i) {
+                // What a place holds is tested once: by an entry that tests again what is known, or is chosen where a branch is rarely
+                // taken, covariance over fixed windows takes 1.04 times as long.
+                appended = if series.holds_nonfinite(i) {
                     appended.push(back, series.entry(i), 1)
                 } else {
-                    appended.push(back, series.entry(i), 0)
+                    appended.push(back, series.value(i), 0)
                 };
             }
         }

@@ -63,4 +63,13 @@ impl Series<(f64, f64)> for Pair<'_> {
         let y = self.y.values[i];
         if is_finite(x, y) { (x, y) } else { (0.0, 0.0) }
     }
+
+    #[tactic(auto, unfolding(window::specs::Pairs::nonfinite_pair))]
+    fn holds_nonfinite(self, i: usize) -> bool {
+        !is_finite(self.x.values[i], self.y.values[i])
+    }
+
+    fn value(self, i: usize) -> (f64, f64) {
+        (self.x.values[i], self.y.values[i])
+    }
 }

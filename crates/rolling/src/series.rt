@@ -7,6 +7,7 @@ ghost use Rattle.trace.specs.Outcomes.{outcome_number};
 ghost use Rattle.trace.proofs.Accepted.{few_readings};
 ghost use Rattle.window.specs.Places.{Places as PlacesOf};
 ghost use Rattle.window.specs.Readings.{places_by, nonfinite_at, inserted_at};
+ghost use Rattle.rolling.specs.Code.Rows.{ValidPlace, FinitePlace};
 
 use trace::{Refusal, Trace};
 
@@ -49,6 +50,16 @@ pub(crate) trait Series<E>: Places {
     // What is inserted of place i.
     fn entry(self, i: usize) -> E
         requires { i < Self.have self }
+        ensures { result ≡ entries self i };
+
+    // Whether what a valid place holds is not finite: whether it is valid is not asked again.
+    fn holds_nonfinite(self, i: usize) -> bool
+        requires { ValidPlace (Self.places self) (Self.have self) i }
+        ensures { result ≡ (Self.places self).nonfinite i };
+
+    // What a valid place holds, where that is finite: it is what is inserted, and is not tested again.
+    fn value(self, i: usize) -> E
+        requires { FinitePlace (Self.places self) (Self.have self) i }
         ensures { result ≡ entries self i };
 }
 
@@ -95,5 +106,14 @@ impl Series<f64> for Trace<'_> {
     fn entry(self, i: usize) -> f64 {
         let x = self.values[i];
         if float::is_finite(x) { x } else { 0.0 }
+    }
+
+    #[tactic(auto, unfolding(window::specs::Readings::nonfinite_at))]
+    fn holds_nonfinite(self, i: usize) -> bool {
+        !float::is_finite(self.values[i])
+    }
+
+    fn value(self, i: usize) -> f64 {
+        self.values[i]
     }
 }

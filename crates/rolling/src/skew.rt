@@ -23,7 +23,7 @@ ghost use Rattle.rolling.specs.Code.Slots.{m3_of, least_of, estimate, double_at,
 ghost use Rattle.rolling.specs.Code.Slots.{CanPend, SlotHolds, slot_set, CanFill, BlockFilled};
 
 use crate::memory::InMemory;
-use crate::moment_window::{MomentWindow, WindowState};
+use crate::moment_window::{MomentWindow, Standing, WindowState};
 use crate::row::Rows;
 use crate::series::Places;
 use moment::SkewState;
@@ -205,13 +205,6 @@ impl Slots {
     }
 }
 
-// What stands before a row: the window, and the row's bounds.
-#[derive(Clone, Copy)]
-struct Standing {
-    w: MomentWindow<SkewState>,
-    at: Offsets,
-}
-
 impl SkewMoment {
     // Doubles of a place of the window, in both stacks.
     pub const PLACE: usize = SkewState::WIDTH + f64::WIDTH;
@@ -289,12 +282,12 @@ impl SkewMoment {
         x: Trace,
         work: &mut [f64],
         present: &mut [u8],
-        opening: Standing,
+        opening: Standing<SkewState>,
         first: usize,
         until: usize,
         corrections: &mut Corrections,
         slots: &mut Slots,
-    ) -> Standing
+    ) -> Standing<SkewState>
         requires { CanFill (traced x) rows (length present.old) first until opening.at opening.w.window opening.w.agg_back work.old }
         ensures { BlockFilled self.bias (traced x.entry) rows.entry first until work.old present.old
             result.at result.w.window result.w.agg_back work.new present.new slots.new }

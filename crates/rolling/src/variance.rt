@@ -8,13 +8,14 @@ ghost use Rattle.moment.specs.Var.{var_finalize};
 ghost use Rattle.plan.specs.Plan.{planned};
 ghost use Rattle.window.specs.Readings.{nonfinite_at, reading_of};
 ghost use Rattle.rolling.specs.Moments.{Variance};
-ghost use Rattle.rolling.specs.Calls.{query, lending_three, Calls};
+ghost use Rattle.rolling.specs.Calls.{query, yields, lending_three, Calls};
 ghost use Rattle.rolling.specs.Fixed.{CallsFixed};
-ghost use Rattle.rolling.specs.Code.Rows.{shortest_three, driven_query, Leaves, Driven};
+ghost use Rattle.rolling.specs.Code.Layouts.{var_stored};
+ghost use Rattle.rolling.specs.Code.Rows.{shortest_three, driven_query, raw_of, Leaves, Driven, CanWork, WorksLists};
 
 use crate::extremes::{VarExtremes, extreme};
 use crate::memory::InMemory;
-use crate::moment_window::MomentWindow;
+use crate::moment_window::{MomentWindow, Standing};
 use crate::row::{self, Finalize, Rows};
 use crate::series::{Places, Series};
 use moment::Figure;
@@ -66,6 +67,14 @@ impl Series<f64> for Raw<'_> {
     fn entry(self, i: usize) -> f64 {
         self.0.values[i]
     }
+
+    fn holds_nonfinite(self, i: usize) -> bool {
+        self.0.holds_nonfinite(i)
+    }
+
+    fn value(self, i: usize) -> f64 {
+        self.entry(i)
+    }
 }
 
 #[derive(Clone, Copy)]
@@ -104,8 +113,48 @@ impl VarianceMoment {
             .min(highest_present)
     }
 
-    // Every row of an accepted plan, or of fixed windows. The next row's bounds are told before the row is worked, which was measured to be
-    // quicker than after it.
+    // The rows from `first` up to `until`, from what stands before the first to what stands behind the last, as in the other moments.
+    fn block(
+        self,
+        rows: Rows,
+        x: Trace,
+        work: &mut [f64],
+        figures: &mut [f64],
+        present: &mut [u8],
+        lowest: &mut [f64],
+        lowest_present: &mut [u8],
+        highest: &mut [f64],
+        highest_present: &mut [u8],
+        opening: Standing<VarExtremes>,
+        first: usize,
+        until: usize,
+    ) -> Standing<VarExtremes>
+        requires { CanWork var_stored (raw_of (traced x)) (length (traced x).readings) rows
+            (shortest_three figures.old present.old lowest.old lowest_present.old highest.old highest_present.old) first until
+            opening.at opening.w.window opening.w.agg_back work.old }
+        ensures { WorksLists var_stored (raw_of (traced x.entry)) (length (traced x.entry).readings) rows.entry
+            (yields (driven_query rows.entry (length (traced x.entry).readings) (Variance self.ddof)) (traced x.entry)) first until
+            (lending_three work figures present lowest lowest_present highest highest_present) result.at result.w.window result.w.agg_back }
+    {
+        let n = x.len();
+        let mapped = x.is_mapped();
+        let mut w = opening.w;
+        let mut next = opening.at;
+        for row in first..until {
+            let at = next;
+            next = rows.next(n, row, at);
+            w = w.step(work, rows, Raw(x), row, at);
+            let state = w.total(work);
+            let figure = rows.answer(self, state, w.window, mapped, at);
+            row::write(figures, present, row, figure);
+            let short = rows.is_short(mapped, at);
+            row::write(lowest, lowest_present, row, extreme(state.lowest, short));
+            row::write(highest, highest_present, row, extreme(state.highest, short));
+        }
+        Standing { w, at: next }
+    }
+
+    // Every row of an accepted plan, or of fixed windows: from a fresh window on.
     fn rows(
         self,
         rows: Rows,
@@ -124,20 +173,24 @@ impl VarianceMoment {
             (lending_three work figures present lowest lowest_present highest highest_present) }
     {
         let n = x.len();
-        let mapped = x.is_mapped();
-        let mut w = MomentWindow::<VarExtremes>::new();
-        let mut next = rows.first(n);
-        for row in 0..rows.len(n) {
-            let at = next;
-            next = rows.next(n, row, at);
-            w = w.step(work, rows, Raw(x), row, at);
-            let state = w.total(work);
-            let figure = rows.answer(self, state, w.window, mapped, at);
-            row::write(figures, present, row, figure);
-            let short = rows.is_short(mapped, at);
-            row::write(lowest, lowest_present, row, extreme(state.lowest, short));
-            row::write(highest, highest_present, row, extreme(state.highest, short));
-        }
+        let opening = Standing {
+            w: MomentWindow::<VarExtremes>::new(),
+            at: rows.first(n),
+        };
+        self.block(
+            rows,
+            x,
+            work,
+            figures,
+            present,
+            lowest,
+            lowest_present,
+            highest,
+            highest_present,
+            opening,
+            0,
+            rows.len(n),
+        );
     }
 }
 

@@ -1,5 +1,6 @@
 -- What the row loops of every moment say of a call's rows: where they may begin, and what they leave. Assumes nothing.
-use Rattle.std.specs.Prelude.{◌≡◌, ℕ, ◌+◌, ◌-◌, ◌*◌, ◌^◌, ◌<◌, ◌≤◌, min, Bool, false, List, [], ◌∷◌, length, Float}
+use Rattle.std.specs.Prelude.{◌≡◌, ℕ, ◌+◌, ◌-◌, ◌*◌, ◌^◌, ◌<◌, ◌≤◌, min, Bool, true, false, List, [], ◌∷◌, length, Float}
+use Rattle.trace.specs.Trace.{Trace}
 use Rattle.trace.specs.Slices.{MutSlice, entering_mut, leaving}
 use Rattle.moment.specs.declared.Figure.{Figure}
 use Rattle.plan.specs.Plan.{Plan, rows, row_start, row_end, planned}
@@ -11,6 +12,7 @@ use Rattle.plan.specs.declared.bounds.Offsets.{Offsets}
 use Rattle.window.specs.Places.{Places, Series, nonfinite_count}
 use Rattle.window.specs.Rows.{answer_at}
 use Rattle.window.specs.Code.Memory.{Stored}
+use Rattle.window.specs.Code.Widening.{raw_series}
 use Rattle.window.specs.Outputs.{Column, Lent, column, answered, kept, shortest_of, answer_lengths}
 use Rattle.window.specs.Code.Stacks.{Counted, Tallied, Workable, Worked, place_width}
 use Rattle.window.specs.Code.Filling.{ColumnsFill}
@@ -30,6 +32,17 @@ both_have xs ys = min (length xs) (length ys)
 pub record Range (a b n : ℕ) : Type 0 where
   pub rises : a ≤ b
   pub inside : b ≤ n
+
+-- a valid place, of n
+pub record ValidPlace (t : Places) (n i : ℕ) : Type 0 where
+  pub inside : i < n
+  pub valid : t.valid i ≡ true
+
+-- and one that holds what is finite
+pub record FinitePlace (t : Places) (n i : ℕ) : Type 0 where
+  pub inside : i < n
+  pub valid : t.valid i ≡ true
+  pub finite : t.nonfinite i ≡ false
 
 -- a range that leaves a window with so many entries that are not finite: where there are none, the range has none
 pub record LeavingRange (t : Places) (a b n nonfinite : ℕ) : Type 0 where
@@ -138,6 +151,23 @@ abbrev pub Works : {A : Type 0} → (M : Stored Float A) → (M.moment.State →
 Works M final t n r first until work₀ figures₀ present₀ w agg work figures present =
     WorksColumns M t n r ((λ k. row_answer M final t n r k) ∷ []) first until work₀ (column figures₀ present₀ ∷ [])
     w agg work (column figures present ∷ [])
+
+-- what the rows from `first` up to `until` of one figure leave, and what stands behind them
+pub record WorksBlock {A : Type 0} (M : Stored Float A) (final : M.moment.State → Figure) (t : Series A) (n : ℕ) (r : Rows)
+    (first until : ℕ) (work figures : MutSlice Float) (present : MutSlice ℕ) (at : Offsets) (w : Window) (agg : M.moment.State) : Type 0 where
+  pub ahead : Ahead (plan_by r n) until at
+  pub works : Works M final t n r first until (entering_mut work) (entering_mut figures) (entering_mut present) w agg
+      (leaving work) (leaving figures) (leaving present)
+
+-- the same of several row functions, whose lists are lent together
+pub record WorksLists {A : Type 0} (M : Stored Float A) (t : Series A) (n : ℕ) (r : Rows) (fs : List (ℕ → Figure)) (first until : ℕ)
+    (l : Lent × Lent) (at : Offsets) (w : Window) (agg : M.moment.State) : Type 0 where
+  pub ahead : Ahead (plan_by r n) until at
+  pub works : WorksColumns M t n r fs first until l.0.work l.0.outputs.answers w agg l.1.work l.1.outputs.answers
+
+-- the readings of a trace as they are
+abbrev pub raw_of : Trace → Series Float
+raw_of t = raw_series t.mapped t.map t.readings
 
 -- the length of the shortest of three figures' lists
 abbrev pub shortest_three : List Float → List ℕ → List Float → List ℕ → List Float → List ℕ → ℕ

@@ -1,68 +1,15 @@
--- Row after row, from a fresh window on. Assumes nothing.
-use Rattle.std.proofs.Common.{◌∙◌, arith}
+-- The block of all rows, from a fresh window on. Assumes nothing.
 use Rattle.rolling.specs.Code.Ops.{stored_by, series_by}
-use Rattle.rolling.proofs.Counts.{can-total}
-use Rattle.rolling.proofs.RowLoops.{turn-starts, turn-row, turn-there, turn-movable, turn-fits, turn-next, turn-done, opened, figure_left}
+use Rattle.rolling.proofs.RowLoops.{opened_block, block_left}
 use Rattle.rolling.proofs.figures.rows.Goals as goal
 
-pub loop-row-init : goal.loop-row-init
-loop-row-init g c =
-    let M = stored_by g.S.Entry.InMemory.layout g.S.InMemory.layout g.S.WindowState.ops in
-    let t = series_by (g.T.Places.places c.args.series) (g.T.Series.entries c.args.series) in
-    let can = opened M t c.len-n.result c.len-n.ensures c.requires c.new-w.ensures.window c.new-w.ensures.agg_back c.first-next.ensures in
-    turn-starts M _ _ _ _ _ _ _ _ _ can
-
-pub next-next-requires : goal.next-next-requires
-next-next-requires g c =
-    let M = stored_by g.S.Entry.InMemory.layout g.S.InMemory.layout g.S.WindowState.ops in
-    let t = series_by (g.T.Places.places c.args.series) (g.T.Series.entries c.args.series) in
-    let can = opened M t c.len-n.result c.len-n.ensures c.requires c.new-w.ensures.window c.new-w.ensures.agg_back c.first-next.ensures in
-    turn-row M _ _ _ _ _ _ _ _ _ can c.loop-row.invariant (omega arith)
-
-pub step-w-requires : goal.step-w-requires
-step-w-requires g c =
-    let M = stored_by g.S.Entry.InMemory.layout g.S.InMemory.layout g.S.WindowState.ops in
-    let t = series_by (g.T.Places.places c.args.series) (g.T.Series.entries c.args.series) in
-    let can = opened M t c.len-n.result c.len-n.ensures c.requires c.new-w.ensures.window c.new-w.ensures.agg_back c.first-next.ensures in
-    rw (← c.len-n.ensures) (turn-movable M _ _ _ _ _ _ _ _ _ can c.loop-row.invariant (omega arith))
-
-pub total-state-requires : goal.total-state-requires
-total-state-requires g c =
-    let M = stored_by g.S.Entry.InMemory.layout g.S.InMemory.layout g.S.WindowState.ops in
-    let t = series_by (g.T.Places.places c.args.series) (g.T.Series.entries c.args.series) in
-    let can = opened M t c.len-n.result c.len-n.ensures c.requires c.new-w.ensures.window c.new-w.ensures.agg_back c.first-next.ensures in
-    let q = c.step-w in
-    let f = turn-fits M _ _ _ _ _ _ _ _ _ can c.loop-row.invariant (omega arith) q.ensures q.auto.work in
-    can-total g.S.WindowState.ops g.S.WindowState.counts g.met.S.WindowState.starts g.met.S.WindowState.grows q.ensures.held f.0 f.1
-
-pub answer-figure-requires : goal.answer-figure-requires
-answer-figure-requires g c =
-    let M = stored_by g.S.Entry.InMemory.layout g.S.InMemory.layout g.S.WindowState.ops in
-    let t = series_by (g.T.Places.places c.args.series) (g.T.Series.entries c.args.series) in
-    let can = opened M t c.len-n.result c.len-n.ensures c.requires c.new-w.ensures.window c.new-w.ensures.agg_back c.first-next.ensures in
-    let q = c.step-w in
-    let f = turn-fits M _ _ _ _ _ _ _ _ _ can c.loop-row.invariant (omega arith) q.ensures q.auto.work in
-    record { few = f.1; rises = f.2 }
-
-pub write-requires : goal.write-requires
-write-requires g c =
-    let M = stored_by g.S.Entry.InMemory.layout g.S.InMemory.layout g.S.WindowState.ops in
-    let t = series_by (g.T.Places.places c.args.series) (g.T.Series.entries c.args.series) in
-    let can = opened M t c.len-n.result c.len-n.ensures c.requires c.new-w.ensures.window c.new-w.ensures.agg_back c.first-next.ensures in
-    turn-there M _ _ _ _ _ _ _ _ _ can c.loop-row.invariant (omega arith)
-
-pub loop-row-preserved : goal.loop-row-preserved
-loop-row-preserved g c =
-    let M = stored_by g.S.Entry.InMemory.layout g.S.InMemory.layout g.S.WindowState.ops in
-    let t = series_by (g.T.Places.places c.args.series) (g.T.Series.entries c.args.series) in
-    let can = opened M t c.len-n.result c.len-n.ensures c.requires c.new-w.ensures.window c.new-w.ensures.agg_back c.first-next.ensures in
-    let q = c.step-w in
-    turn-next M _ _ _ _ _ _ _ _ _ can c.loop-row.invariant (omega arith) q.ensures q.auto.work
-    (c.answer-figure.ensures ∙ rw (c.total-state.ensures, c.is_mapped.ensures)) c.write.ensures c.next-next.ensures
+pub block-requires : goal.block-requires
+block-requires g c =
+    opened_block (stored_by g.S.Entry.InMemory.layout g.S.InMemory.layout g.S.WindowState.ops)
+    (series_by (g.T.Places.places c.args.series) (g.T.Series.entries c.args.series)) c.len-n.ensures c.requires c.new.ensures.window
+    c.new.ensures.agg_back c.len.ensures c.first.ensures
 
 pub returns : goal.returns
 returns g c =
-    let M = stored_by g.S.Entry.InMemory.layout g.S.InMemory.layout g.S.WindowState.ops in
-    let t = series_by (g.T.Places.places c.args.series) (g.T.Series.entries c.args.series) in
-    let can = opened M t c.len-n.result c.len-n.ensures c.requires c.new-w.ensures.window c.new-w.ensures.agg_back c.first-next.ensures in
-    figure_left M _ t c.len-n.result c.len-n.ensures c.requires (turn-done M _ _ _ _ _ _ _ _ _ can c.loop-row.invariant (omega arith))
+    block_left (stored_by g.S.Entry.InMemory.layout g.S.InMemory.layout g.S.WindowState.ops) (g.F.Finalize.finalize c.args.moment)
+    (series_by (g.T.Places.places c.args.series) (g.T.Series.entries c.args.series)) c.len-n.ensures c.requires c.len.ensures c.block.ensures.works

@@ -2,7 +2,7 @@
 use Rattle.std.proofs.Common.{sym, true, false, arith}
 use Rattle.window.proofs.Stacks.{append-start, append_le, append-room, append-hit, append-miss}
 use Rattle.rolling.proofs.moment_window.Appended.append.Goals as goal
-use Rattle.rolling.proofs.moment_window.Appended.append.Goals.{then-is_valid+then-is_nonfinite, then-is_valid+else-is_nonfinite, else-is_valid}
+use Rattle.rolling.proofs.moment_window.Appended.append.Goals.{then-is_valid+then-holds_nonfinite, then-is_valid+else-holds_nonfinite, else-is_valid}
 
 pub loop-i-init : goal.loop-i-init
 loop-i-init g c = (c.requires.counted, append-start)
@@ -20,8 +20,8 @@ push-appended-requires g c =
       counted = l.invariant.0;
     }
 
-pub push-appended-requires-else-is_nonfinite : goal.push-appended-requires-else-is_nonfinite
-push-appended-requires-else-is_nonfinite g c =
+pub push-appended-requires-else-holds_nonfinite : goal.push-appended-requires-else-holds_nonfinite
+push-appended-requires-else-holds_nonfinite g c =
     let l = c.loop-i in
     let can = c.requires.appendable in
     let h = append_le l.invariant.1 l.auto.i in
@@ -40,18 +40,18 @@ loop-i-preserved g c =
     let can = c.requires.appendable in
     let h = append_le p l.auto.i in
     elim c.if-is_valid.branch [
-      | then-is_valid+then-is_nonfinite w ↦
+      | then-is_valid+then-holds_nonfinite w ↦
           let q = w.push-appended.ensures in
           let hit = append-hit p l.auto.i c.loop-i-test.true can.room (sym w.if-is_valid.ensures) _ w.entry.ensures _ q.state_is true
-          w.if-is_nonfinite.ensures in
+          w.if-holds_nonfinite.ensures in
           rw (w.back-is, w.appended-is) (
             rw (q.state_is, q.more) (g.met.S.WindowState.grows _ _ _ (omega (arith, can)) l.invariant.0),
             rw (q.back_is, q.more, q.nonfinite_is) hit,
           )
-      | then-is_valid+else-is_nonfinite w ↦
-          let q = w.push-appended-else-is_nonfinite.ensures in
-          let hit = append-hit p l.auto.i c.loop-i-test.true can.room (sym w.if-is_valid.ensures) _ w.entry-else-is_nonfinite.ensures _ q.state_is false
-          w.if-is_nonfinite.ensures in
+      | then-is_valid+else-holds_nonfinite w ↦
+          let q = w.push-appended-else-holds_nonfinite.ensures in
+          let hit = append-hit p l.auto.i c.loop-i-test.true can.room (sym w.if-is_valid.ensures) _ w.value.ensures _ q.state_is false
+          w.if-holds_nonfinite.ensures in
           rw (w.back-is, w.appended-is) (
             rw (q.state_is, q.more) (g.met.S.WindowState.grows _ _ _ (omega (arith, can)) l.invariant.0),
             rw (q.back_is, q.more, q.nonfinite_is) hit,
