@@ -8,7 +8,7 @@ pub returns : goal.returns
 unfolding fixed_refusal
 returns c =
     let is : c.first-2.result ≡ fixed_refusal c.args.given c.args.n c.args.windows.window_size c.args.outputs c.args.width c.args.work =
-        c.first-2.ensures ∙ rw (c.first.ensures, c.refuse-outputs.ensures, c.refuse-work.ensures, c.is_too_little.ensures, c.min-widest.ensures) in
+    c.first-2.ensures ∙ rw (c.first.ensures, c.refuse-outputs.ensures, c.refuse-work.ensures, c.is_too_little.ensures, c.min-widest.ensures) in
     record {
       number_is = is;
       wide_is = c.min-widest.ensures;
