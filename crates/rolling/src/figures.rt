@@ -1,17 +1,39 @@
 // The rows of a call that gives one figure.
-ghost use Rattle.std.specs.Prelude.{min, length};
+ghost use Rattle.std.specs.Prelude.{◌≡◌, min, length};
 ghost use Rattle.trace.specs.Outcomes.{outcome_number};
 ghost use Rattle.plan.specs.Plan.{planned};
-ghost use Rattle.window.specs.Code.Stacks.{place_width};
-ghost use Rattle.rolling.specs.Code.Ops.{stored_by, series_by};
-ghost use Rattle.rolling.specs.Code.Rows.{Driven, CanWork, WorksBlock, GivesFigure, PlanGives, FixedGives};
+ghost use Rattle.window.specs.Code.Stacks.{answer_by, place_width};
+ghost use Rattle.rolling.specs.Code.Ops.{stored_by, series_by, CanTotal};
+ghost use Rattle.rolling.specs.Code.Rows.{Testable, Driven, CanWork, WorksBlock, GivesFigure, PlanGives, FixedGives};
 
 use crate::memory::InMemory;
 use crate::moment_window::{MomentWindow, Standing, WindowState};
 use crate::row::{self, Finalize, Rows};
 use crate::series::Series;
-use plan::{Fixed, Plan};
+use moment::Figure;
+use plan::{Fixed, Offsets, Plan};
 use trace::Refusal;
+
+// A row's answer, of the window after its step. The state of its two parts is put together only where the row has enough readings: by
+// `Rows::answer`, which is handed it, a row that is missing by the minimum takes up to twice as long.
+fn answer<S: WindowState, F: Finalize<S>>(
+    moment: F,
+    rows: Rows,
+    work: &[f64],
+    w: MomentWindow<S>,
+    mapped: bool,
+    at: Offsets,
+) -> Figure
+    requires total { CanTotal S.Entry.layout S.layout S.ops S.counts w.window w.agg_back work.now }
+    requires row { Testable w.window at.start at.end }
+    ensures { result ≡ answer_by (stored_by S.Entry.layout S.layout S.ops) (F.finalize moment) mapped rows.entry.min_periods
+        at.start at.end w.window w.agg_back work.now }
+{
+    if rows.is_valid(mapped, w.window.front + w.window.back, at) {
+        return window::or_nan(moment.finalize(w.total(work)), w.window.nonfinite);
+    }
+    Figure::Missing
+}
 
 // The rows from `first` up to `until`, from what stands before the first to what stands behind the last: so rows can be driven from the
 // middle of a plan. Each row is a step, an answer, and its two places in the lists. The next row's bounds are told before the row is
@@ -39,8 +61,7 @@ fn block<S: WindowState, T: Series<S::Entry>, F: Finalize<S>>(
         let at = next;
         next = rows.next(n, row, at);
         w = w.step(work, rows, series, row, at);
-        let state = w.total(work);
-        let figure = rows.answer(moment, state, w.window, series.is_mapped(), at);
+        let figure = answer(moment, rows, work, w, series.is_mapped(), at);
         row::write(figures, present, row, figure);
     }
     Standing { w, at: next }

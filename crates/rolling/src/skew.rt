@@ -121,27 +121,23 @@ impl Correction {
     }
 }
 
-// Corrections that are kept, each in the place that its count modulo KEPT names.
-#[derive(Drop)]
-struct Corrections {
-    kept: [Correction; KEPT],
-}
+// Corrections that are kept, each in the place that its count modulo KEPT names. They are lent as a list: a struct of it is made in a place
+// of its own and copied, which takes twice the stack, and a call of few rows up to six times the instructions.
+type Corrections = [Correction; KEPT];
 
-impl Corrections {
-    // The correction for a count of readings. Rows of one count share it: a root and a division less for each.
-    fn factor(&mut self, valid: usize) -> f64
-        ensures { result ≡ skew_correction (of_nat64 valid) }
-    {
-        let at = valid % KEPT;
-        let n = valid as u64;
-        let kept = self.kept[at];
-        if kept.count == n {
-            return kept.factor;
-        }
-        let correction = Correction::of(n);
-        self.kept[at] = correction;
-        correction.factor
+// The correction for a count of readings. Rows of one count share it: a root and a division less for each.
+fn factor(corrections: &mut Corrections, valid: usize) -> f64
+    ensures { result ≡ skew_correction (of_nat64 valid) }
+{
+    let at = valid % KEPT;
+    let n = valid as u64;
+    let kept = corrections[at];
+    if kept.count == n {
+        return kept.factor;
     }
+    let correction = Correction::of(n);
+    corrections[at] = correction;
+    correction.factor
 }
 
 // What is left of a block's rows to finalise: of each its m2, its m3 and its correction. Roots are taken of `m2s` as a list of its own, so
@@ -244,7 +240,7 @@ impl SkewMoment {
         if self.bias {
             return 0.0;
         }
-        corrections.factor(valid)
+        factor(corrections, valid)
     }
 
     // The row's byte, and in slot k what is left of it to finalise, of the window after its step. A missing row's slot comes to zero.
@@ -325,9 +321,7 @@ impl SkewMoment {
             at: rows.first(n),
         };
         // Every place opens with the count 0.
-        let mut corrections = Corrections {
-            kept: [Correction::of(0); KEPT],
-        };
+        let mut corrections = [Correction::of(0); KEPT];
         let mut slots = Slots {
             m2s: [0.0; BLOCK],
             m3s: [0.0; BLOCK],

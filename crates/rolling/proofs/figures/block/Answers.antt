@@ -26,15 +26,6 @@ step-w-requires g c =
     let can = told M t c.len-n.ensures c.requires in
     rw (← c.len-n.ensures) (turn-movable M _ _ _ _ _ _ _ _ _ can c.loop-row.invariant (omega arith))
 
-pub total-state-requires : goal.total-state-requires
-total-state-requires g c =
-    let M = stored_by g.S.Entry.InMemory.layout g.S.InMemory.layout g.S.WindowState.ops in
-    let t = series_by (g.T.Places.places c.args.series) (g.T.Series.entries c.args.series) in
-    let can = told M t c.len-n.ensures c.requires in
-    let q = c.step-w in
-    let f = turn-fits M _ _ _ _ _ _ _ _ _ can c.loop-row.invariant (omega arith) q.ensures q.auto.work in
-    can-total g.S.WindowState.ops g.S.WindowState.counts g.met.S.WindowState.starts g.met.S.WindowState.grows q.ensures.held f.0 f.1
-
 pub answer-figure-requires : goal.answer-figure-requires
 answer-figure-requires g c =
     let M = stored_by g.S.Entry.InMemory.layout g.S.InMemory.layout g.S.WindowState.ops in
@@ -42,7 +33,10 @@ answer-figure-requires g c =
     let can = told M t c.len-n.ensures c.requires in
     let q = c.step-w in
     let f = turn-fits M _ _ _ _ _ _ _ _ _ can c.loop-row.invariant (omega arith) q.ensures q.auto.work in
-    record { few = f.1; rises = f.2 }
+    record {
+      total = can-total g.S.WindowState.ops g.S.WindowState.counts g.met.S.WindowState.starts g.met.S.WindowState.grows q.ensures.held f.0 f.1;
+      row = record { few = f.1; rises = f.2 };
+    }
 
 pub write-requires : goal.write-requires
 write-requires g c =
@@ -58,7 +52,7 @@ loop-row-preserved g c =
     let can = told M t c.len-n.ensures c.requires in
     let q = c.step-w in
     turn-next M _ _ _ _ _ _ _ _ _ can c.loop-row.invariant (omega arith) q.ensures q.auto.work
-    (c.answer-figure.ensures ∙ rw (c.total-state.ensures, c.is_mapped.ensures)) c.write.ensures c.next-next.ensures
+    (c.answer-figure.ensures ∙ rw c.is_mapped.ensures) c.write.ensures c.next-next.ensures
 
 pub returns : goal.returns
 returns g c =
