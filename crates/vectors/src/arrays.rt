@@ -19,11 +19,14 @@ pub struct Trace<T> {
 impl Trace<f64> {
     // The trace whose numbers stand from word k on, and whose lists from word `from` on.
     fn at(rec: Record, k: usize, from: usize) -> Result<Self, AllocError> {
-        let [readings, has_map, bytes]: [usize; 3] = rec.array(k);
+        let readings = rec.count(k);
         Ok(Trace {
             values: rec.values(from, readings)?,
-            has_map: has_map == 1,
-            map: rec.values(from.saturating_add(readings), bytes)?,
+            has_map: rec.flag(k.saturating_add(1)),
+            map: rec.values(
+                from.saturating_add(readings),
+                rec.count(k.saturating_add(2)),
+            )?,
         })
     }
 }
@@ -91,8 +94,9 @@ pub fn whole(rec: Record) -> Result<bool, AllocError> {
     })
 }
 
+// Pairs have no call over a range: their whole arrays are asked for.
 pub fn range(rec: Record) -> Result<bool, AllocError> {
-    let x = Trace::at(rec, 2, 23)?;
+    let (x, y) = traces(rec)?;
     let [start, length]: [usize; 2] = rec.array(8);
     Ok(match Kind::try_from(rec.word(1)) {
         Ok(Kind::Skew) => answers(rec, rec.array(10), |state| {
@@ -101,6 +105,7 @@ pub fn range(rec: Record) -> Result<bool, AllocError> {
         Ok(Kind::Kurtosis) => answers(rec, rec.array(10), |state| {
             moments::moments_kurtosis_range(&x.values, x.has_map, &x.map, start, length, state)
         }),
-        _ => false,
+        Ok(kind) => pairs(rec, kind, &x, &y),
+        Err(_) => false,
     })
 }

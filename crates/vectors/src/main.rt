@@ -7,8 +7,8 @@
 #![tactic(auto)]
 
 use std::alloc::AllocError;
+use std::io;
 use std::rt::Files;
-use std::{fs, io};
 
 mod arrays;
 mod states;
@@ -22,7 +22,7 @@ fn root(rec: Record) -> bool {
 }
 
 // How many records of a list agree, and how many it has: its first word.
-fn count<R: Files + AllocGlobal, F: Fn(Record) -> Result<bool, AllocError>>(
+fn tally<R: Files + AllocGlobal, F: Fn(Record) -> Result<bool, AllocError>>(
     rt: &R,
     name: &str,
     agrees: F,
@@ -30,10 +30,12 @@ fn count<R: Files + AllocGlobal, F: Fn(Record) -> Result<bool, AllocError>>(
     requires { F.IsAlwaysCallable agrees }
 {
     let alloc = rt.alloc();
-    let list = words::read(alloc, fs::read_to_string(rt, name)?.as_str())?;
-    let Some((&records, words)) = list.as_slice().split_first() else {
+    let list = words::read(rt, name)?;
+    let (words, _) = list.as_slice().as_chunks();
+    let Some((first, words)) = words.split_first() else {
         return Ok((0, 0));
     };
+    let records = words::number(first);
     let mut agreed = 0;
     for rec in (Records { alloc, words }).take(records as usize) {
         if agrees(rec)? {
@@ -51,7 +53,7 @@ fn replay<R: Files + AllocGlobal + Print + Eprint, F: Fn(Record) -> Result<bool,
 ) -> io::Result<()>
     requires { F.IsAlwaysCallable agrees }
 {
-    match count(rt, name, agrees) {
+    match tally(rt, name, agrees) {
         Ok((agreed, records)) => println!(rt; "{name} {agreed} of {records} agree"),
         Err(error) => eprintln!(rt; "{name}: {error}"),
     }
@@ -67,7 +69,7 @@ fn main(rt: HostRuntime) -> io::Result<()> {
     replay(&rt, "range", arrays::range)?;
     replay(&rt, "plan", windows::plan)?;
     replay(&rt, "fixed", windows::fixed)?;
-    replay(&rt, "weighted", windows::weighted)?;
+    replay(&rt, "weighted", windows::fixed)?;
     replay(&rt, "bounds", |rec| Ok(windows::bounds(rec)))?;
     replay(&rt, "paired", windows::paired)?;
     replay(&rt, "paired_fixed", windows::paired_fixed)

@@ -169,7 +169,7 @@ pub fn finalize(rec: Record) -> bool {
     match Kind::try_from(rec.word(1)) {
         Ok(Kind::Var) => finalized(rec, |s, x| moments::moments_var_finalize(s, ddof, x)),
         Ok(Kind::Cov) => finalized(rec, |s, x| moments::moments_cov_finalize(s, ddof, x)),
-        Ok(Kind::Pearson) => finalized(rec, |s, x| {
+        Ok(Kind::Pearson) | Err(_) => finalized(rec, |s, x| {
             *x = moments::moments_pearson_finalize(s);
             1
         }),
@@ -177,6 +177,5 @@ pub fn finalize(rec: Record) -> bool {
         Ok(Kind::Kurtosis) => finalized(rec, |s, x| {
             moments::moments_kurtosis_finalize(s, fisher, bias, x)
         }),
-        Err(_) => false,
     }
 }

@@ -7,6 +7,8 @@
 // Fixed and weighted have these words but for: 9 the trace in doubles, 13 the weights, 15 the window size, 16 whether windows are centred;
 // no readings are decoded. Paired and paired_fixed have those of plan and of fixed, which are the first trace's, but for: 3 whether the
 // second trace's map is lent; from 25 on stand the second trace, its map (27) and its readings (29).
+ghost use Rattle.std.specs.Prelude.{◌≤◌, IfOk, vec_len};
+
 use crate::arrays::Trace;
 use crate::words::{Record, UnknownWord, Word};
 use std::alloc::AllocError;
@@ -87,17 +89,17 @@ fn trace<T: Drop>(
 }
 
 // The list whose place and length stand at word k and behind it, as it is lent: with what stands at 17.
-fn held<T: Word>(rec: Record, k: usize) -> Result<Vec<T>, AllocError> {
-    let [_, n]: [usize; 2] = rec.array(k);
-    rec.values(rec.get(17), n)
+fn held<T: Word>(rec: Record, k: usize) -> Result<Vec<T>, AllocError>
+    ensures { IfOk result (λ values. vec_len values ≤ 1024) }
+{
+    rec.values(rec.count(17), rec.count(k.saturating_add(1)))
 }
 
 // Whether the work slice holds past its free part what it held.
 fn keeps(rec: Record, work: &[f64]) -> bool {
-    let free: usize = rec.get(8);
-    let from: usize = rec.get(17);
+    let free = rec.count(8);
     work.get(free..)
-        .is_some_and(|kept| rec.are(from.saturating_add(free), kept))
+        .is_some_and(|kept| rec.are(rec.count(17) + free, kept))
 }
 
 // Whether a call answers the number that stands there, and leaves the lists that it is lent as they stand there. A refusal is a number, and
@@ -161,19 +163,20 @@ pub fn plan(rec: Record) -> Result<bool, AllocError> {
                 figures, present,
             )
         }),
-        Ok(Figure::Kurtosis) => agrees(rec, |work, figures, present| {
+        Ok(Figure::Kurtosis) | Err(_) => agrees(rec, |work, figures, present| {
             moments::moments_plan_kurtosis(
                 &x.values, readings, x.has_map, &x.map, &starts, &ends, set.min, set.fisher,
                 set.bias, work, figures, present,
             )
         }),
-        Err(_) => Ok(false),
     }?;
     Ok(agreed && rec.is_list(19, readings))
 }
 
+// Of fixed and of weighted. Weights are lent no work slice: the one of their records has no places.
 pub fn fixed(rec: Record) -> Result<bool, AllocError> {
     let x = trace(rec, rec.list(9)?, 6, 11)?;
+    let weights = rec.list(13)?;
     let set = Settings::from(rec);
     match Figure::try_from(rec.word(1)) {
         Ok(Figure::Var) => agrees_with_extremes(rec, |low, low_bytes, high, high_bytes| {
@@ -196,20 +199,13 @@ pub fn fixed(rec: Record) -> Result<bool, AllocError> {
                 work, figures, present,
             )
         }),
-        Err(_) => Ok(false),
+        Err(_) => agrees(rec, |_, figures, present| {
+            moments::moments_rolling_var_weights(
+                &x.values, x.has_map, &x.map, set.size, set.min, set.center, &weights, figures,
+                present,
+            )
+        }),
     }
-}
-
-// Weights are lent no work slice: the one of their records has no places.
-pub fn weighted(rec: Record) -> Result<bool, AllocError> {
-    let x = trace(rec, rec.list(9)?, 6, 11)?;
-    let weights = rec.list(13)?;
-    let set = Settings::from(rec);
-    agrees(rec, |_, figures, present| {
-        moments::moments_rolling_var_weights(
-            &x.values, x.has_map, &x.map, set.size, set.min, set.center, &weights, figures, present,
-        )
-    })
 }
 
 pub fn paired(rec: Record) -> Result<bool, AllocError> {
@@ -227,13 +223,12 @@ pub fn paired(rec: Record) -> Result<bool, AllocError> {
                 &starts, &ends, set.min, set.ddof, work, figures, present,
             )
         }),
-        Ok(PairFigure::Pearson) => agrees(rec, |work, figures, present| {
+        Ok(PairFigure::Pearson) | Err(_) => agrees(rec, |work, figures, present| {
             moments::moments_plan_pearson_corr(
                 &x.values, x_readings, x.has_map, &x.map, &y.values, y_readings, y.has_map, &y.map,
                 &starts, &ends, set.min, work, figures, present,
             )
         }),
-        Err(_) => Ok(false),
     }?;
     Ok(agreed && rec.is_list(19, x_readings) && rec.is_list(29, y_readings))
 }
@@ -249,13 +244,12 @@ pub fn paired_fixed(rec: Record) -> Result<bool, AllocError> {
                 set.center, set.ddof, work, figures, present,
             )
         }),
-        Ok(PairFigure::Pearson) => agrees(rec, |work, figures, present| {
+        Ok(PairFigure::Pearson) | Err(_) => agrees(rec, |work, figures, present| {
             moments::moments_rolling_pearson_corr(
                 &x.values, x.has_map, &x.map, &y.values, y.has_map, &y.map, set.size, set.min,
                 set.center, work, figures, present,
             )
         }),
-        Err(_) => Ok(false),
     }
 }
 

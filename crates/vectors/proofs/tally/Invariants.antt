@@ -1,7 +1,7 @@
--- `vectors::count` counts no more records as agreed than it took, so the count fits. Assumes nothing.
+-- `vectors::tally` counts no more records as agreed than it took, so the count fits. Assumes nothing.
 use Rattle.std.proofs.Common.{◌+◌, ◌≤◌}
 use Rattle.std.specs.Iterator.Adapters.{take_count}
-use Rattle.vectors.proofs.count.Given as goal
+use Rattle.vectors.proofs.tally.Given as goal
 
 abbrev pub invariant-loop-rec : goal.invariant-loop-rec
 invariant-loop-rec g l =
