@@ -8,3 +8,4 @@ pub mod Answers
 pub mod Lent
 pub mod Weights
 pub mod Figures
+pub mod Floats

@@ -1,6 +1,7 @@
 -- A host call is the plan call on what is decoded: its own check has the plan call's number but for the list of readings, and what is
 -- decoded is the trace. Assumes nothing.
-use Rattle.std.proofs.Common.{◌≡◌, ℕ, ◌/◌, ◌≤◌, min, Bool, List, [], ◌∷◌, ◌++◌, length, take, drop, refl, sym, ap, ◌∙◌, subst, arith}
+use Rattle.std.proofs.Common.{◌≡◌, ℕ, ◌/◌, ◌≤◌, min, Bool, true, not, eqb, List, [], ◌∷◌, ◌++◌, length, take, drop, refl, sym, ap, ◌∙◌, subst, arith}
+use borrow.Author.Tests.{ne_eqb}
 use Rattle.std.specs.Prelude.{Result, Ok, Err, IsErrAnd, IfOk, Option}
 use Rattle.std.specs.Borrow.{Bor}
 use lib.Seq.{take_at}
@@ -10,7 +11,7 @@ use Rattle.float.specs.Bytes.{reading_at, decoded_into}
 use Rattle.float.proofs.Tables.{table-length}
 use Rattle.trace.specs.Lent.{mapped, bytes_of, MapAs}
 use Rattle.trace.specs.Outcomes.{number_of, outcome_number}
-use Rattle.trace.specs.Refusals.{refusal, array_refusal, trace_refusal, pair_refusal}
+use Rattle.trace.specs.Refusals.{refusal, ◌or_else◌, array_refusal, trace_refusal, pair_refusal}
 use Rattle.trace.specs.declared.refusals.Refusal.{Refusal}
 use Rattle.trace.proofs.Checks.{number_above, stops, goes_on, handed_on}
 use Rattle.trace.proofs.Lent.{map_wrong}
@@ -139,3 +140,23 @@ pub same_columns : {d d' l l' u u' w w' : List Float} {b b' m m' v v' : List ℕ
     → ◌≡◌ {A = Lent} (record { outputs = outputs_of (column d' b' ∷ column l' m' ∷ column u' v' ∷ []) []; work = w' })
     (record { outputs = outputs_of (column d b ∷ column l m ∷ column u v ∷ []) []; work = w })
 same_columns e f g h i j k = rw (e, f, g, h, i, j, k)
+
+-- ---- of numbers alone, which no code needs any more
+odd_number : (odd : Bool) (b : ℕ) → odd ≡ true → 14 ≡ refusal 14 odd or_else b
+unfolding refusal ◌or_else◌
+odd_number odd b h = rw h
+
+pub odd_bytes_lem : (rest b : ℕ) → (rest ≡ 0 → ⊥) → 14 ≡ refusal 14 (not (eqb rest 0)) or_else b
+odd_bytes_lem rest b h = odd_number _ b (rw (ne_eqb rest 0 h))
+
+pub filled_by : {number : ℕ} (f : ℕ → Float) (n : ℕ) (l l' : List Float) → number ≡ 0 → l' ≡ filled 0 f n l → l' ≡ filled number f n l
+filled_by f n l l' z e = e ∙ ap (λ (k : ℕ). filled k f n l) (sym z)
+
+-- a plan call on a list that is the trace
+pub called_on : (q : Query) (give : List Float → GivenTo q) {l l' : List Float} {l₀ l₁ : Lent} {number : ℕ} → l ≡ l' → Called q (give l) l₀ l₁ number → Called q (give l') l₀ l₁ number
+called_on q give {l₀ = l₀} {l₁ = l₁} {number = number} e w = subst (λ (k : List Float). Called q (give k) l₀ l₁ number) e w
+
+-- on two lists that are the traces
+pub called_on_both : (q : Query) (give : List Float → List Float → GivenTo q) {x x' y y' : List Float} {l₀ l₁ : Lent} {number : ℕ}
+    → x ≡ x' → y ≡ y' → Called q (give x y) l₀ l₁ number → Called q (give x' y') l₀ l₁ number
+called_on_both q give {x' = x'} {y = y} e f w = called_on q (give x') f (called_on q (λ (l : List Float). give l y) e w)

@@ -11,9 +11,10 @@ use native.Mathlib.Omega.{arith}
 use mir.Val.{bool_byte}
 use lib.ListN.{length, take, drop, length-append, length-drop, length-take, drop_of_length-le, take-append-drop}
 use lib.Seq.{take-length, take-append-le, take-append_seam, drop_at, drop-append-add, drop-drop, sets, sets-eq}
+use lib.Ieee.{Float}
 use Rattle.window.specs.Places.{Series, entries, valid_count}
 use Rattle.window.specs.Window.{falling}
-use Rattle.window.specs.Code.Memory.{Layout, Stored, in_memory}
+use Rattle.window.specs.Code.Memory.{Layout, Stored, in_memory, reading}
 use Rattle.window.specs.Code.Stacks.{front_stack, Appended}
 use Rattle.window.proofs.Places.{entries-self, entries-snoc, many-chosen, count-le, count-more, count-up}
 
@@ -237,3 +238,9 @@ module _ {C A : Type 0} {M : Stored C A} {t : Series A} {l₀ : List C} {n nonfi
         let q = p.nonfinite_is in
         let c : valid_count t.places a (i + 1) ≡ valid_count t.places a i = omega arith in
         record { list_is = rw (d, c) p.list_is; many_is = omega arith; nonfinite_is = omega arith; agg_is = rw d p.agg_is }
+
+-- readings in memory are themselves
+pub flat : (l : List Float) → in_memory reading l ≡ l
+unfolding in_memory
+flat [] = refl
+flat (x ∷ l) = rw (flat l)
