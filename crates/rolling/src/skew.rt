@@ -111,6 +111,16 @@ struct Correction {
 }
 
 impl Correction {
+    // The count 0 and its correction, which is +0.0: so that a list of them is cleared at once.
+    fn of_none() -> Self
+        ensures { result.count ≡ 0 }
+    {
+        Correction {
+            count: 0,
+            factor: 0.0,
+        }
+    }
+
     fn of(count: u64) -> Self
         ensures { result.count ≡ count }
     {
@@ -122,7 +132,7 @@ impl Correction {
 }
 
 // Corrections that are kept, each in the place that its count modulo KEPT names. They are lent as a list: a struct of it is made in a place
-// of its own and copied, which takes twice the stack, and a call of few rows up to six times the instructions.
+// of its own and copied, which takes 1.7 times the stack.
 type Corrections = [Correction; KEPT];
 
 // The correction for a count of readings. Rows of one count share it: a root and a division less for each.
@@ -321,7 +331,7 @@ impl SkewMoment {
             at: rows.first(n),
         };
         // Every place opens with the count 0.
-        let mut corrections = [Correction::of(0); KEPT];
+        let mut corrections = [Correction::of_none(); KEPT];
         let mut slots = Slots {
             m2s: [0.0; BLOCK],
             m3s: [0.0; BLOCK],
